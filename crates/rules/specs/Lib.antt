@@ -1,0 +1,13 @@
+-- Document 01 as definitions, a file for each of its sections, in its order; before them the two shapes that the sections share.
+pub mod Lists
+pub mod Tables
+pub mod Records
+pub mod Values
+pub mod Families
+pub mod Slices
+pub mod Queries
+pub mod Checks
+pub mod Listing
+pub mod Blocks
+pub mod Demands
+pub mod Paper

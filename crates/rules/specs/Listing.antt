@@ -1,0 +1,66 @@
+-- Document 01, "The listing program": its text, byte for byte, from the netlist bytes. Assumes nothing.
+use Prim.Native.Nat.{ℕ, zero, suc, _+_, _/_, _%_}
+use Prim.Native.Char.{code}
+use Prim.Native.String.{String, [] as no-text, _∷_ as _followed-by_}
+use mathlib.Core.Bool.{Bool, true, false}
+use mathlib.Core.List.{List, [], _∷_, _++_}
+use lib.Dec.{ltb}
+use lib.ListN.{length}
+use Rattle.rules.specs.Records.{Cell, input, NOT, XOR, AND, OR, register, Netlist}
+use Rattle.rules.specs.Families.{Families, families, Finding, clear, suspectAt, Findings, findings}
+use Rattle.rules.specs.Checks.{Outcome, answered, refused, read}
+
+-- the bytes of a word
+unfoldable pub word : String → List ℕ
+word no-text = []
+word (_followed-by_ c s) = code c ∷ word s
+
+-- a number in base ten: the digit of its last place behind those of the rest, of which there are at most n
+unfoldable pub digits : (n number : ℕ) → List ℕ
+digits zero x = (48 + x % 10) ∷ []
+digits (suc n) x = elim (ltb x 10) [ true ↦ (48 + x) ∷ [] | false ↦ digits n (x / 10) ++ ((48 + x % 10) ∷ []) ]
+
+unfoldable pub decimal : ℕ → List ℕ
+decimal x = digits x x
+
+-- a line: its fields parted by one blank, and a line feed
+unfoldable pub line : List (List ℕ) → List ℕ
+line [] = 10 ∷ []
+line (field ∷ []) = field ++ (10 ∷ [])
+line (field ∷ other ∷ fields) = field ++ (32 ∷ line (other ∷ fields))
+
+-- the kind's name
+unfoldable pub kindName : Cell → List ℕ
+kindName (input s) = word "in"
+kindName (NOT a) = word "not"
+kindName (XOR a b) = word "xor"
+kindName (AND a b) = word "and"
+kindName (OR a b) = word "or"
+kindName (register a) = word "reg"
+
+-- a line a node, from number i on: number, kind name, number of sets in the settled family, number in the glitch family
+unfoldable pub nodeLines : ℕ → List Cell → List Families → List ℕ
+nodeLines i [] Fs = []
+nodeLines i (c ∷ cells) [] = []
+nodeLines i (c ∷ cells) (F ∷ Fs) =
+    line (decimal i ∷ kindName c ∷ decimal (length (F .settled)) ∷ decimal (length (F .glitch)) ∷ []) ++ nodeLines (suc i) cells Fs
+
+-- a half: `clear`, or node and set number
+unfoldable pub halfLine : List ℕ → Finding → List ℕ
+halfLine name clear = line (name ∷ word "clear" ∷ [])
+halfLine name (suspectAt i A) = line (name ∷ decimal i ∷ decimal A ∷ [])
+
+unfoldable pub netlistText : Netlist → List ℕ
+netlistText n =
+    line (word "vars" ∷ decimal (length (n .variables)) ∷ word "nodes" ∷ decimal (length (n .nodes)) ∷ [])
+    ++ nodeLines 0 (n .nodes) (families n)
+    ++ halfLine (word "settled") (findings n .settled)
+    ++ halfLine (word "glitch") (findings n .glitch)
+
+unfoldable pub textOf : Outcome Netlist → List ℕ
+textOf (refused k p) = line (word "refused" ∷ decimal k ∷ decimal p ∷ [])
+textOf (answered n) = netlistText n
+
+-- the listing of the netlist bytes
+unfoldable pub listing : List ℕ → List ℕ
+listing bytes = textOf (read bytes)

@@ -1,0 +1,62 @@
+// The types of the checker's answers. What each of their cases means in the paper's numbers and words is in
+// `specs/Paper.antt`; the rules themselves are in `specs/`, and what is proved of them in `proofs/`.
+
+// A node record: the kind, the first and second operand (0 where the kind has none) and an input's
+// set (0 for every other kind).
+pub struct Node {
+    pub kind: u8,
+    pub first: u8,
+    pub second: u8,
+    pub set: u16,
+}
+
+// One half of the answer: clear, or the lowest suspect node and its lowest-numbered suspect set.
+pub enum Half {
+    Clear,
+    Suspect(usize, usize),
+}
+
+// The answer: the counts of variables and nodes, the half for settled signals and the half for
+// glitching ones.
+pub struct Answer {
+    pub variables: usize,
+    pub nodes: usize,
+    pub settled: Half,
+    pub glitch: Half,
+}
+
+// The refusals, in the order of their numbers from 1 to 13, each with its place.
+pub enum Refusal {
+    // A kind above 7.
+    UnknownKind(usize),
+    // A variable after a node.
+    LateVariable(usize),
+    // The eleventh variable or the 201st node.
+    OverLimit(usize),
+    // The bytes end inside the body.
+    CutShort(usize),
+    // A class above 2.
+    UnknownClass(usize),
+    // A set bit whose variable is not declared.
+    UndeclaredSet(usize),
+    // An operand not below the node's own number.
+    BadOperand(usize),
+    // The bytes run out with no end record.
+    NoEnd(usize),
+    // Bytes after the end record.
+    BytesAfterEnd(usize),
+    // Fewer entries than nodes.
+    FewEntries(usize),
+    // Work below 256 bytes a node.
+    ShortWork(usize),
+    // A node not below the count.
+    NoSuchNode(usize),
+    // An assignment or set with a bit of an undeclared variable.
+    UndeclaredBit(usize),
+}
+
+// What the checker replies.
+pub enum Reply {
+    Refused(Refusal),
+    Answered(Answer),
+}
