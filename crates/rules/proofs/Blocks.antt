@@ -1,34 +1,35 @@
 -- The table P1 to P14: the reply to each block, which antt computes from the rules. Assumes nothing.
 use Prim.Native.Nat.{ℕ}
 use mathlib.Core.Path.{_≡_, refl}
-use mathlib.Core.Bool.{xor}
 use mathlib.Core.List.{List, [], _∷_}
 use Rattle.rules.specs.Lists.{member, insert, union, count}
 use Rattle.rules.specs.Tables.{table}
 use Rattle.rules.specs.Records.{classOf, said, size, recordBytes, kindOf, body, classByte, operands, setOf}
 use Rattle.rules.specs.Values.{same}
-use Rattle.rules.specs.Families.{product, spread, settledRule, glitchRule, familiesRule, families, holds, suspect, tested, better, reported, mark, marks, lowest, half, findings}
-use Rattle.rules.specs.Checks.{andThen, judged, overLimit, undeclared, undeclaredSet, notBelow, badOperand, judgedRecord, recordAt, taken, step, after, outcomeOf, read, slicesFit, admitted}
+use Rattle.rules.specs.Families.{product, spread, settledRule, glitchRule, familiesRule, families, holds, suspect, tested, better, reported, mark, marks, lowest, half, findings, Findings}
+use Rattle.rules.specs.Checks.{andThen, judged, overLimit, undeclared, undeclaredSet, notBelow, badOperand, judgedRecord, recordAt, taken, step, after, outcomeOf, read, slicesFit, admitted, Outcome}
 use Rattle.rules.specs.Slices.{reply}
+use Rattle.rules.proofs.Lists.{Each}
 use Rattle.rules.specs.Blocks.{Block, blocks, P1, P2, P3, P4, P5, P6, P7, P8, P9, P10, P11, P12, P13, P13-NOT, P14, P14-without}
 
--- the reply to a block, in slices that hold every netlist, is the expected one
-abbrev pub Right : Block → Type 0
-Right b = reply (b .bytes) 200 51200 ≡ b .expected
+-- the reply to a block in slices that hold every netlist; to unfold it is to compute it
+unfoldable pub replyTo : List ℕ → Outcome Findings
+unfolding member insert union count table classOf said size recordBytes kindOf body classByte operands setOf same product spread settledRule glitchRule familiesRule families holds suspect tested better reported mark marks lowest half findings andThen judged overLimit undeclared undeclaredSet notBelow badOperand judgedRecord recordAt taken step after outcomeOf read slicesFit admitted reply
+replyTo bytes = reply bytes 200 51200
 
-abbrev pub EachRight : List Block → Type 0
-EachRight [] = Unit {0}
-EachRight (b ∷ rest) = Right b × EachRight rest
+-- the reply to a block is the expected one
+abbrev pub Right : Block → Type 0
+Right b = replyTo (b .bytes) ≡ b .expected
 
 infixr 5 _and_
-abbrev _and_ : {A B : Type 0} → A → B → A × B
+abbrev pub _and_ : {A B : Type 0} → A → B → A × B
 a and b = (a, b)
 
-right : (b : Block) → Right b → Right b
+pub right : (b : Block) → Right b → Right b
 right b r = r
 
-pub replies : EachRight blocks
-unfolding member insert union count table classOf said size recordBytes kindOf body classByte operands setOf same product spread settledRule glitchRule familiesRule families holds suspect tested better reported mark marks lowest half findings andThen judged overLimit undeclared undeclaredSet notBelow badOperand judgedRecord recordAt taken step after outcomeOf read slicesFit admitted reply
+pub replies : Each Right blocks
+unfolding replyTo
 replies =
     right P1 refl
     and right P2 refl

@@ -1,14 +1,17 @@
--- Laws of lists that name each number once: what is in them after `insert`, `union` and `product`, by equations of tests.
--- Assumes nothing.
-use Prim.Native.Nat.{ℕ}
-use mathlib.Core.Path.{_≡_, refl, sym, ap, _∙_, subst}
+-- Laws of lists that name each number once: what is in them after `insert`, `union`, `product` and `spread`; and of counts and entries of
+-- any list. Assumes nothing.
+use Prim.Native.Nat.{ℕ, zero, suc, _+_, _*_}
+use mathlib.Core.Path.{_≡_, refl, sym, ap, subst, fun-ext}
 use mathlib.Core.Logic.{_⊎_, inl, inr}
-use mathlib.Core.Bool.{Bool, true, false, cond, not, _&&_, _||_, or-assoc}
-use mathlib.Core.List.{List, [], _∷_, map}
+use mathlib.Core.Bool.{Bool, true, false, cond}
+use mathlib.Core.List.{List, [], _∷_, _++_, map}
+use native.Mathlib.Nat.{zero-add, mul-zero, mul-suc}
+use native.Mathlib.Omega.{arith}
 use lib.Bits.{bitXor}
 use lib.Dec.{T, eqb, eqb→eq, eqb-refl}
-use Rattle.rules.specs.Lists.{member, insert, union}
-use Rattle.rules.proofs.Tests.{or-left, or-right, or-cases, and-both, pass}
+use lib.ListN.{length, getD}
+use Rattle.rules.specs.Lists.{digit, member, insert, union, count}
+use Rattle.rules.proofs.Tests.{or-left, or-right, or-cases}
 use Rattle.rules.specs.Families.{Family, product, spread}
 
 pub member-head : (x : ℕ) (ys : List ℕ) → T (member x (x ∷ ys))
@@ -126,3 +129,40 @@ spread-both F G A B t u =
 pub spread-empty : (F G : Family) → T (member 0 (spread F G))
 unfolding spread
 spread-empty F G = insert-new 0 _
+
+-- ---- counts
+
+pub count-append {ℓ} : {A : Type ℓ} (test : A → Bool) (xs ys : List A) → count test (xs ++ ys) ≡ count test xs + count test ys
+unfolding count
+count-append test [] ys = sym (zero-add (count test ys))
+count-append test (x ∷ xs) ys = omega (arith, count-append test xs ys)
+
+pub count-map {ℓ κ} : {A : Type ℓ} {B : Type κ} (test : B → Bool) (f : A → B) (xs : List A) → count test (map f xs) ≡ count (λ x. test (f x)) xs
+unfolding count
+count-map test f [] = refl
+count-map test f (x ∷ xs) = ap (λ (k : ℕ). digit (test (f x)) + k) (count-map test f xs)
+
+pub count-ext {ℓ} : {A : Type ℓ} (test other : A → Bool) (xs : List A) → ((x : A) → test x ≡ other x) → count test xs ≡ count other xs
+count-ext {A = A} test other xs h = ap (λ (t : A → Bool). count t xs) (fun-ext h)
+
+-- a test that does not look at the entry passes all of them or none
+pub count-constant {ℓ} : {A : Type ℓ} (b : Bool) (s : List A) → count (λ (x : A). b) s ≡ digit b * length s
+unfolding count
+count-constant b [] = sym (mul-zero (digit b))
+count-constant b (x ∷ s) = rw (count-constant b s) (omega (arith, mul-suc (digit b) (length s)))
+
+-- ---- what holds of each entry of a list
+
+module _ {ℓ} {A : Type ℓ} (P : A → Type 0) where
+  abbrev pub Each : List A → Type 0
+  Each [] = Unit {0}
+  Each (x ∷ xs) = P x × Each xs
+
+  pub each-append : (xs ys : List A) → Each xs → Each ys → Each (xs ++ ys)
+  each-append [] ys hx hy = hy
+  each-append (x ∷ xs) ys hx hy = (hx .0, each-append xs ys (hx .1) hy)
+
+  pub each-at : (xs : List A) (d : A) → Each xs → P d → (i : ℕ) → P (getD xs i d)
+  each-at [] d h hd i = hd
+  each-at (x ∷ xs) d h hd zero = h .0
+  each-at (x ∷ xs) d h hd (suc i) = each-at xs d (h .1) hd i

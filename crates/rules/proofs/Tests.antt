@@ -1,7 +1,7 @@
 -- What a passed test tells: the parts of `&&` and `||`, and the equation with `true`. Assumes nothing.
 use mathlib.Core.Path.{_≡_, refl, sym, subst}
 use mathlib.Core.Logic.{_⊎_, inl, inr}
-use mathlib.Core.Bool.{Bool, true, false, not, _&&_, _||_}
+use mathlib.Core.Bool.{Bool, true, false, _&&_, _||_, Bool·beq}
 use lib.Dec.{T}
 
 pub or-left : (a b : Bool) → T a → T (a || b)
@@ -31,3 +31,17 @@ and-right false b t = absurd t
 -- a test that is equal to `true` has passed
 pub pass : {b : Bool} → b ≡ true → T b
 pass e = subst T (sym e) tt
+
+pub same-bit : (a b : Bool) → T (Bool·beq a b) → a ≡ b
+same-bit true true t = refl
+same-bit true false t = absurd t
+same-bit false true t = absurd t
+same-bit false false t = refl
+
+-- a test that passes at both bits passes at each
+abbrev pub both : (Bool → Bool) → Bool
+both f = f true && f false
+
+pub each : (f : Bool → Bool) → T (both f) → (b : Bool) → T (f b)
+each f t true = and-left (f true) (f false) t
+each f t false = and-right (f true) (f false) t

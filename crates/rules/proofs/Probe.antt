@@ -1,0 +1,253 @@
+-- Demand 3: where no tested node's glitch family holds a suspect set, the counts of mask settings agree on the feeding points of each tested
+-- node. Each node's settled family spans its value and its glitch family holds every pattern on its feeding points, by the rules of its kind;
+-- the weight 1 is balanced with every set that is not suspect. Assumes nothing.
+use Prim.Native.Nat.{ℕ, zero, suc, _+_, _<_, _≤_}
+use mathlib.Core.Path.{_≡_, refl, sym, ap, _∙_, subst, subst₃, fun-ext}
+use mathlib.Core.Logic.{_⊎_, inl, inr}
+use mathlib.Core.Bool.{Bool, true, false, cond, not, _&&_, _||_, xor, Bool·beq, and-true, and-assoc, and-self-left}
+use mathlib.Core.List.{List, [], _∷_, _++_, map, append-assoc}
+use native.Mathlib.Omega.{arith}
+use native.Mathlib.Decide.{decLt}
+use lib.Dec.{T}
+use lib.ListN.{length, getD, length-append, List·getD-append, List·getD-eq-default}
+use lib.Seq.{getD-at}
+use Rattle.rules.specs.Lists.{member, insert, union, count}
+use Rattle.rules.specs.Tables.{table}
+use Rattle.rules.specs.Records.{Class, secret, mask, Cell, input, NOT, XOR, AND, OR, register, Netlist}
+use Rattle.rules.specs.Values.{Assignment, exclusiveOr, valueRule, values, feedingRule, feedings, feeding, howMany, settings, make, Pattern, matches, giving, CountsAgree}
+use Rattle.rules.specs.Families.{Family, Families, constant, spread, settledRule, glitchRule, familiesRule, families, familiesAt, holds, suspect}
+use Rattle.rules.proofs.Tests.{and-both, pass}
+use Rattle.rules.proofs.Lists.{member-cases, insert-old, count-map, count-ext, spread-first, spread-second}
+use Rattle.rules.proofs.Tables.{table-keeps}
+use Rattle.rules.proofs.Weights.{Sign, plus, twist, keep, pluses, minuses, Balanced, kept-sum, twisted-sum}
+use Rattle.rules.proofs.Characters.{no-secret, masked}
+use Rattle.rules.proofs.Spans.{Flat, Spans, Holds, spans-input, spans-constant, spans-not, spans-xor, spans-and, spans-or, holds-nothing, holds-more, holds-point, holds-both}
+
+-- ---- patterns on points taken together
+
+-- a point that is named already asks nothing more
+matches-member : (settled : List Bool) (i : ℕ) (points : List ℕ) (z : Pattern) → T (member i points)
+    → matches settled points z ≡ (Bool·beq (getD settled i false) (z i) && matches settled points z)
+unfolding matches
+matches-member settled i [] z t = absurd (unfold member in t)
+matches-member settled i (j ∷ points) z t = go (member-cases i j points t) (matches-member settled i points z)
+  where
+    named : ℕ → Bool
+    named k = Bool·beq (getD settled k false) (z k)
+
+    past : (a b c : Bool) → c ≡ (a && c) → (b && c) ≡ (a && (b && c))
+    past true b c e = refl
+    past false true c e = e
+    past false false c e = refl
+
+    go : (i ≡ j) ⊎ T (member i points) → (T (member i points) → matches settled points z ≡ (named i && matches settled points z))
+        → (named j && matches settled points z) ≡ (named i && (named j && matches settled points z))
+    go (inl e) rest =
+        subst (λ (k : ℕ). (named j && matches settled points z) ≡ (named k && (named j && matches settled points z))) (sym e)
+        (sym (and-self-left (named j) (matches settled points z)))
+    go (inr m) rest = past (named i) (named j) (matches settled points z) (rest m)
+
+matches-insert : (settled : List Bool) (i : ℕ) (points : List ℕ) (z : Pattern)
+    → matches settled (insert i points) z ≡ (Bool·beq (getD settled i false) (z i) && matches settled points z)
+unfolding insert matches
+matches-insert settled i points z = go (member i points) (matches-member settled i points z)
+  where
+    one : Bool
+    one = Bool·beq (getD settled i false) (z i)
+
+    go : (b : Bool) → (T b → matches settled points z ≡ (one && matches settled points z))
+        → matches settled (cond b points (i ∷ points)) z ≡ (one && matches settled points z)
+    go true e = e tt
+    go false e = refl
+
+pub matches-union : (settled : List Bool) (P Q : List ℕ) (z : Pattern) → matches settled (union P Q) z ≡ (matches settled P z && matches settled Q z)
+unfolding union matches
+matches-union settled [] Q z = refl
+matches-union settled (i ∷ P) Q z =
+    matches-insert settled i (union P Q) z
+    ∙ ap (λ (b : Bool). Bool·beq (getD settled i false) (z i) && b) (matches-union settled P Q z)
+    ∙ sym (and-assoc (Bool·beq (getD settled i false) (z i)) (matches settled P z) (matches settled Q z))
+
+-- ---- one entry more
+
+-- a table with e behind the entries l: before it those of l, then e, then the default
+module _ {ℓ} {A : Type ℓ} (l : List A) (e d : A) where
+  snoc-before : (j : ℕ) → j < length l → getD l j d ≡ getD (l ++ (e ∷ [])) j d
+  snoc-before j h = sym (List·getD-append l (e ∷ []) d j h)
+
+  snoc-at : (j : ℕ) → length l ≡ j → e ≡ getD (l ++ (e ∷ [])) j d
+  snoc-at j h = sym (getD-at l e [] d j h)
+
+  snoc-beyond : (j : ℕ) → length l < j → d ≡ getD (l ++ (e ∷ [])) j d
+  snoc-beyond j h = sym (List·getD-eq-default (l ++ (e ∷ [])) d {n = j} (omega (arith, length-append l (e ∷ []))))
+
+-- ---- every node, over any two lists of assignments
+module _ (K L : List Assignment) (settled : Assignment → List Bool) where
+  -- the settled family spans the value, and the glitch family holds every pattern on the points
+  record Good (F : Families) (points : List ℕ) (value : Assignment → Bool) : Type 0 where
+    spans : Spans K L (F .settled) value
+    patterns : (z : Pattern) → Holds K L (F .glitch) (λ x. matches (settled x) points z)
+
+  good-ext : {F G : Families} {P Q : List ℕ} {g h : Assignment → Bool} → F ≡ G → P ≡ Q → ((x : Assignment) → g x ≡ h x) → Good F P g → Good G Q h
+  good-ext e f k = subst₃ Good e f (fun-ext k)
+
+  good-constant : Good constant [] (λ x. false)
+  unfolding matches
+  good-constant = record { spans = spans-constant K L; patterns = λ z. holds-nothing K L (0 ∷ []) }
+
+  -- a node that is its own feeding point
+  good-point : (F : Family) (i : ℕ) (g : Assignment → Bool) → ((x : Assignment) → getD (settled x) i false ≡ g x) → Spans K L F g
+      → Good (record { settled = F; glitch = F }) (i ∷ []) g
+  unfolding matches
+  good-point F i g own sg = record { spans = sg; patterns = λ z. subst (λ (t : Assignment → Bool). Holds K L F t) (fun-ext (λ x. sym (and-true (Bool·beq (getD (settled x) i false) (z i)) ∙ ap (λ (b : Bool). Bool·beq b (z i)) (own x)))) (holds-point K L F g (z i) sg) }
+
+  -- a gate of two operands, whose patterns are those of both
+  good-pair : (F G : Families) (P Q : List ℕ) (g h : Assignment → Bool) → Good F P g → Good G Q h
+      → (z : Pattern) → Holds K L (spread (F .glitch) (G .glitch)) (λ x. matches (settled x) (union P Q) z)
+  good-pair F G P Q g h a b z =
+      subst (λ (t : Assignment → Bool). Holds K L (spread (F .glitch) (G .glitch)) t) (fun-ext (λ x. sym (matches-union (settled x) P Q z)))
+      (holds-both K L (F .glitch) (G .glitch) (λ x. matches (settled x) P z) (λ x. matches (settled x) Q z) (a .patterns z) (b .patterns z))
+
+  module _ (doneV : Assignment → List Bool) (doneF : List Families) (doneP : List (List ℕ))
+      (so-far : (j : ℕ) → Good (getD doneF j constant) (getD doneP j []) (λ x. getD (doneV x) j false)) where
+    abbrev value : ℕ → Assignment → Bool
+    value a = λ x. getD (doneV x) a false
+
+    -- the rules of each kind
+    good-node : (cell : Cell) → ((x : Assignment) → getD (settled x) (length doneP) false ≡ valueRule x (doneV x) cell)
+        → Good (familiesRule doneF cell) (feedingRule doneP cell) (λ x. valueRule x (doneV x) cell)
+    unfolding familiesRule settledRule glitchRule feedingRule valueRule
+    good-node (input s) own = good-point (s ∷ []) (length doneP) (exclusiveOr s) own (spans-input K L s)
+    good-node (NOT a) own = record {
+      spans = spans-not K L _ (value a) (so-far a .spans);
+      patterns = λ z. holds-more K L _ _ (λ x. matches (settled x) (getD doneP a []) z) (λ A inF. insert-old A 0 _ inF) (so-far a .patterns z);
+    }
+    good-node (XOR a b) own = record {
+      spans = spans-xor K L _ _ (value a) (value b) (so-far a .spans) (so-far b .spans);
+      patterns = good-pair _ _ _ _ _ _ (so-far a) (so-far b);
+    }
+    good-node (AND a b) own = record {
+      spans = spans-and K L _ _ (value a) (value b) (so-far a .spans) (so-far b .spans);
+      patterns = good-pair _ _ _ _ _ _ (so-far a) (so-far b);
+    }
+    good-node (OR a b) own = record {
+      spans = spans-or K L _ _ (value a) (value b) (so-far a .spans) (so-far b .spans);
+      patterns = good-pair _ _ _ _ _ _ (so-far a) (so-far b);
+    }
+    good-node (register a) own = good-point _ (length doneP) (value a) own (so-far a .spans)
+
+    -- so it is of the entries with the next node's behind them
+    good-next : (cell : Cell) → ((x : Assignment) → length (doneV x) ≡ length doneP) → length doneF ≡ length doneP
+        → ((x : Assignment) → getD (settled x) (length doneP) false ≡ valueRule x (doneV x) cell) → (j : ℕ)
+        → Good (getD (doneF ++ (familiesRule doneF cell ∷ [])) j constant) (getD (doneP ++ (feedingRule doneP cell ∷ [])) j [])
+        (λ x. getD (doneV x ++ (valueRule x (doneV x) cell ∷ [])) j false)
+    good-next cell lv lf own j = go (decLt j (length doneP)) (decLt (length doneP) j)
+      where
+        go : Dec (j < length doneP) → Dec (length doneP < j)
+            → Good (getD (doneF ++ (familiesRule doneF cell ∷ [])) j constant) (getD (doneP ++ (feedingRule doneP cell ∷ [])) j [])
+            (λ x. getD (doneV x ++ (valueRule x (doneV x) cell ∷ [])) j false)
+        go (yes h) k =
+            good-ext (snoc-before doneF _ constant j (omega arith)) (snoc-before doneP _ [] j h)
+            (λ x. snoc-before (doneV x) _ false j (omega (arith, lv x))) (so-far j)
+        go (no h) (yes k) =
+            good-ext (snoc-beyond doneF _ constant j (omega arith)) (snoc-beyond doneP _ [] j k)
+            (λ x. snoc-beyond (doneV x) _ false j (omega (arith, lv x))) good-constant
+        go (no h) (no k) =
+            good-ext (snoc-at doneF _ constant j (omega arith)) (snoc-at doneP _ [] j (omega arith))
+            (λ x. snoc-at (doneV x) _ false j (omega (arith, lv x))) (good-node cell own)
+
+  -- and of all nodes, where `settled` has the values of all of them
+  good-all : (nodes : List Cell) (doneV : Assignment → List Bool) (doneF : List Families) (doneP : List (List ℕ))
+      → ((j : ℕ) → Good (getD doneF j constant) (getD doneP j []) (λ x. getD (doneV x) j false))
+      → ((x : Assignment) → length (doneV x) ≡ length doneP) → length doneF ≡ length doneP
+      → ((x : Assignment) → settled x ≡ table (valueRule x) (doneV x) nodes)
+      → (j : ℕ) → Good (getD (table familiesRule doneF nodes) j constant) (getD (table feedingRule doneP nodes) j [])
+      (λ x. getD (table (valueRule x) (doneV x) nodes) j false)
+  unfolding table
+  good-all [] doneV doneF doneP so-far lv lf all = so-far
+  good-all (cell ∷ nodes) doneV doneF doneP so-far lv lf all =
+      good-all nodes (λ x. doneV x ++ (valueRule x (doneV x) cell ∷ [])) (doneF ++ (familiesRule doneF cell ∷ [])) (doneP ++ (feedingRule doneP cell ∷ []))
+      (good-next doneV doneF doneP so-far cell lv lf own)
+      (λ x. omega (arith, lv x, length-append (doneV x) (valueRule x (doneV x) cell ∷ []), length-append doneP (feedingRule doneP cell ∷ [])))
+      (omega (arith, length-append doneF (familiesRule doneF cell ∷ []), length-append doneP (feedingRule doneP cell ∷ [])))
+      all
+    where
+      own : (x : Assignment) → getD (settled x) (length doneP) false ≡ valueRule x (doneV x) cell
+      own x =
+          let v : Bool = valueRule x (doneV x) cell in
+          let kept = table-keeps (valueRule x) (doneV x ++ (v ∷ [])) nodes in
+          ap (λ (l : List Bool). getD l (length doneP) false) (all x ∙ kept .1 ∙ append-assoc (doneV x) (v ∷ []) (kept .0))
+          ∙ getD-at (doneV x) v (kept .0) false (length doneP) (lv x)
+
+-- the glitch family of each node holds every pattern on its feeding points
+pub each-node : (K L : List Assignment) (n : Netlist) (i : ℕ) (z : Pattern)
+    → Holds K L (familiesAt n i .glitch) (λ x. matches (values n x) (feeding n i) z)
+unfolding values families feedings familiesAt feeding
+each-node K L n i z =
+    good-all K L (values n) (n .nodes) (λ x. []) [] [] (λ j. good-constant K L (values n)) (λ x. refl) refl (λ x. refl) i .patterns z
+
+-- ---- over all mask settings, beside the one setting of the secrets and beside the other
+
+module _ (n : Netlist) (p : List Bool) where
+  abbrev masks : List (List Bool)
+  masks = settings (howMany mask (n .variables))
+
+  abbrev made : List Bool → List Bool → Assignment
+  made secrets m = make (n .variables) secrets m p
+
+  abbrev beside : List Bool → List Assignment
+  beside secrets = map (made secrets) masks
+
+  -- the weight 1 with the character of a set
+  character-sum : (A : ℕ) (secrets : List Bool)
+      → (pluses (λ x. twist (exclusiveOr A x) plus) (beside secrets) ≡ count (λ m. not (exclusiveOr A (made secrets m))) masks)
+      × (minuses (λ x. twist (exclusiveOr A x) plus) (beside secrets) ≡ count (λ m. exclusiveOr A (made secrets m)) masks)
+  character-sum A secrets =
+      let sums = twisted-sum (exclusiveOr A) (beside secrets) in (
+        sums .0 ∙ count-map (λ x. not (exclusiveOr A x)) (made secrets) masks,
+        sums .1 ∙ count-map (exclusiveOr A) (made secrets) masks,
+      )
+
+  -- is balanced where the set is not suspect: with a mask in it the sums are 0, and with no secret in it they are the same
+  unsuspected : (s t : List Bool) (A : ℕ) → T (not (suspect (n .variables) A)) → Balanced (beside s) (beside t) (λ x. twist (exclusiveOr A x) plus)
+  unfolding Balanced suspect
+  unsuspected s t A clean = go (holds mask (n .variables) A) refl
+    where
+      no-secrets : (a b : Bool) → b ≡ false → T (not (a && not b)) → T (not a)
+      no-secrets true b e h = subst (λ (c : Bool). T (not (not c))) e h
+      no-secrets false b e h = tt
+
+      go : (b : Bool) → holds mask (n .variables) A ≡ b → Balanced (beside s) (beside t) (λ x. twist (exclusiveOr A x) plus)
+      go true e =
+          let h : T (holds mask (n .variables) A) = pass e in
+          omega (arith, character-sum A s .0, character-sum A s .1, character-sum A t .0, character-sum A t .1, masked (n .variables) A s p h, masked (n .variables) A t p h)
+      go false e =
+          let h : T (not (holds secret (n .variables) A)) = no-secrets (holds secret (n .variables) A) (holds mask (n .variables) A) e clean in
+          let alike : (m : List Bool) → exclusiveOr A (made s m) ≡ exclusiveOr A (made t m) = λ m. no-secret (n .variables) A s t m p h in
+          omega (arith, character-sum A s .0, character-sum A s .1, character-sum A t .0, character-sum A t .1, count-ext (λ m. exclusiveOr A (made s m)) (λ m. exclusiveOr A (made t m)) masks alike, count-ext (λ m. not (exclusiveOr A (made s m))) (λ m. not (exclusiveOr A (made t m))) masks (λ m. ap not (alike m)))
+
+  -- the weight 1 on the settings that give a pattern
+  pattern-sum : (points : List ℕ) (z : Pattern) (secrets : List Bool)
+      → (pluses (λ x. keep (matches (values n x) points z) plus) (beside secrets) ≡ giving n points z p secrets)
+      × (minuses (λ x. keep (matches (values n x) points z) plus) (beside secrets) ≡ 0)
+  unfolding giving
+  pattern-sum points z secrets =
+      let sums = kept-sum (λ x. matches (values n x) points z) (beside secrets) in
+      (sums .0 ∙ count-map (λ x. matches (values n x) points z) (made secrets) masks, sums .1)
+
+  -- the weight 1 itself: there are as many mask settings beside the one as beside the other, and each gives the pattern on no points
+  as-many : (s t : List Bool) (z : Pattern) → Balanced (beside s) (beside t) (λ x. plus)
+  unfolding Balanced matches giving
+  as-many s t z = omega (arith, pattern-sum [] z s .0, pattern-sum [] z s .1, pattern-sum [] z t .0, pattern-sum [] z t .1)
+
+-- a family that holds the patterns on some points
+abbrev pub HoldsPatterns : Netlist → List ℕ → Family → Type 0
+HoldsPatterns n points F = (K L : List Assignment) (z : Pattern) → Holds K L F (λ x. matches (values n x) points z)
+
+-- The counts agree on any points whose patterns a family holds that has no suspect set.
+pub counts-agree : (n : Netlist) (points : List ℕ) (F : Family) → HoldsPatterns n points F
+    → ((A : ℕ) → T (member A F) → T (not (suspect (n .variables) A))) → CountsAgree n points
+unfolding CountsAgree Balanced
+counts-agree n points F patterns clean p s t z =
+    let balanced = patterns (beside n p s) (beside n p t) z (λ x. plus) (as-many n p s t z) (λ A inF. unsuspected n p s t A (clean A inF)) in
+    omega (arith, pattern-sum n p points z s .0, pattern-sum n p points z s .1, pattern-sum n p points z t .0, pattern-sum n p points z t .1)
