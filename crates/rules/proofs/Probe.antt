@@ -16,9 +16,14 @@ use Rattle.rules.specs.Tables.{table}
 use Rattle.rules.specs.Records.{Class, secret, mask, Cell, input, NOT, XOR, AND, OR, register, Netlist}
 use Rattle.rules.specs.Values.{Assignment, exclusiveOr, valueRule, values, feedingRule, feedings, feeding, howMany, settings, make, Pattern, matches, giving, CountsAgree}
 use Rattle.rules.specs.Families.{Family, Families, constant, spread, settledRule, glitchRule, familiesRule, families, familiesAt, holds, suspect}
-use Rattle.rules.proofs.Tests.{and-both, pass}
+use Rattle.rules.specs.Checks.{answered, admitted, read}
+use Rattle.rules.specs.Slices.{reply}
+use Rattle.rules.specs.Demands.{Clear, NoSuspect, NothingSuspect, OneProbe}
+use Rattle.rules.proofs.Tests.{pass}
 use Rattle.rules.proofs.Lists.{member-cases, insert-old, count-map, count-ext, spread-first, spread-second}
 use Rattle.rules.proofs.Tables.{table-keeps}
+use Rattle.rules.proofs.Reading.{admitted-read}
+use Rattle.rules.proofs.Halves.{exactly-when}
 use Rattle.rules.proofs.Weights.{Sign, plus, twist, keep, pluses, minuses, Balanced, kept-sum, twisted-sum}
 use Rattle.rules.proofs.Characters.{no-secret, masked}
 use Rattle.rules.proofs.Spans.{Flat, Spans, Holds, spans-input, spans-constant, spans-not, spans-xor, spans-and, spans-or, holds-nothing, holds-more, holds-point, holds-both}
@@ -251,3 +256,20 @@ unfolding CountsAgree Balanced
 counts-agree n points F patterns clean p s t z =
     let balanced = patterns (beside n p s) (beside n p t) z (λ x. plus) (as-many n p s t z) (λ A inF. unsuspected n p s t A (clean A inF)) in
     omega (arith, pattern-sum n p points z s .0, pattern-sum n p points z s .1, pattern-sum n p points z t .0, pattern-sum n p points z t .1)
+
+-- ---- demand 3
+
+-- Whenever the checker answers clear for glitching signals, one probe on any gate or register learns nothing of the secrets.
+pub one-probe : (bytes : List ℕ) (entries work : ℕ) → Clear (reply bytes entries work) → OneProbe bytes
+unfolding OneProbe NoSuspect
+one-probe bytes entries work answers-clear n is-read i node =
+    counts-agree n (feeding n i) (familiesAt n i .glitch) (λ K L z. each-node K L n i z) (clean i node)
+  where
+    checked : NothingSuspect bytes entries work
+    checked = exactly-when bytes entries work .0 answers-clear
+
+    same-netlist : checked .netlist ≡ n
+    same-netlist = let e = admitted-read bytes entries work (checked .netlist) (checked .admits) in cc
+
+    clean : NoSuspect n
+    clean = subst NoSuspect same-netlist (checked .noSuspect)

@@ -1,0 +1,28 @@
+-- A property of all that is in a list: of the empty list, and after a number in front, `insert` and `union`. Assumes nothing.
+use Prim.Native.Nat.{ℕ}
+use mathlib.Core.Path.{sym, subst}
+use mathlib.Core.Logic.{⊎-elim}
+use mathlib.Core.List.{List, [], _∷_}
+use lib.Dec.{T}
+use Rattle.rules.specs.Lists.{member, insert, union}
+use Rattle.rules.proofs.Lists.{member-cases, insert-cases, union-cases}
+
+-- all that is in the list has the property
+abbrev pub All : (ℕ → Type 0) → List ℕ → Type 0
+All P xs = (x : ℕ) → T (member x xs) → P x
+
+module _ (P : ℕ → Type 0) where
+  pub all-none : All P []
+  all-none x t = absurd (unfold member in t)
+
+  pub all-front : (y : ℕ) (ys : List ℕ) → P y → All P ys → All P (y ∷ ys)
+  all-front y ys p q x t = ⊎-elim (λ e. subst P (sym e) p) (q x) (member-cases x y ys t)
+
+  pub all-single : (y : ℕ) → P y → All P (y ∷ [])
+  all-single y p = all-front y [] p all-none
+
+  pub all-insert : (y : ℕ) (ys : List ℕ) → P y → All P ys → All P (insert y ys)
+  all-insert y ys p q x t = ⊎-elim (λ e. subst P (sym e) p) (q x) (insert-cases x y ys t)
+
+  pub all-union : (xs ys : List ℕ) → All P xs → All P ys → All P (union xs ys)
+  all-union xs ys p q x t = ⊎-elim (p x) (q x) (union-cases x xs ys t)

@@ -1,0 +1,255 @@
+-- What `read` makes of a file: it ends within `most-records` records, and a netlist that it answers is well formed and has the file for its
+-- writing-out. By induction on the number of records: what is read before the next one is well formed, short, and the writing-out of its
+-- netlist (`Reached`, the invariant). Assumes nothing.
+use Prim.Native.Nat.{ℕ, zero, suc, _+_, _*_, _^_, _≤_, _<_}
+use mathlib.Core.Path.{_≡_, refl, _∙_, subst, ap}
+use mathlib.Core.Bool.{Bool, true, false, _||_}
+use mathlib.Core.List.{List, [], _∷_, _++_, append-nil, append-assoc}
+use native.Mathlib.Decide.{decLe}
+use native.Mathlib.Nat.{add-zero, add-suc, add-comm}
+use native.Mathlib.Omega.{arith}
+use lib.Dec.{T, leb, eqb}
+use lib.ListN.{length, getD, take, length-append, length-take}
+use lib.Seq.{take-all, getD-take}
+use borrow.Author.Tests.{leb-false, ltb-false, eqb-true}
+use Rattle.rules.specs.Lists.{member}
+use Rattle.rules.specs.Records.{Class, Cell, input, Record, end, variable, node, Netlist, most-variables, most-nodes, operands, setOf, recordBytes, size, variablesOut, nodesOut, writtenOut}
+use Rattle.rules.specs.Checks.{Outcome, answered, refused, overLimit, undeclared, undeclaredSet, notBelow, badOperand, recordAt, Progress, reading, finished, taken, step, after, most-records, outcomeOf, read, andThen, slicesFit, admitted}
+use Rattle.rules.proofs.Accepted.{answer, Accepted, accepted, size-most, total-unseen, Bytes, next-bytes}
+
+-- a netlist obeys the record rules
+pub record WellFormed (n : Netlist) : Type 0 where
+  pub few-variables : length (n .variables) ≤ most-variables
+  pub few-nodes : length (n .nodes) ≤ most-nodes
+  -- each operand is a lower node
+  pub lower : (i : ℕ) → i < length (n .nodes) → (a : ℕ) → T (member a (operands (getD (n .nodes) i (input 0)))) → a < i
+  -- each input's set has declared variables only
+  pub declared : (i : ℕ) → i < length (n .nodes) → setOf (getD (n .nodes) i (input 0)) < 2 ^ length (n .variables)
+
+-- ---- what one more record keeps
+
+neither : (a b : Bool) → (a || b) ≡ false → (a ≡ false) × (b ≡ false)
+neither true b e = (e, cc)
+neither false b e = (refl, e)
+
+-- where no operand fails the check, each is below the node
+operands-below : (own : ℕ) (l : List ℕ) → notBelow own l ≡ false → (a : ℕ) → T (member a l) → a < own
+unfolding notBelow member
+operands-below own [] e a t = absurd t
+operands-below own (x ∷ l) e a t =
+    let (first, others) = neither (leb own x) (notBelow own l) e in
+    go (eqb a x) refl t (leb-false own x first) (operands-below own l others a)
+  where
+    go : (b : Bool) → eqb a x ≡ b → T (b || member a l) → x < own → (T (member a l) → a < own) → a < own
+    go true q s first others = omega (arith, eqb-true a x q)
+    go false q s first others = others s
+
+-- what holds of each entry and of one more holds of each entry of the longer list
+snoc : {A : Type 0} (d : A) (P : ℕ → A → Type 0) (l : List A) (a : A) → ((i : ℕ) → i < length l → P i (getD l i d)) → P (length l) a → (i : ℕ) → i < length (l ++ (a ∷ [])) → P i (getD (l ++ (a ∷ [])) i d)
+snoc d P [] a old new zero h = new
+snoc d P [] a old new (suc i) h = absurd (omega arith)
+snoc d P (x ∷ l) a old new zero h = old 0 (omega arith)
+snoc d P (x ∷ l) a old new (suc i) h = snoc d (λ j. P (suc j)) l a (λ j q. old (suc j) (omega arith)) new i (omega arith)
+
+-- a netlist with one more variable, and with one more node
+abbrev pub withVariable : Netlist → Class → Netlist
+withVariable n c = record { variables = n .variables ++ (c ∷ []); nodes = n .nodes }
+
+abbrev pub withNode : Netlist → Cell → Netlist
+withNode n c = record { variables = n .variables; nodes = n .nodes ++ (c ∷ []) }
+
+-- a netlist written out, without the end
+abbrev pub out : Netlist → List ℕ
+out n = variablesOut (n .variables) ++ nodesOut (n .nodes)
+
+pub variables-append : (xs ys : List Class) → variablesOut (xs ++ ys) ≡ variablesOut xs ++ variablesOut ys
+unfolding variablesOut
+variables-append [] ys = refl
+variables-append (x ∷ xs) ys = simp (variables-append xs ys, append-assoc)
+
+pub nodes-append : (xs ys : List Cell) → nodesOut (xs ++ ys) ≡ nodesOut xs ++ nodesOut ys
+unfolding nodesOut
+nodes-append [] ys = refl
+nodes-append (x ∷ xs) ys = simp (nodes-append xs ys, append-assoc)
+
+none-out : (ns : List Cell) → length ns ≤ 0 → nodesOut ns ≡ []
+unfolding nodesOut
+none-out [] h = refl
+none-out (x ∷ ns) h = absurd (omega arith)
+
+pub out-variable : (n : Netlist) (c : Class) → length (n .nodes) ≤ 0 → out (withVariable n c) ≡ out n ++ recordBytes (variable c)
+unfolding variablesOut
+out-variable n c h = simp (none-out (n .nodes) h, variables-append, append-nil)
+
+pub out-node : (n : Netlist) (c : Cell) → out (withNode n c) ≡ out n ++ recordBytes (node c)
+unfolding nodesOut
+out-node n c = simp (nodes-append, append-nil, append-assoc)
+
+-- ---- a file read so far
+
+-- the invariant: what is read of a file before its next record
+record Reached (bytes : List ℕ) (k : ℕ) (n : Netlist) (here : ℕ) : Type 0 where
+  counted : k ≡ length (n .variables) + length (n .nodes)
+  formed : WellFormed n
+  short : here ≤ 2 * length (n .variables) + 3 * length (n .nodes)
+  written : Bytes bytes → take here bytes ≡ out n
+
+module _ (bytes : List ℕ) (k : ℕ) (n : Netlist) (here : ℕ) (r : Reached bytes k n here) where
+  next-variable : (c : Class) → Accepted bytes n here (variable c) → Reached bytes (suc k) (withVariable n c) (here + size (variable c))
+  unfolding overLimit size recordBytes
+  next-variable c a =
+      let room : length (n .variables) < most-variables = leb-false _ _ (a .allowed .room) in
+      let none : length (n .nodes) ≤ 0 = ltb-false _ _ (a .allowed .ordered) in
+      let one-more = length-append (n .variables) (c ∷ []) in
+      record {
+        counted = omega (arith, r .counted);
+        formed = record {
+          few-variables = omega arith;
+          few-nodes = r .formed .few-nodes;
+          lower = r .formed .lower;
+          declared = λ i h. absurd (omega arith);
+        };
+        short = omega arith;
+        written = λ low. rw (out-variable n c none, ← r .written low) (next-bytes bytes n here (variable c) low a);
+      }
+
+  next-node : (c : Cell) → Accepted bytes n here (node c) → Reached bytes (suc k) (withNode n c) (here + size (node c))
+  unfolding overLimit undeclaredSet undeclared badOperand
+  next-node c a =
+      let room : length (n .nodes) < most-nodes = leb-false _ _ (a .allowed .room) in
+      let one-more = length-append (n .nodes) (c ∷ []) in
+      record {
+        counted = omega (arith, r .counted);
+        formed = record {
+          few-variables = r .formed .few-variables;
+          few-nodes = omega arith;
+          lower =
+              snoc (input 0) (λ i cell. (a : ℕ) → T (member a (operands cell)) → a < i) (n .nodes) c
+              (r .formed .lower) (operands-below _ (operands c) (a .allowed .below));
+          declared = snoc (input 0) (λ i cell. setOf cell < 2 ^ length (n .variables)) (n .nodes) c (r .formed .declared) (leb-false _ _ (a .allowed .declared));
+        };
+        short = omega (arith, size-most (node c));
+        written = λ low. rw (out-node n c, ← r .written low) (next-bytes bytes n here (node c) low a);
+      }
+
+-- a netlist was read up to the end record, which is accepted
+record Ended (bytes : List ℕ) (n : Netlist) : Type 0 where
+  records : ℕ
+  offset : ℕ
+  reached : Reached bytes records n offset
+  ended : Accepted bytes n offset end
+
+-- what holds of a file after k records
+abbrev Kept : (bytes : List ℕ) (k : ℕ) → Progress → Type 0
+Kept bytes k (reading n here) = Reached bytes k n here
+Kept bytes k (finished (answered n)) = Ended bytes n
+Kept bytes k (finished (refused number place)) = Unit {0}
+
+kept-taken : (bytes : List ℕ) (k : ℕ) (n : Netlist) (here : ℕ) (o : Outcome Record) → Reached bytes k n here → recordAt bytes n here ≡ o → Kept bytes (suc k) (taken n here o)
+unfolding taken
+kept-taken bytes k n here (refused number place) r e = tt
+kept-taken bytes k n here (answered end) r e = record { records = k; offset = here; reached = r; ended = accepted bytes n here end e }
+kept-taken bytes k n here (answered (variable c)) r e = next-variable bytes k n here r c (accepted bytes n here (variable c) e)
+kept-taken bytes k n here (answered (node c)) r e = next-node bytes k n here r c (accepted bytes n here (node c) e)
+
+kept-step : (bytes : List ℕ) (k : ℕ) (p : Progress) → Kept bytes k p → Kept bytes (suc k) (step bytes p)
+unfolding step
+kept-step bytes k (reading n here) r = kept-taken bytes k n here (recordAt bytes n here) r refl
+kept-step bytes k (finished (answered n)) e = e
+kept-step bytes k (finished (refused number place)) e = tt
+
+kept : (bytes : List ℕ) (k : ℕ) → Kept bytes k (after bytes k)
+unfolding after variablesOut nodesOut
+kept bytes zero =
+    record {
+      counted = omega arith;
+      formed = record { few-variables = omega arith; few-nodes = omega arith; lower = λ i h. absurd (omega arith); declared = λ i h. absurd (omega arith) };
+      short = omega arith;
+      written = λ low. refl;
+    }
+kept bytes (suc k) = kept-step bytes k (after bytes k) (kept bytes k)
+
+-- ---- the outcome
+
+-- no file is still being read after `most-records` records
+pub always-finished : (bytes : List ℕ) → after bytes most-records ≡ finished (read bytes)
+unfolding read outcomeOf
+always-finished bytes = go (after bytes most-records) (kept bytes most-records)
+  where
+    go : (p : Progress) → Kept bytes most-records p → p ≡ finished (outcomeOf bytes p)
+    go (reading n here) r = absurd (omega arith)
+    go (finished o) k = refl
+
+stays : (bytes : List ℕ) (k j : ℕ) (o : Outcome Netlist) → after bytes k ≡ finished o → after bytes (k + j) ≡ finished o
+unfolding after step
+stays bytes k zero o e = rw add-zero e
+stays bytes k (suc j) o e = rw (add-suc, stays bytes k j o e)
+
+-- wherever the reading ends, its outcome is the file's
+pub ends : (bytes : List ℕ) (k : ℕ) (o : Outcome Netlist) → after bytes k ≡ finished o → read bytes ≡ o
+ends bytes k o e =
+    cc (stays bytes k most-records o e, stays bytes most-records k (read bytes) (always-finished bytes), add-comm k most-records)
+
+ended-at : (bytes : List ℕ) (n : Netlist) → read bytes ≡ answered n → Ended bytes n
+ended-at bytes n e = subst (Kept bytes most-records) (always-finished bytes ∙ ap finished e) (kept bytes most-records)
+
+-- a netlist that is read obeys the record rules
+pub read-well-formed : (bytes : List ℕ) (n : Netlist) → read bytes ≡ answered n → WellFormed n
+read-well-formed bytes n e = ended-at bytes n e .reached .formed
+
+-- the end record's byte is the last
+end-last : (bytes : List ℕ) (n : Netlist) (here : ℕ) → Accepted bytes n here end → length bytes ≤ here + 1
+end-last bytes n here a = ltb-false (here + 1) (length bytes) (a .last)
+
+-- a file that is read has at most 10 variables of 2 bytes, 200 nodes of 3, and the end
+pub read-short : (bytes : List ℕ) (n : Netlist) → read bytes ≡ answered n → length bytes ≤ 621
+read-short bytes n e =
+    let d = ended-at bytes n e in
+    let last = end-last bytes n (d .offset) (d .ended) in
+    omega arith
+
+-- a file that is read is the writing-out of its netlist
+pub read-written-out : (bytes : List ℕ) → Bytes bytes → (n : Netlist) → read bytes ≡ answered n → bytes ≡ writtenOut n
+unfolding writtenOut size recordBytes
+read-written-out bytes low n e =
+    let d = ended-at bytes n e in
+    let before = d .reached .written low in
+    let last = next-bytes bytes n (d .offset) end low (d .ended) in
+    let all = take-all (d .offset + size end) bytes (end-last bytes n (d .offset) (d .ended)) in
+    cc
+
+-- ---- the first 1,024 bytes
+
+record-first : (bytes : List ℕ) (n : Netlist) (here : ℕ) → here ≤ 620 → recordAt (take 1024 bytes) n here ≡ recordAt bytes n here
+unfolding recordAt
+record-first bytes n here h = go (decLe (length bytes) 1024)
+  where
+    go : Dec (length bytes ≤ 1024) → recordAt (take 1024 bytes) n here ≡ recordAt bytes n here
+    go (yes few) = rw (take-all 1024 bytes few)
+    go (no many) =
+        rw (getD-take 1024 bytes here 0 (omega arith), getD-take 1024 bytes (here + 1) 0 (omega arith), getD-take 1024 bytes (here + 2) 0 (omega arith))
+        (total-unseen (length (take 1024 bytes)) (length bytes) _ _ here _ _ _ (simp length-take (omega arith)) (omega arith))
+
+after-first : (bytes : List ℕ) (k : ℕ) → after (take 1024 bytes) k ≡ after bytes k
+unfolding after step
+after-first bytes zero = refl
+after-first bytes (suc k) = rw (after-first bytes k) (same (after bytes k) (kept bytes k))
+  where
+    same : (p : Progress) → Kept bytes k p → step (take 1024 bytes) p ≡ step bytes p
+    same (reading n here) r = ap (taken n here) (record-first bytes n here (omega arith))
+    same (finished o) r = refl
+
+-- reading only the first 1,024 bytes gives the same outcome
+pub read-first : (bytes : List ℕ) → read (take 1024 bytes) ≡ read bytes
+read-first bytes = cc (always-finished bytes, always-finished (take 1024 bytes), after-first bytes most-records)
+
+-- ---- the lent slices
+
+-- a netlist that is checked is the one that is read
+pub admitted-read : (bytes : List ℕ) (entries work : ℕ) (n : Netlist) → admitted bytes entries work ≡ answered n → read bytes ≡ answered n
+unfolding admitted andThen slicesFit
+admitted-read bytes entries work n = go (read bytes)
+  where
+    go : (o : Outcome Netlist) → andThen o (slicesFit entries work) ≡ answered n → o ≡ answered n
+    go (answered m) e = ap answered (answer _ m n e)
+    go (refused number place) e = cc
