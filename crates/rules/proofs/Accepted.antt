@@ -13,11 +13,11 @@ use borrow.Author.Tests.{leb-false, ltb-false, lt-leb, lt-ltb, le-ltb}
 use Rattle.rules.specs.Records.{secret, mask, public, input, NOT, XOR, AND, OR, register, Record, end, variable, node, Netlist, classOf, said, kindOf, operands, body, classByte, recordBytes, size}
 use Rattle.rules.specs.Checks.{answered, Check, check, judged, isVariable, isEnd, overLimit, undeclaredSet, badOperand, judgedRecord, recordAt}
 
-abbrev condition : Check → Bool
+abbrev pub condition : Check → Bool
 condition (check k b p) = b
 
 -- where a list of checks gives an answer, none of their conditions holds
-passes : {A : Type 0} (cs : List Check) (a r : A) → judged cs a ≡ answered r → (i : ℕ) → condition (getD cs i (check 0 false 0)) ≡ false
+pub passes : {A : Type 0} (cs : List Check) (a r : A) → judged cs a ≡ answered r → (i : ℕ) → condition (getD cs i (check 0 false 0)) ≡ false
 unfolding judged
 passes [] a r e i = refl
 passes (check k true p ∷ cs) a r e i = cc

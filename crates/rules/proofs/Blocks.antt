@@ -1,4 +1,5 @@
--- The table P1 to P14: the reply to each block, which antt computes from the rules. Assumes nothing.
+-- The table P1 to P14, and blocks that show the mistakes which document 01 does not forgive: the reply to each, which antt computes from the
+-- rules. Assumes nothing.
 use Prim.Native.Nat.{ℕ}
 use mathlib.Core.Path.{_≡_, refl}
 use mathlib.Core.List.{List, [], _∷_}
@@ -6,11 +7,11 @@ use Rattle.rules.specs.Lists.{member, insert, union, count}
 use Rattle.rules.specs.Tables.{table}
 use Rattle.rules.specs.Records.{classOf, said, size, recordBytes, kindOf, body, classByte, operands, setOf}
 use Rattle.rules.specs.Values.{same}
-use Rattle.rules.specs.Families.{product, spread, settledRule, glitchRule, familiesRule, families, holds, suspect, tested, better, reported, mark, marks, lowest, half, findings, Findings}
+use Rattle.rules.specs.Families.{product, spread, settledRule, glitchRule, familiesRule, families, holds, suspect, tested, better, reported, mark, marks, lowest, half, findings, Findings, clear, suspectAt}
 use Rattle.rules.specs.Checks.{andThen, judged, overLimit, undeclared, undeclaredSet, notBelow, badOperand, judgedRecord, recordAt, taken, step, after, outcomeOf, read, slicesFit, admitted, Outcome}
 use Rattle.rules.specs.Slices.{reply}
-use Rattle.rules.proofs.Lists.{Each}
-use Rattle.rules.specs.Blocks.{Block, blocks, P1, P2, P3, P4, P5, P6, P7, P8, P9, P10, P11, P12, P13, P13-NOT, P14, P14-without}
+use Rattle.rules.proofs.Each.{Each}
+use Rattle.rules.specs.Blocks.{Block, answers, blocks, P1, P2, P3, P4, P5, P6, P7, P8, P9, P10, P11, P12, P13, P13-NOT, P14, P14-without}
 
 -- the reply to a block in slices that hold every netlist; to unfold it is to compute it
 unfoldable pub replyTo : List ℕ → Outcome Findings
@@ -28,6 +29,7 @@ a and b = (a, b)
 pub right : (b : Block) → Right b → Right b
 right b r = r
 
+-- the table
 pub replies : Each Right blocks
 unfolding replyTo
 replies =
@@ -47,4 +49,65 @@ replies =
     and right P13-NOT refl
     and right P14 refl
     and right P14-without refl
+    and tt
+
+-- ---- mistakes
+
+-- variables secret, mask, mask; inputs 3, 2 and 4; 3 AND(0,2); 4 AND(1,2); 5 XOR(3,4), in whose product each set arises twice
+abbrev pub arises-twice : Block
+arises-twice = record {
+  bytes =
+      0x01 ∷ 0x00 ∷ 0x01 ∷ 0x01 ∷ 0x01 ∷ 0x01
+      ∷ 0x02 ∷ 0x03 ∷ 0x00 ∷ 0x02 ∷ 0x02 ∷ 0x00 ∷ 0x02 ∷ 0x04 ∷ 0x00
+      ∷ 0x05 ∷ 0x00 ∷ 0x02 ∷ 0x05 ∷ 0x01 ∷ 0x02 ∷ 0x04 ∷ 0x03 ∷ 0x04
+      ∷ 0x00 ∷ [];
+  expected = answers (suspectAt 5 1) (suspectAt 5 1) 3 6;
+}
+
+-- variables secret, public; input 3; NOT of it
+abbrev pub public-beside-secret : Block
+public-beside-secret = record { bytes = 0x01 ∷ 0x00 ∷ 0x01 ∷ 0x02 ∷ 0x02 ∷ 0x03 ∷ 0x00 ∷ 0x03 ∷ 0x00 ∷ 0x00 ∷ []; expected = answers (suspectAt 1 3) (suspectAt 1 3) 2 2 }
+
+-- variable public; input 1; NOT of it: a set of publics alone is not suspect
+abbrev pub publics-alone : Block
+publics-alone = record { bytes = 0x01 ∷ 0x02 ∷ 0x02 ∷ 0x01 ∷ 0x00 ∷ 0x03 ∷ 0x00 ∷ 0x00 ∷ []; expected = answers clear clear 1 2 }
+
+-- variables secret, mask; inputs 2 and 1; AND of them: the second operand's own set is suspect
+abbrev pub second-operand : Block
+second-operand = record {
+  bytes =
+      0x01 ∷ 0x00 ∷ 0x01 ∷ 0x01
+      ∷ 0x02 ∷ 0x02 ∷ 0x00 ∷ 0x02 ∷ 0x01 ∷ 0x00
+      ∷ 0x05 ∷ 0x00 ∷ 0x01
+      ∷ 0x00 ∷ [];
+  expected = answers (suspectAt 2 1) (suspectAt 2 1) 2 3;
+}
+
+-- variable secret; input 1; register of it
+abbrev pub bare-register : Block
+bare-register = record { bytes = 0x01 ∷ 0x00 ∷ 0x02 ∷ 0x01 ∷ 0x00 ∷ 0x07 ∷ 0x00 ∷ 0x00 ∷ []; expected = answers (suspectAt 1 1) (suspectAt 1 1) 1 2 }
+
+-- variables secret, public; inputs 1 and 2; AND of them: sets 1 and 3 are suspect
+abbrev pub two-suspects : Block
+two-suspects = record {
+  bytes =
+      0x01 ∷ 0x00 ∷ 0x01 ∷ 0x02
+      ∷ 0x02 ∷ 0x01 ∷ 0x00 ∷ 0x02 ∷ 0x02 ∷ 0x00
+      ∷ 0x05 ∷ 0x00 ∷ 0x01
+      ∷ 0x00 ∷ [];
+  expected = answers (suspectAt 2 1) (suspectAt 2 1) 2 3;
+}
+
+-- A register that passed on its operand's glitch family would name a suspect in P10, and the settled XOR rule between registers none in P9.
+pub mistakes : Each Right (P10 ∷ P9 ∷ arises-twice ∷ public-beside-secret ∷ publics-alone ∷ second-operand ∷ bare-register ∷ two-suspects ∷ [])
+unfolding replyTo
+mistakes =
+    right P10 refl
+    and right P9 refl
+    and right arises-twice refl
+    and right public-beside-secret refl
+    and right publics-alone refl
+    and right second-operand refl
+    and right bare-register refl
+    and right two-suspects refl
     and tt

@@ -10,7 +10,7 @@ use native.Mathlib.Numerals.{one-add}
 use native.Mathlib.Omega.{arith}
 use lib.Bits.{bitXor, xor-shr, xor-mod}
 use lib.Dec.{T, eqb}
-use Rattle.rules.specs.Lists.{digit, count}
+use Rattle.rules.specs.Lists.{count}
 use Rattle.rules.specs.Records.{Class, secret, mask, public, odd}
 use Rattle.rules.specs.Values.{Assignment, exclusiveOr, same, howMany, settings, next, others, make}
 use Rattle.rules.specs.Families.{holds}

@@ -9,7 +9,7 @@ use native.Mathlib.Omega.{arith}
 use lib.Dec.{ltb, ltb→lt, nltb→le}
 use lib.ListN.{getD}
 use Rattle.rules.specs.Listing.{digits, decimal}
-use Rattle.rules.proofs.Lists.{Each, each-append}
+use Rattle.rules.proofs.Each.{Each, each-append}
 
 -- what holds of one digit, and of a digit behind those that it holds of, holds of them all
 module _ (P : ℕ → List ℕ → Type 0)

@@ -1,5 +1,6 @@
 -- What is proved of the rules.
 pub mod Tests
+pub mod Each
 pub mod Lists
 pub mod Tables
 pub mod Members
@@ -7,6 +8,7 @@ pub mod Entries
 pub mod Settings
 pub mod Sets
 pub mod Accepted
+pub mod Admitted
 pub mod Reading
 pub mod Written
 pub mod Once
@@ -17,6 +19,9 @@ pub mod Spans
 pub mod Halves
 pub mod Probe
 pub mod Packing
+pub mod Exit
 pub mod Decimal
 pub mod Blocks
-pub mod Examples
+pub mod BlockCounts
+pub mod BlockTexts
+pub mod Paper

@@ -1,6 +1,6 @@
--- Laws of lists that name each number once: what is in them after `insert`, `union`, `product` and `spread`; and of counts and entries of
--- any list. Assumes nothing.
-use Prim.Native.Nat.{ℕ, zero, suc, _+_, _*_}
+-- Laws of lists that name each number once: what is in them after `insert`, `union`, `product` and `spread`; and of
+-- counts. Assumes nothing.
+use Prim.Native.Nat.{ℕ, _+_, _*_}
 use mathlib.Core.Path.{_≡_, refl, sym, ap, subst, fun-ext}
 use mathlib.Core.Logic.{_⊎_, inl, inr}
 use mathlib.Core.Bool.{Bool, true, false, cond}
@@ -9,7 +9,7 @@ use native.Mathlib.Nat.{zero-add, mul-zero, mul-suc}
 use native.Mathlib.Omega.{arith}
 use lib.Bits.{bitXor}
 use lib.Dec.{T, eqb, eqb→eq, eqb-refl}
-use lib.ListN.{length, getD}
+use lib.ListN.{length}
 use Rattle.rules.specs.Lists.{digit, member, insert, union, count}
 use Rattle.rules.proofs.Tests.{or-left, or-right, or-cases}
 use Rattle.rules.specs.Families.{Family, product, spread}
@@ -150,19 +150,3 @@ pub count-constant {ℓ} : {A : Type ℓ} (b : Bool) (s : List A) → count (λ 
 unfolding count
 count-constant b [] = sym (mul-zero (digit b))
 count-constant b (x ∷ s) = rw (count-constant b s) (omega (arith, mul-suc (digit b) (length s)))
-
--- ---- what holds of each entry of a list
-
-module _ {ℓ} {A : Type ℓ} (P : A → Type 0) where
-  abbrev pub Each : List A → Type 0
-  Each [] = Unit {0}
-  Each (x ∷ xs) = P x × Each xs
-
-  pub each-append : (xs ys : List A) → Each xs → Each ys → Each (xs ++ ys)
-  each-append [] ys hx hy = hy
-  each-append (x ∷ xs) ys hx hy = (hx .0, each-append xs ys (hx .1) hy)
-
-  pub each-at : (xs : List A) (d : A) → Each xs → P d → (i : ℕ) → P (getD xs i d)
-  each-at [] d h hd i = hd
-  each-at (x ∷ xs) d h hd zero = h .0
-  each-at (x ∷ xs) d h hd (suc i) = each-at xs d (h .1) hd i

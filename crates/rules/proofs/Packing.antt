@@ -12,8 +12,8 @@ use lib.Seq.{getD-append-add, getD-at}
 use Rattle.rules.specs.Lists.{member, tabulate}
 use Rattle.rules.specs.Records.{odd}
 use Rattle.rules.specs.Families.{Family, Families, constant}
-use Rattle.rules.specs.Slices.{packed, familyBytes, workBytes}
-use Rattle.rules.proofs.Lists.{Each, each-append, each-at}
+use Rattle.rules.specs.Slices.{packed, familyBytes, nodeBytes, workBytes}
+use Rattle.rules.proofs.Each.{Each, each-append, each-at}
 use Rattle.rules.proofs.Sets.{lowest-bit, other-bits, one-more-below}
 
 -- ---- the entries f 0, f 1, .. of a table
@@ -40,16 +40,16 @@ tabulate-each P f (suc n) h = each-append P (tabulate f n) (f n ∷ []) (tabulat
 
 -- ---- a byte's worth: n bits, bit i for the set A + i
 
-pub packed-below : (F : Family) (A n : ℕ) → packed F A n < 2 ^ n
-unfolding packed
-packed-below F A zero = omega arith
-packed-below F A (suc n) = one-more-below (member A F) (packed F (A + 1) n) n (packed-below F (A + 1) n)
-
 pub packed-bit : (F : Family) (A n i : ℕ) → i < n → odd (packed F A n / 2 ^ i) ≡ member (A + i) F
 unfolding packed
 packed-bit F A zero i h = absurd (omega arith)
 packed-bit F A (suc n) zero h = rw (div-one, lowest-bit, add-zero)
 packed-bit F A (suc n) (suc i) h = rw (other-bits, packed-bit F (A + 1) n i (omega arith), add-one, suc-add, add-suc)
+
+pub packed-below : (F : Family) (A n : ℕ) → packed F A n < 2 ^ n
+unfolding packed
+packed-below F A zero = omega arith
+packed-below F A (suc n) = one-more-below (member A F) (packed F (A + 1) n) n (packed-below F (A + 1) n)
 
 -- ---- a family in 128 bytes
 
@@ -65,10 +65,8 @@ family-bit F A h =
 
 -- ---- 256 bytes a node
 
-abbrev nodeBytes : Families → List ℕ
-nodeBytes F = familyBytes (F .settled) ++ familyBytes (F .glitch)
-
 node-length : (F : Families) → length (nodeBytes F) ≡ 256
+unfolding nodeBytes
 node-length F = simp (length-append, family-length)
 
 pub work-length : (Fs : List Families) → length (workBytes Fs) ≡ 256 * length Fs
@@ -90,9 +88,11 @@ work-at (F ∷ Fs) (suc i) j h l =
 
 -- 128 of them for the settled family, then 128 for the glitch family
 settled-at : (F : Families) (j : ℕ) → j < 128 → getD (nodeBytes F) j 0 ≡ getD (familyBytes (F .settled)) j 0
+unfolding nodeBytes
 settled-at F j h = List·getD-append (familyBytes (F .settled)) (familyBytes (F .glitch)) 0 j (omega (arith, family-length (F .settled)))
 
 glitch-at : (F : Families) (j : ℕ) → getD (nodeBytes F) (128 + j) 0 ≡ getD (familyBytes (F .glitch)) j 0
+unfolding nodeBytes
 glitch-at F j = rw (← family-length (F .settled)) (getD-append-add (familyBytes (F .settled)) (familyBytes (F .glitch)) j 0)
 
 -- set A of node i is bit A mod 8 of byte 256 × i + A / 8 for its settled family, and 128 bytes on for its glitch family
@@ -115,7 +115,7 @@ unfolding familyBytes
 family-byte F = tabulate-each Byte (λ j. packed F (8 * j) 8) 128 (λ j. packed-below F (8 * j) 8)
 
 work-each : (Fs : List Families) → Each Byte (workBytes Fs)
-unfolding workBytes
+unfolding workBytes nodeBytes
 work-each [] = tt
 work-each (F ∷ Fs) =
     each-append Byte (nodeBytes F) (workBytes Fs)

@@ -1,10 +1,10 @@
 -- Demand 3: where no tested node's glitch family holds a suspect set, the counts of mask settings agree on the feeding points of each tested
 -- node. Each node's settled family spans its value and its glitch family holds every pattern on its feeding points, by the rules of its kind;
 -- the weight 1 is balanced with every set that is not suspect. Assumes nothing.
-use Prim.Native.Nat.{ℕ, zero, suc, _+_, _<_, _≤_}
+use Prim.Native.Nat.{ℕ, _<_}
 use mathlib.Core.Path.{_≡_, refl, sym, ap, _∙_, subst, subst₃, fun-ext}
 use mathlib.Core.Logic.{_⊎_, inl, inr}
-use mathlib.Core.Bool.{Bool, true, false, cond, not, _&&_, _||_, xor, Bool·beq, and-true, and-assoc, and-self-left}
+use mathlib.Core.Bool.{Bool, true, false, cond, not, _&&_, Bool·beq, and-true, and-assoc, and-self-left}
 use mathlib.Core.List.{List, [], _∷_, _++_, map, append-assoc}
 use native.Mathlib.Omega.{arith}
 use native.Mathlib.Decide.{decLt}
@@ -13,20 +13,19 @@ use lib.ListN.{length, getD, length-append, List·getD-append, List·getD-eq-def
 use lib.Seq.{getD-at}
 use Rattle.rules.specs.Lists.{member, insert, union, count}
 use Rattle.rules.specs.Tables.{table}
-use Rattle.rules.specs.Records.{Class, secret, mask, Cell, input, NOT, XOR, AND, OR, register, Netlist}
+use Rattle.rules.specs.Records.{secret, mask, Cell, input, NOT, XOR, AND, OR, register, Netlist}
 use Rattle.rules.specs.Values.{Assignment, exclusiveOr, valueRule, values, feedingRule, feedings, feeding, howMany, settings, make, Pattern, matches, giving, CountsAgree}
 use Rattle.rules.specs.Families.{Family, Families, constant, spread, settledRule, glitchRule, familiesRule, families, familiesAt, holds, suspect}
-use Rattle.rules.specs.Checks.{answered, admitted, read}
 use Rattle.rules.specs.Slices.{reply}
 use Rattle.rules.specs.Demands.{Clear, NoSuspect, NothingSuspect, OneProbe}
 use Rattle.rules.proofs.Tests.{pass}
-use Rattle.rules.proofs.Lists.{member-cases, insert-old, count-map, count-ext, spread-first, spread-second}
+use Rattle.rules.proofs.Lists.{member-cases, insert-old, count-map, count-ext}
 use Rattle.rules.proofs.Tables.{table-keeps}
-use Rattle.rules.proofs.Reading.{admitted-read}
+use Rattle.rules.proofs.Admitted.{admitted-says}
 use Rattle.rules.proofs.Halves.{exactly-when}
-use Rattle.rules.proofs.Weights.{Sign, plus, twist, keep, pluses, minuses, Balanced, kept-sum, twisted-sum}
+use Rattle.rules.proofs.Weights.{plus, twist, keep, pluses, minuses, Balanced, kept-sum, twisted-sum}
 use Rattle.rules.proofs.Characters.{no-secret, masked}
-use Rattle.rules.proofs.Spans.{Flat, Spans, Holds, spans-input, spans-constant, spans-not, spans-xor, spans-and, spans-or, holds-nothing, holds-more, holds-point, holds-both}
+use Rattle.rules.proofs.Spans.{Spans, Holds, spans-input, spans-constant, spans-not, spans-xor, spans-and, spans-or, holds-nothing, holds-more, holds-point, holds-both}
 
 -- ---- patterns on points taken together
 
@@ -269,7 +268,7 @@ one-probe bytes entries work answers-clear n is-read i node =
     checked = exactly-when bytes entries work .0 answers-clear
 
     same-netlist : checked .netlist ≡ n
-    same-netlist = let e = admitted-read bytes entries work (checked .netlist) (checked .admits) in cc
+    same-netlist = let e = admitted-says bytes entries work (checked .netlist) (checked .admits) .is-read in cc
 
     clean : NoSuspect n
     clean = subst NoSuspect same-netlist (checked .noSuspect)

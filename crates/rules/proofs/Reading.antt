@@ -14,8 +14,8 @@ use lib.Seq.{take-all, getD-take}
 use borrow.Author.Tests.{leb-false, ltb-false, eqb-true}
 use Rattle.rules.specs.Lists.{member}
 use Rattle.rules.specs.Records.{Class, Cell, input, Record, end, variable, node, Netlist, most-variables, most-nodes, operands, setOf, recordBytes, size, variablesOut, nodesOut, writtenOut}
-use Rattle.rules.specs.Checks.{Outcome, answered, refused, overLimit, undeclared, undeclaredSet, notBelow, badOperand, recordAt, Progress, reading, finished, taken, step, after, most-records, outcomeOf, read, andThen, slicesFit, admitted}
-use Rattle.rules.proofs.Accepted.{answer, Accepted, accepted, size-most, total-unseen, Bytes, next-bytes}
+use Rattle.rules.specs.Checks.{Outcome, answered, refused, overLimit, undeclared, undeclaredSet, notBelow, badOperand, recordAt, Progress, reading, finished, taken, step, after, most-records, outcomeOf, read}
+use Rattle.rules.proofs.Accepted.{Accepted, accepted, size-most, total-unseen, Bytes, next-bytes}
 
 -- a netlist obeys the record rules
 pub record WellFormed (n : Netlist) : Type 0 where
@@ -242,14 +242,3 @@ after-first bytes (suc k) = rw (after-first bytes k) (same (after bytes k) (kept
 -- reading only the first 1,024 bytes gives the same outcome
 pub read-first : (bytes : List ℕ) → read (take 1024 bytes) ≡ read bytes
 read-first bytes = cc (always-finished bytes, always-finished (take 1024 bytes), after-first bytes most-records)
-
--- ---- the lent slices
-
--- a netlist that is checked is the one that is read
-pub admitted-read : (bytes : List ℕ) (entries work : ℕ) (n : Netlist) → admitted bytes entries work ≡ answered n → read bytes ≡ answered n
-unfolding admitted andThen slicesFit
-admitted-read bytes entries work n = go (read bytes)
-  where
-    go : (o : Outcome Netlist) → andThen o (slicesFit entries work) ≡ answered n → o ≡ answered n
-    go (answered m) e = ap answered (answer _ m n e)
-    go (refused number place) e = cc

@@ -8,10 +8,10 @@ use mathlib.Core.Bool.{Bool, true, false, not, _&&_, _||_, xor, Bool·beq}
 use mathlib.Core.List.{List, [], _∷_}
 use lib.Bits.{bitXor}
 use lib.Dec.{T}
-use Rattle.rules.specs.Lists.{member, insert}
+use Rattle.rules.specs.Lists.{member}
 use Rattle.rules.specs.Values.{Assignment, exclusiveOr}
 use Rattle.rules.specs.Families.{Family, product, spread}
-use Rattle.rules.proofs.Lists.{member-head, insert-old, product-holds, spread-empty, spread-first, spread-second, spread-both}
+use Rattle.rules.proofs.Lists.{member-head, product-holds, spread-empty, spread-first, spread-second, spread-both}
 use Rattle.rules.proofs.Weights.{Sign, plus, minus, nought, twist, keep, twist-twist, twist-swap, keep-twist, keep-keep, Weight, Halves, Balanced, balanced-ext, balanced-halves, balanced-flip, balanced-nought}
 use Rattle.rules.proofs.Characters.{exclusiveOr-difference, exclusiveOr-empty}
 

@@ -1,12 +1,13 @@
--- Laws of tables, over the entries' type, the nodes' type and the step: length, append, the entries so far are kept, and each entry is the
--- step from those before it, whatever nodes come later. Assumes nothing.
-use Prim.Native.Nat.{ℕ, zero, suc, _+_, _<_}
+-- Laws of tables, over the entries' type, the nodes' type and the step: length, append, one node more, the first nodes; the entries so far
+-- are kept, and each entry is the step from those before it, whatever nodes come later. Assumes nothing.
+use Prim.Native.Nat.{ℕ, zero, suc, _+_, _≤_, _<_}
 use mathlib.Core.Path.{_≡_, refl, sym, ap, _∙_, subst}
 use mathlib.Core.List.{List, [], _∷_, _++_, append-assoc}
-use native.Mathlib.Nat.{add-zero, zero-add, add-suc, suc-add, not-suc-le-zero, le-of-suc-le-suc, le-add-right, le-refl}
+use native.Mathlib.Nat.{add-zero, zero-add, not-suc-le-zero, le-of-suc-le-suc}
+use native.Mathlib.Decide.{decLe}
 use native.Mathlib.Omega.{arith}
-use lib.ListN.{length, getD, take, length-append, List·getD-append}
-use lib.Seq.{take-at, take-append-le, getD-at, getD-take, take-length}
+use lib.ListN.{length, getD, take, drop, length-append, take-append-drop}
+use lib.Seq.{take-at, take-all, length-take-le, getD-at}
 use Rattle.rules.specs.Tables.{table}
 
 module _ {ℓ κ} {A : Type ℓ} {B : Type κ} (step : List A → B → A) where
@@ -32,6 +33,27 @@ module _ {ℓ κ} {A : Type ℓ} {B : Type κ} (step : List A → B → A) where
   table-keeps done (b ∷ nodes) =
       let more = table-keeps (done ++ (step done b ∷ [])) nodes in
       (step done b ∷ more .0, more .1 ∙ append-assoc done (step done b ∷ []) (more .0))
+
+  -- one node more is one entry more
+  pub table-snoc : (nodes : List B) (b : B) → table step [] (nodes ++ (b ∷ [])) ≡ table step [] nodes ++ (step (table step [] nodes) b ∷ [])
+  unfolding table
+  table-snoc nodes b = table-append [] nodes (b ∷ [])
+
+  -- the first entries are those of the first nodes
+  pub table-take : (nodes : List B) (k : ℕ) → take k (table step [] nodes) ≡ table step [] (take k nodes)
+  table-take nodes k = go (decLe k (length nodes))
+    where
+      first : List A
+      first = table step [] (take k nodes)
+
+      all : table step [] nodes ≡ table step first (drop k nodes)
+      all = ap (table step []) (sym (take-append-drop k nodes)) ∙ table-append [] (take k nodes) (drop k nodes)
+
+      go : Dec (k ≤ length nodes) → take k (table step [] nodes) ≡ first
+      go (yes h) =
+          let (rest, kept) = table-keeps first (drop k nodes) in
+          rw (all, kept) (take-at first rest k (omega (arith, table-length [] (take k nodes), length-take-le k nodes h)))
+      go (no h) = rw (take-all k nodes (omega arith)) (take-all k _ (omega (arith, table-length [] nodes)))
 
   -- from the entries `done` on, the entry of node i is the step from all those before it
   entry-from : (done : List A) (nodes : List B) (i : ℕ) (a : A) (b : B) → i < length nodes

@@ -2,8 +2,8 @@
 -- proof of demand 3. A sum is told by its count of +1 and its count of -1, so that natural numbers are enough.
 -- Assumes nothing.
 use Prim.Native.Nat.{ℕ, _+_, _*_}
-use mathlib.Core.Path.{_≡_, refl, sym, ap, _∙_, subst, fun-ext}
-use mathlib.Core.Bool.{Bool, true, false, not, _&&_, xor, Bool·beq}
+use mathlib.Core.Path.{_≡_, refl, subst, fun-ext}
+use mathlib.Core.Bool.{Bool, true, false, not, _&&_, xor}
 use mathlib.Core.List.{List, [], _∷_}
 use native.Mathlib.Omega.{arith}
 use Rattle.rules.specs.Lists.{digit, count}

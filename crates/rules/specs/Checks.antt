@@ -140,9 +140,17 @@ slicesFit entries work n =
 unfoldable pub admitted : List ℕ → (entries work : ℕ) → Outcome Netlist
 admitted bytes entries work = andThen (read bytes) (slicesFit entries work)
 
--- a query of a node, with an assignment or a set
-unfoldable pub nodeThere : (node : ℕ) → Netlist → Outcome Netlist
-nodeThere i n = judged (check 12 (leb (length (n .nodes)) i) i ∷ []) n
+-- what a query asks of node i, and after that of an assignment or a set
+unfoldable pub nodeCheck : (node : ℕ) → Netlist → Check
+nodeCheck i n = check 12 (leb (length (n .nodes)) i) i
 
-unfoldable pub variablesThere : (number : ℕ) → Netlist → Outcome Netlist
-variablesThere s n = judged (check 13 (undeclared (length (n .variables)) s) s ∷ []) n
+unfoldable pub numberCheck : (number : ℕ) → Netlist → Check
+numberCheck s n = check 13 (undeclared (length (n .variables)) s) s
+
+-- the netlist of a query of a node, or the refusal
+unfoldable pub queried : List ℕ → (node : ℕ) → Outcome Netlist
+queried bytes i = andThen (read bytes) (λ n. judged (nodeCheck i n ∷ []) n)
+
+-- and of a query of a node with an assignment or a set
+unfoldable pub queriedWith : List ℕ → (node number : ℕ) → Outcome Netlist
+queriedWith bytes i s = andThen (read bytes) (λ n. judged (nodeCheck i n ∷ numberCheck s n ∷ []) n)

@@ -6,7 +6,7 @@ use mathlib.Core.List.{List}
 use lib.Dec.{T}
 use lib.ListN.{length, getD}
 use Rattle.rules.specs.Lists.{member}
-use Rattle.rules.specs.Records.{Cell, input, Netlist}
+use Rattle.rules.specs.Records.{input, Netlist}
 use Rattle.rules.specs.Values.{feeding, CountsAgree}
 use Rattle.rules.specs.Families.{familiesAt, suspect, tested, clear, Findings}
 use Rattle.rules.specs.Checks.{Outcome, answered, refused, read, admitted}

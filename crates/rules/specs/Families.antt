@@ -1,6 +1,6 @@
 -- Document 01, "Rules for the two families": the families of each node, suspects, and the two halves of the answer. Source document 001
 -- calls the settled family the stable set of labels and the glitch family the transient one. Assumes nothing.
-use Prim.Native.Nat.{ℕ, zero, suc, min, _/_}
+use Prim.Native.Nat.{ℕ, suc, min, _/_}
 use mathlib.Core.Bool.{Bool, true, false, not, cond, _&&_, _||_}
 use mathlib.Core.List.{List, [], _∷_, map}
 use mathlib.Core.Option.{Option, none, some}

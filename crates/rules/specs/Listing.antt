@@ -2,12 +2,12 @@
 use Prim.Native.Nat.{ℕ, zero, suc, _+_, _/_, _%_}
 use Prim.Native.Char.{code}
 use Prim.Native.String.{String, [] as no-text, _∷_ as _followed-by_}
-use mathlib.Core.Bool.{Bool, true, false}
+use mathlib.Core.Bool.{true, false}
 use mathlib.Core.List.{List, [], _∷_, _++_}
 use lib.Dec.{ltb}
 use lib.ListN.{length}
 use Rattle.rules.specs.Records.{Cell, input, NOT, XOR, AND, OR, register, Netlist}
-use Rattle.rules.specs.Families.{Families, families, Finding, clear, suspectAt, Findings, findings}
+use Rattle.rules.specs.Families.{Families, families, Finding, clear, suspectAt, findings}
 use Rattle.rules.specs.Checks.{Outcome, answered, refused, read}
 
 -- the bytes of a word

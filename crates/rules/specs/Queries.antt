@@ -7,7 +7,7 @@ use Rattle.rules.specs.Lists.{member, tabulate}
 use Rattle.rules.specs.Records.{Netlist, most-nodes, bits}
 use Rattle.rules.specs.Values.{values, feeding}
 use Rattle.rules.specs.Families.{familiesAt}
-use Rattle.rules.specs.Checks.{Outcome, answered, refused, andThen, read, nodeThere, variablesThere}
+use Rattle.rules.specs.Checks.{Outcome, answered, refused, queried, queriedWith}
 
 -- the reply to a query: whether it was refused, and what it gives all the same
 pub record Given (A : Type 0) : Type 0 where
@@ -23,13 +23,13 @@ given instead f (refused k p) = record { outcome = refused k p; gives = instead 
 unfoldable pub valueQuery : List ℕ → (node assignment : ℕ) → Given Bool
 valueQuery bytes i x =
     given false (λ n. getD (values n (bits (length (n .variables)) x)) i false)
-    (andThen (andThen (read bytes) (nodeThere i)) (variablesThere x))
+    (queriedWith bytes i x)
 
 -- the feeding points of a node, as 200 yes-or-no marks by node number; refused: every mark no
 unfoldable pub feedingQuery : List ℕ → (node : ℕ) → Given (List Bool)
 feedingQuery bytes i =
     given (tabulate (λ j. false) most-nodes) (λ n. tabulate (λ j. member j (feeding n i)) most-nodes)
-    (andThen (read bytes) (nodeThere i))
+    (queried bytes i)
 
 -- whether a set is in the settled family, and whether it is in the glitch family
 pub record Memberships : Type 0 where
@@ -41,4 +41,4 @@ unfoldable pub membershipQuery : List ℕ → (node set : ℕ) → Given Members
 membershipQuery bytes i A =
     given (record { settled = false; glitch = false })
     (λ n. record { settled = member A (familiesAt n i .settled); glitch = member A (familiesAt n i .glitch) })
-    (andThen (andThen (read bytes) (nodeThere i)) (variablesThere A))
+    (queriedWith bytes i A)

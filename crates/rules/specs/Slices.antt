@@ -28,9 +28,12 @@ unfoldable pub familyBytes : Family → List ℕ
 familyBytes F = tabulate (λ j. packed F (8 * j) 8) 128
 
 -- 256 bytes a node: 128 for the settled family, then 128 for the glitch family
+unfoldable pub nodeBytes : Families → List ℕ
+nodeBytes F = familyBytes (F .settled) ++ familyBytes (F .glitch)
+
 unfoldable pub workBytes : List Families → List ℕ
 workBytes [] = []
-workBytes (F ∷ Fs) = (familyBytes (F .settled) ++ familyBytes (F .glitch)) ++ workBytes Fs
+workBytes (F ∷ Fs) = nodeBytes F ++ workBytes Fs
 
 -- what a slice holds at exit: what an answer writes, and beyond that what stood there; on a refusal what stood there
 unfoldable pub filled {ℓ} : {A : Type ℓ} → (Netlist → List A) → Outcome Netlist → (before : List A) → List A

@@ -1,53 +1,16 @@
--- Computed examples beside the theorems: the mistakes that document 01 does not forgive, each with a block that shows it; a block whose counts
--- differ; and a block that the families refuse though its settled value gives nothing away. Assumes nothing.
-use Prim.Native.Nat.{ℕ}
+-- Counts of mask settings that antt computes: a block whose counts differ, so that the statement of demand 3 is not empty, and one that the
+-- families refuse though its settled value gives nothing away; and what feeds the last gate of block B. Assumes nothing.
 use mathlib.Core.Path.{_≡_, refl, sym, _∙_}
 use mathlib.Core.Bool.{Bool, true, false, xor, _&&_, Bool·beq}
 use mathlib.Core.List.{List, [], _∷_}
 use lib.ListN.{getD}
 use Rattle.rules.specs.Lists.{member, insert, union, count}
 use Rattle.rules.specs.Tables.{table}
-use Rattle.rules.specs.Records.{Class, secret, mask, Cell, input, NOT, XOR, AND, OR, register, Netlist}
+use Rattle.rules.specs.Records.{secret, mask, input, NOT, XOR, AND, register, Netlist}
 use Rattle.rules.specs.Values.{exclusiveOr, valueRule, values, feedingRule, feedings, feeding, same, howMany, settings, next, others, make, Pattern, matches, giving, CountsAgree}
-use Rattle.rules.specs.Families.{clear, suspectAt}
 use Rattle.rules.specs.Checks.{answered, read}
-use Rattle.rules.specs.Blocks.{Block, answers, P9, P10, P12, P14-without}
-use Rattle.rules.proofs.Lists.{Each}
-use Rattle.rules.proofs.Blocks.{replyTo, Right, right, _and_}
-
--- ---- mistakes
-
--- variables secret, mask, mask; inputs 3, 2 and 4; 3 AND(0,2); 4 AND(1,2); 5 XOR(3,4), in whose product each set arises twice
-abbrev pub arises-twice : Block
-arises-twice = record {
-  bytes = 0x01 ∷ 0x00 ∷ 0x01 ∷ 0x01 ∷ 0x01 ∷ 0x01 ∷ 0x02 ∷ 0x03 ∷ 0x00 ∷ 0x02 ∷ 0x02 ∷ 0x00 ∷ 0x02 ∷ 0x04 ∷ 0x00 ∷ 0x05 ∷ 0x00 ∷ 0x02 ∷ 0x05 ∷ 0x01 ∷ 0x02 ∷ 0x04 ∷ 0x03 ∷ 0x04 ∷ 0x00 ∷ [];
-  expected = answers (suspectAt 5 1) (suspectAt 5 1) 3 6;
-}
-
--- variables secret, public; input 3; NOT of it
-abbrev pub public-beside-secret : Block
-public-beside-secret = record {
-  bytes = 0x01 ∷ 0x00 ∷ 0x01 ∷ 0x02 ∷ 0x02 ∷ 0x03 ∷ 0x00 ∷ 0x03 ∷ 0x00 ∷ 0x00 ∷ [];
-  expected = answers (suspectAt 1 3) (suspectAt 1 3) 2 2;
-}
-
--- a set of publics alone is not suspect: variable public; input 1; NOT of it
-abbrev pub publics-alone : Block
-publics-alone = record {
-  bytes = 0x01 ∷ 0x02 ∷ 0x02 ∷ 0x01 ∷ 0x00 ∷ 0x03 ∷ 0x00 ∷ 0x00 ∷ [];
-  expected = answers clear clear 1 2;
-}
-
--- A register that passed on its operand's glitch family would name a suspect in P10, and the settled XOR rule between registers none in P9.
-pub mistakes : Each Right (P10 ∷ P9 ∷ arises-twice ∷ public-beside-secret ∷ publics-alone ∷ [])
-unfolding replyTo
-mistakes =
-    right P10 refl
-    and right P9 refl
-    and right arises-twice refl
-    and right public-beside-secret refl
-    and right publics-alone refl
-    and tt
+use Rattle.rules.specs.Blocks.{P10, P12, P14-without}
+use Rattle.rules.proofs.Blocks.{replyTo}
 
 -- ---- counts that differ
 
@@ -118,3 +81,21 @@ p12-once z p (false ∷ s) = go (z 4)
 pub p12-settled-clean : CountsAgree p12 (4 ∷ [])
 unfolding CountsAgree
 p12-settled-clean p s t z = p12-once z p s ∙ sym (p12-once z p t)
+
+-- ---- feeding points
+
+-- P10, block B: the netlist that its bytes are
+abbrev pub p10 : Netlist
+p10 = record {
+  variables = secret ∷ mask ∷ mask ∷ [];
+  nodes = input 3 ∷ input 2 ∷ input 4 ∷ XOR 0 2 ∷ register 3 ∷ XOR 4 1 ∷ [];
+}
+
+pub p10-read : read (P10 .bytes) ≡ answered p10
+unfolding replyTo
+p10-read = refl
+
+-- its XOR behind the register is fed by the register and by input 1, and the register by itself only
+pub p10-feeding : (feeding p10 5 ≡ 4 ∷ 1 ∷ []) × (feeding p10 4 ≡ 4 ∷ [])
+unfolding member insert union table feedingRule feedings feeding
+p10-feeding = (refl, refl)

@@ -1,0 +1,84 @@
+-- The definitions of the paper's numbers and values lose nothing: a refusal is told by its number and place, and a reply by what it says. So a
+-- promise about what a reply says determines the reply. Assumes nothing.
+use Prim.Native.Nat.{ℕ, pred}
+use mathlib.Core.Path.{_≡_, refl, sym, ap, ap₂, _∙_}
+use mathlib.Core.List.{[], _∷_}
+use lib.ListN.{getD}
+use Rattle.rules.specs.declared.Half.{Half}
+use Rattle.rules.specs.declared.Half.the-variants.{Clear, Suspect}
+use Rattle.rules.specs.declared.Refusal.{Refusal}
+use Rattle.rules.specs.declared.Refusal.the-variants.{UnknownKind, LateVariable, OverLimit, CutShort, UnknownClass, UndeclaredSet, BadOperand, NoEnd, BytesAfterEnd, FewEntries, ShortWork, NoSuchNode, UndeclaredBit}
+use Rattle.rules.specs.declared.Reply.{Reply}
+use Rattle.rules.specs.declared.Reply.the-variants.{Refused, Answered}
+use Rattle.rules.specs.Families.{Finding, clear, suspectAt, Findings}
+use Rattle.rules.specs.Checks.{Outcome, answered, refused}
+use Rattle.rules.specs.Paper.{numberOf, placeOf, findingOf, replyOf}
+
+-- the refusal with this number and place
+refusalOf : ℕ → ℕ → Refusal
+refusalOf k p =
+    getD
+    (UnknownKind p
+    ∷ LateVariable p
+    ∷ OverLimit p
+    ∷ CutShort p
+    ∷ UnknownClass p
+    ∷ UndeclaredSet p
+    ∷ BadOperand p
+    ∷ NoEnd p
+    ∷ BytesAfterEnd p
+    ∷ FewEntries p
+    ∷ ShortWork p
+    ∷ NoSuchNode p
+    ∷ UndeclaredBit p
+    ∷ [])
+    (pred k)
+    (UnknownKind p)
+
+told : (r : Refusal) → refusalOf (numberOf r) (placeOf r) ≡ r
+unfolding refusalOf
+told (UnknownKind p) = refl
+told (LateVariable p) = refl
+told (OverLimit p) = refl
+told (CutShort p) = refl
+told (UnknownClass p) = refl
+told (UndeclaredSet p) = refl
+told (BadOperand p) = refl
+told (NoEnd p) = refl
+told (BytesAfterEnd p) = refl
+told (FewEntries p) = refl
+told (ShortWork p) = refl
+told (NoSuchNode p) = refl
+told (UndeclaredBit p) = refl
+
+-- a refusal is told by its number and place
+pub same-refusal : (r q : Refusal) → numberOf r ≡ numberOf q → placeOf r ≡ placeOf q → r ≡ q
+same-refusal r q e f = sym (told r) ∙ ap₂ refusalOf e f ∙ told q
+
+-- a half by what it says
+halfOf : Finding → Half
+halfOf clear = Clear
+halfOf (suspectAt i A) = Suspect i A
+
+half-told : (h : Half) → halfOf (findingOf h) ≡ h
+unfolding halfOf
+half-told Clear = refl
+half-told (Suspect i A) = refl
+
+pub same-half : (h k : Half) → findingOf h ≡ findingOf k → h ≡ k
+same-half h k e = sym (half-told h) ∙ ap halfOf e ∙ half-told k
+
+-- and a reply by what it says
+replySaying : Outcome Findings → Reply
+replySaying (refused k p) = Refused (refusalOf k p)
+replySaying (answered a) =
+    Answered (record { variables = a .variables; nodes = a .nodes; settled = halfOf (a .settled); glitch = halfOf (a .glitch) })
+
+reply-told : (r : Reply) → replySaying (replyOf r) ≡ r
+unfolding replySaying
+reply-told (Refused r) = ap Refused (told r)
+reply-told (Answered a) =
+    ap₂ (λ (s g : Half). Answered (record { variables = a .variables; nodes = a .nodes; settled = s; glitch = g })) (half-told (a .settled)) (half-told (a .glitch))
+
+pub same-reply : (r q : Reply) → replyOf r ≡ replyOf q → r ≡ q
+same-reply r q e = sym (reply-told r) ∙ ap replySaying e ∙ reply-told q
