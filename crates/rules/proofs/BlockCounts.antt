@@ -3,6 +3,7 @@
 use mathlib.Core.Path.{_≡_, refl, sym, _∙_}
 use mathlib.Core.Bool.{Bool, true, false, xor, _&&_, Bool·beq}
 use mathlib.Core.List.{List, [], _∷_}
+use native.Mathlib.Omega.{arith}
 use lib.ListN.{getD}
 use Rattle.rules.specs.Lists.{member, insert, union, count}
 use Rattle.rules.specs.Tables.{table}
@@ -43,11 +44,24 @@ p14-without-read = refl
 abbrev pub all-zero : Pattern
 all-zero i = false
 
+-- its three masks have 8 settings, each of which gives the pattern on no points
+pub p14-settings : giving p14-without [] all-zero [] [] ≡ 8
+unfolding count settings same howMany matches giving
+p14-settings = refl
+
 -- On the feeding points of node 10, beside a = b = 0 one mask setting gives the pattern of zeros, and beside a = 0, b = 1 none does.
 pub counts-differ : (giving p14-without (feeding p14-without 10) all-zero [] (false ∷ false ∷ []) ≡ 1)
     × (giving p14-without (feeding p14-without 10) all-zero [] (false ∷ true ∷ []) ≡ 0)
 unfolding member insert union count table xor exclusiveOr valueRule values feedingRule feedings feeding same howMany settings next others make matches giving
 counts-differ = (refl, refl)
+
+-- so the counts do not agree there
+pub p14-leaks : ¬ CountsAgree p14-without (feeding p14-without 10)
+unfolding CountsAgree
+p14-leaks agree =
+    let (one, none) = counts-differ in
+    let same-count = agree [] (false ∷ false ∷ []) (false ∷ true ∷ []) all-zero in
+    omega arith
 
 -- ---- a refused block whose settled value gives nothing away
 
@@ -59,24 +73,16 @@ pub p12-read : read (P12 .bytes) ≡ answered p12
 unfolding replyTo
 p12-read = refl
 
--- the settled value of node 4 is as often 0 as 1, whatever the secret is
+-- each value of node 4 is given by one of the two mask settings, whatever the secret is
 p12-once : (z : Pattern) (p s : List Bool) → giving p12 (4 ∷ []) z p s ≡ 1
 unfolding count table xor exclusiveOr valueRule values same howMany settings next others make matches giving
-p12-once z p [] = go (z 4)
+p12-once z p s = go (next s) (z 4)
   where
-    go : (b : Bool) → count (λ (m : List Bool). Bool·beq (getD (values p12 (make (p12 .variables) [] m p)) 4 false) b && true) (settings 1) ≡ 1
-    go true = refl
-    go false = refl
-p12-once z p (true ∷ s) = go (z 4)
-  where
-    go : (b : Bool) → count (λ (m : List Bool). Bool·beq (getD (values p12 (make (p12 .variables) (true ∷ s) m p)) 4 false) b && true) (settings 1) ≡ 1
-    go true = refl
-    go false = refl
-p12-once z p (false ∷ s) = go (z 4)
-  where
-    go : (b : Bool) → count (λ (m : List Bool). Bool·beq (getD (values p12 (make (p12 .variables) (false ∷ s) m p)) 4 false) b && true) (settings 1) ≡ 1
-    go true = refl
-    go false = refl
+    go : (b c : Bool) → count (λ (m : List Bool). Bool·beq (getD (values p12 (b ∷ next m ∷ [])) 4 false) c && true) (settings 1) ≡ 1
+    go true true = refl
+    go true false = refl
+    go false true = refl
+    go false false = refl
 
 pub p12-settled-clean : CountsAgree p12 (4 ∷ [])
 unfolding CountsAgree

@@ -65,6 +65,7 @@ badOperand n (variable c) = false
 badOperand n (node cell) = notBelow n (operands cell)
 
 -- The record of kind k with the body b, c whose kind byte stands at `here`, in a file of `total` bytes, after `v` variables and `n` nodes.
+-- Row 8 stands first: where the bytes have run out there is no kind byte to judge.
 unfoldable pub judgedRecord : (total v n here k b c : ℕ) → Outcome Record
 judgedRecord total v n here k b c =
     let r = said k b c in

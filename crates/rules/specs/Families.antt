@@ -33,21 +33,29 @@ pub record Families : Type 0 where
 abbrev pub constant : Families
 constant = record { settled = 0 ∷ []; glitch = 0 ∷ [] }
 
+-- an operand's families
+abbrev settledOf : List Families → ℕ → Family
+settledOf done a = (getD done a constant) .settled
+
+abbrev glitchOf : List Families → ℕ → Family
+glitchOf done a = (getD done a constant) .glitch
+
+-- the table's two columns
 unfoldable pub settledRule : List Families → Cell → Family
 settledRule done (input s) = s ∷ []
-settledRule done (NOT a) = (getD done a constant) .settled
-settledRule done (XOR a b) = product ((getD done a constant) .settled) ((getD done b constant) .settled)
-settledRule done (AND a b) = spread ((getD done a constant) .settled) ((getD done b constant) .settled)
-settledRule done (OR a b) = spread ((getD done a constant) .settled) ((getD done b constant) .settled)
-settledRule done (register a) = (getD done a constant) .settled
+settledRule done (NOT a) = settledOf done a
+settledRule done (XOR a b) = product (settledOf done a) (settledOf done b)
+settledRule done (AND a b) = spread (settledOf done a) (settledOf done b)
+settledRule done (OR a b) = spread (settledOf done a) (settledOf done b)
+settledRule done (register a) = settledOf done a
 
 unfoldable pub glitchRule : List Families → Cell → Family
 glitchRule done (input s) = s ∷ []
-glitchRule done (NOT a) = insert 0 ((getD done a constant) .glitch)
-glitchRule done (XOR a b) = spread ((getD done a constant) .glitch) ((getD done b constant) .glitch)
-glitchRule done (AND a b) = spread ((getD done a constant) .glitch) ((getD done b constant) .glitch)
-glitchRule done (OR a b) = spread ((getD done a constant) .glitch) ((getD done b constant) .glitch)
-glitchRule done (register a) = (getD done a constant) .settled
+glitchRule done (NOT a) = insert 0 (glitchOf done a)
+glitchRule done (XOR a b) = spread (glitchOf done a) (glitchOf done b)
+glitchRule done (AND a b) = spread (glitchOf done a) (glitchOf done b)
+glitchRule done (OR a b) = spread (glitchOf done a) (glitchOf done b)
+glitchRule done (register a) = settledOf done a
 
 unfoldable pub familiesRule : List Families → Cell → Families
 familiesRule done cell = record { settled = settledRule done cell; glitch = glitchRule done cell }
