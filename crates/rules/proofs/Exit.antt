@@ -24,10 +24,10 @@ pub nodes-after-length : (bytes : List ℕ) (before : List Node) (work : ℕ) �
 unfolding nodesAfter
 nodes-after-length bytes before work =
     filled-length _ (admitted bytes (length before) work) before
-    (λ n e. simp length-map (admitted-says bytes (length before) work n e .enough-entries))
+    (λ n e. simp length-map (admitted-says bytes (length before) work n e .room .enough-entries))
 
 pub work-after-length : (bytes : List ℕ) (entries : ℕ) (before : List ℕ) → length (workAfter bytes entries before) ≡ length before
 unfolding workAfter families
 work-after-length bytes entries before =
     filled-length _ (admitted bytes entries (length before)) before
-    (λ n e. omega (arith, work-length (families n), table-length familiesRule [] (n .nodes), admitted-says bytes entries (length before) n e .enough-work))
+    (λ n e. omega (arith, work-length (families n), table-length familiesRule [] (n .nodes), admitted-says bytes entries (length before) n e .room .enough-work))

@@ -8,9 +8,9 @@ pub mod Entries
 pub mod Settings
 pub mod Sets
 pub mod Accepted
-pub mod Admitted
 pub mod Reading
 pub mod Written
+pub mod Admitted
 pub mod Once
 pub mod Bounds
 pub mod Weights

@@ -13,18 +13,9 @@ use lib.ListN.{length, getD, take, length-append, length-take}
 use lib.Seq.{take-all, getD-take}
 use borrow.Author.Tests.{leb-false, ltb-false, eqb-true}
 use Rattle.rules.specs.Lists.{member}
-use Rattle.rules.specs.Records.{Class, Cell, input, Record, end, variable, node, Netlist, most-variables, most-nodes, operands, setOf, recordBytes, size, variablesOut, nodesOut, writtenOut}
+use Rattle.rules.specs.Records.{Class, Cell, input, Record, end, variable, node, Netlist, WellFormed, withVariable, withNode, most-variables, most-nodes, operands, setOf, recordBytes, size, variablesOut, nodesOut, writtenOut}
 use Rattle.rules.specs.Checks.{Outcome, answered, refused, overLimit, undeclared, undeclaredSet, notBelow, badOperand, recordAt, Progress, reading, finished, taken, step, after, most-records, outcomeOf, read}
 use Rattle.rules.proofs.Accepted.{Accepted, accepted, size-most, total-unseen, Bytes, next-bytes}
-
--- a netlist obeys the record rules
-pub record WellFormed (n : Netlist) : Type 0 where
-  pub few-variables : length (n .variables) ≤ most-variables
-  pub few-nodes : length (n .nodes) ≤ most-nodes
-  -- each operand is a lower node
-  pub lower : (i : ℕ) → i < length (n .nodes) → (a : ℕ) → T (member a (operands (getD (n .nodes) i (input 0)))) → a < i
-  -- each input's set has declared variables only
-  pub declared : (i : ℕ) → i < length (n .nodes) → setOf (getD (n .nodes) i (input 0)) < 2 ^ length (n .variables)
 
 -- ---- what one more record keeps
 
@@ -50,13 +41,6 @@ snoc d P [] a old new zero h = new
 snoc d P [] a old new (suc i) h = absurd (omega arith)
 snoc d P (x ∷ l) a old new zero h = old 0 (omega arith)
 snoc d P (x ∷ l) a old new (suc i) h = snoc d (λ j. P (suc j)) l a (λ j q. old (suc j) (omega arith)) new i (omega arith)
-
--- a netlist with one more variable, and with one more node
-abbrev pub withVariable : Netlist → Class → Netlist
-withVariable n c = record { variables = n .variables ++ (c ∷ []); nodes = n .nodes }
-
-abbrev pub withNode : Netlist → Cell → Netlist
-withNode n c = record { variables = n .variables; nodes = n .nodes ++ (c ∷ []) }
 
 -- a netlist written out, without the end
 abbrev pub out : Netlist → List ℕ

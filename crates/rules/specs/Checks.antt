@@ -2,10 +2,10 @@
 -- says. Assumes nothing.
 use Prim.Native.Nat.{ℕ, zero, suc, _+_, _*_, _^_}
 use mathlib.Core.Bool.{Bool, true, false, _&&_, _||_}
-use mathlib.Core.List.{List, [], _∷_, _++_}
+use mathlib.Core.List.{List, [], _∷_}
 use lib.Dec.{leb, ltb}
 use lib.ListN.{length, getD}
-use Rattle.rules.specs.Records.{Record, end, variable, node, Netlist, most-variables, most-nodes, said, size, operands, setOf}
+use Rattle.rules.specs.Records.{Record, end, variable, node, Netlist, withVariable, withNode, most-variables, most-nodes, said, size, operands, setOf}
 
 -- something asked of the checker has an answer, or is refused with number and place
 pub data Outcome {ℓ} (A : Type ℓ) : Type ℓ where
@@ -95,14 +95,12 @@ pub data Progress : Type 0 where
   reading : Netlist → (here : ℕ) → Progress
   finished : Outcome Netlist → Progress
 
--- a variable or node goes behind those before it, and the end record ends the file
+-- the end record ends the file
 unfoldable pub taken : Netlist → (here : ℕ) → Outcome Record → Progress
 taken n here (refused k p) = finished (refused k p)
 taken n here (answered end) = finished (answered n)
-taken n here (answered (variable c)) =
-    reading (record { variables = n .variables ++ (c ∷ []); nodes = n .nodes }) (here + size (variable c))
-taken n here (answered (node c)) =
-    reading (record { variables = n .variables; nodes = n .nodes ++ (c ∷ []) }) (here + size (node c))
+taken n here (answered (variable c)) = reading (withVariable n c) (here + size (variable c))
+taken n here (answered (node c)) = reading (withNode n c) (here + size (node c))
 
 unfoldable pub step : List ℕ → Progress → Progress
 step bytes (reading n here) = taken n here (recordAt bytes n here)

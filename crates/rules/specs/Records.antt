@@ -1,11 +1,11 @@
 -- Document 01, "Netlist records": variables, nodes, and what the bytes of one record say. Which records are refused is in `Checks`.
 -- Assumes nothing.
-use Prim.Native.Nat.{ℕ, zero, suc, _+_, _*_, _/_, _%_}
+use Prim.Native.Nat.{ℕ, zero, suc, _+_, _*_, _/_, _%_, _^_, _≤_, _<_}
 use mathlib.Core.Bool.{Bool}
 use mathlib.Core.List.{List, [], _∷_, _++_}
-use lib.Dec.{eqb}
+use lib.Dec.{T, eqb}
 use lib.ListN.{length, getD}
-use Rattle.rules.specs.Lists.{digit}
+use Rattle.rules.specs.Lists.{digit, member}
 
 -- the class of a variable
 pub data Class : Type 0 where
@@ -28,6 +28,13 @@ pub data Record : Type 0 where
 pub record Netlist : Type 0 where
   pub variables : List Class
   pub nodes : List Cell
+
+-- a variable goes behind those before it, and so does a node
+abbrev pub withVariable : Netlist → Class → Netlist
+withVariable n c = record { variables = n .variables ++ (c ∷ []); nodes = n .nodes }
+
+abbrev pub withNode : Netlist → Cell → Netlist
+withNode n c = record { variables = n .variables; nodes = n .nodes ++ (c ∷ []) }
 
 -- at most 10 variables and 200 nodes
 abbrev pub most-variables : ℕ
@@ -117,6 +124,15 @@ nodesOut (cell ∷ nodes) = recordBytes (node cell) ++ nodesOut nodes
 
 unfoldable pub writtenOut : Netlist → List ℕ
 writtenOut n = variablesOut (n .variables) ++ nodesOut (n .nodes) ++ recordBytes end
+
+-- a netlist obeys the record rules
+pub record WellFormed (n : Netlist) : Type 0 where
+  pub few-variables : length (n .variables) ≤ most-variables
+  pub few-nodes : length (n .nodes) ≤ most-nodes
+  -- each operand is a lower node
+  pub lower : (i : ℕ) → i < length (n .nodes) → (a : ℕ) → T (member a (operands (getD (n .nodes) i (input 0)))) → a < i
+  -- each input's set has declared variables only
+  pub declared : (i : ℕ) → i < length (n .nodes) → setOf (getD (n .nodes) i (input 0)) < 2 ^ length (n .variables)
 
 -- A set's number is the sum of 2 to the power v over its variables v. So its lowest bit tells whether it holds variable 0, and half of it
 -- is the set of the other variables, each counted one lower.
