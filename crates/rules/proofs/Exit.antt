@@ -10,7 +10,7 @@ use Rattle.rules.specs.Families.{familiesRule, families}
 use Rattle.rules.specs.Checks.{Outcome, answered, refused, admitted}
 use Rattle.rules.specs.Slices.{filled, nodesAfter, workAfter}
 use Rattle.rules.proofs.Tables.{table-length}
-use Rattle.rules.proofs.Admitted.{admitted-says}
+use Rattle.rules.proofs.Room.{admitted-says}
 use Rattle.rules.proofs.Packing.{work-length}
 
 -- what is written fits, or nothing is written

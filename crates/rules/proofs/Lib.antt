@@ -7,10 +7,10 @@ pub mod Members
 pub mod Entries
 pub mod Settings
 pub mod Sets
-pub mod Accepted
+pub mod Records
 pub mod Reading
 pub mod Written
-pub mod Admitted
+pub mod Room
 pub mod Once
 pub mod Bounds
 pub mod Weights

@@ -21,7 +21,7 @@ use Rattle.rules.specs.Demands.{Clear, NoSuspect, NothingSuspect, OnePro
 use Rattle.rules.proofs.Tests.{pass}
 use Rattle.rules.proofs.Lists.{member-cases, insert-old, count-map, count-ext}
 use Rattle.rules.proofs.Tables.{table-keeps}
-use Rattle.rules.proofs.Admitted.{admitted-says}
+use Rattle.rules.proofs.Room.{admitted-says}
 use Rattle.rules.proofs.Halves.{exactly-when}
 use Rattle.rules.proofs.Weights.{plus, twist, keep, pluses, minuses, Balanced, kept-sum, twisted-sum}
 use Rattle.rules.proofs.Characters.{no-secret, masked}

@@ -15,7 +15,7 @@ use borrow.Author.Tests.{leb-false, ltb-false, eqb-true}
 use Rattle.rules.specs.Lists.{member}
 use Rattle.rules.specs.Records.{Class, Cell, input, Record, end, variable, node, Netlist, WellFormed, withVariable, withNode, most-variables, most-nodes, operands, setOf, recordBytes, size, variablesOut, nodesOut, writtenOut}
 use Rattle.rules.specs.Checks.{Outcome, answered, refused, overLimit, undeclared, undeclaredSet, notBelow, badOperand, recordAt, Progress, reading, finished, taken, step, after, most-records, outcomeOf, read}
-use Rattle.rules.proofs.Accepted.{Accepted, accepted, size-most, total-unseen, Bytes, next-bytes}
+use Rattle.rules.proofs.Records.{Accepted, accepted, size-most, total-unseen, Bytes, next-bytes}
 
 -- ---- what one more record keeps
 

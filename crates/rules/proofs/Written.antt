@@ -13,7 +13,7 @@ use Rattle.rules.specs.Lists.{member}
 use Rattle.rules.specs.Records.{Class, Cell, input, Record, end, variable, node, Netlist, WellFormed, most-variables, most-nodes, operands, recordBytes, size, variablesOut, nodesOut, writtenOut}
 use Rattle.rules.specs.Checks.{answered, isEnd, overLimit, undeclared, undeclaredSet, notBelow, badOperand, Progress, reading, taken, step, after, read}
 use Rattle.rules.proofs.Tests.{or-right}
-use Rattle.rules.proofs.Accepted.{Allowed, accept-out}
+use Rattle.rules.proofs.Records.{Allowed, accept-out}
 use Rattle.rules.proofs.Reading.{out, variables-append, nodes-append, out-variable, out-node, ends}
 
 -- the reading of a file comes to this

@@ -10,7 +10,7 @@ use Rattle.rules.specs.Records.{Netlist, WellFormed, most-nodes, written
 use Rattle.rules.specs.Families.{findings}
 use Rattle.rules.specs.Checks.{Outcome, answered, refused, andThen, judged, read, slicesFit, admitted}
 use Rattle.rules.specs.Slices.{reply}
-use Rattle.rules.proofs.Accepted.{passes, answer}
+use Rattle.rules.proofs.Records.{passes, answer}
 use Rattle.rules.proofs.Reading.{read-well-formed}
 use Rattle.rules.proofs.Written.{write-read}
 
