@@ -15,7 +15,9 @@ use Rattle.rules.specs.Blocks.{Block, answers, blocks, P1, P2, P3, P4, P
 
 -- the reply to a block in slices that hold every netlist; to unfold it is to compute it
 unfoldable pub replyTo : List ℕ → Outcome Findings
-unfolding member insert union count table classOf said size recordBytes kindOf body classByte operands setOf same product spread settledRule glitchRule familiesRule families holds suspect tested better reported mark marks lowest half findings andThen judged overLimit undeclared undeclaredSet notBelow badOperand judgedRecord recordAt taken step after outcomeOf read slicesFit admitted reply
+unfolding member insert union count table classOf said size recordBytes kindOf body classByte operands setOf same product spread settledRule
+    glitchRule familiesRule families holds suspect tested better reported mark marks lowest half findings andThen judged overLimit
+    undeclared undeclaredSet notBelow badOperand judgedRecord recordAt taken step after outcomeOf read slicesFit admitted reply
 replyTo bytes = reply bytes 200 51200
 
 -- the reply to a block is the expected one

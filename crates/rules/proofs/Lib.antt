@@ -1,27 +1,37 @@
--- What is proved of the rules.
+-- What is proved of the rules. Demand 3 is `one-probe` of `Probe` and `exactly-when` of `Halves`; the table P1 to P14 is `replies` of `Blocks`.
+
+-- tests, lists and tables
 pub mod Tests
 pub mod Each
 pub mod Lists
-pub mod Tables
 pub mod Members
+pub mod Tables
 pub mod Entries
-pub mod Settings
-pub mod Sets
+
+-- reading a file; the lent slices at exit; what replies say
 pub mod Records
 pub mod Reading
 pub mod Written
 pub mod Room
-pub mod Once
-pub mod Bounds
-pub mod Weights
-pub mod Characters
-pub mod Spans
-pub mod Halves
-pub mod Probe
+pub mod Sets
 pub mod Packing
 pub mod Exit
 pub mod Decimal
+pub mod Paper
+
+-- families, feeding points and the two halves of the answer
+pub mod Once
+pub mod Bounds
+pub mod Halves
+
+-- demand 3
+pub mod Settings
+pub mod Weights
+pub mod Characters
+pub mod Spans
+pub mod Probe
+
+-- what antt computes: the table, and examples
 pub mod Blocks
 pub mod BlockCounts
 pub mod BlockTexts
-pub mod Paper

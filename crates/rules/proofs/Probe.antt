@@ -103,7 +103,10 @@ module _ (K L : List Assignment) (settled : Assignment → List Bool) where
   good-point : (F : Family) (i : ℕ) (g : Assignment → Bool) → ((x : Assignment) → getD (settled x) i false ≡ g x) → Spans K L F g
       → Good (record { settled = F; glitch = F }) (i ∷ []) g
   unfolding matches
-  good-point F i g own sg = record { spans = sg; patterns = λ z. subst (λ (t : Assignment → Bool). Holds K L F t) (fun-ext (λ x. sym (and-true (Bool·beq (getD (settled x) i false) (z i)) ∙ ap (λ (b : Bool). Bool·beq b (z i)) (own x)))) (holds-point K L F g (z i) sg) }
+  good-point F i g own sg = record { spans = sg; patterns = λ z. subst (Holds K L F) (fun-ext (λ x. sym (named x z))) (holds-point K L F g (z i) sg) }
+    where
+      named : (x : Assignment) (z : Pattern) → (Bool·beq (getD (settled x) i false) (z i) && true) ≡ Bool·beq (g x) (z i)
+      named x z = and-true (Bool·beq (getD (settled x) i false) (z i)) ∙ ap (λ (b : Bool). Bool·beq b (z i)) (own x)
 
   -- a gate of two operands, whose patterns are those of both
   good-pair : (F G : Families) (P Q : List ℕ) (g h : Assignment → Bool) → Good F P g → Good G Q h
@@ -223,12 +226,19 @@ module _ (n : Netlist) (p : List Bool) where
 
       go : (b : Bool) → holds mask (n .variables) A ≡ b → Balanced (beside s) (beside t) (λ x. twist (exclusiveOr A x) plus)
       go true e =
-          let h : T (holds mask (n .variables) A) = pass e in
-          omega (arith, character-sum A s .0, character-sum A s .1, character-sum A t .0, character-sum A t .1, masked (n .variables) A s p h, masked (n .variables) A t p h)
+          let (plus-s, minus-s) = character-sum A s in
+          let (plus-t, minus-t) = character-sum A t in
+          let even-s = masked (n .variables) A s p (pass e) in
+          let even-t = masked (n .variables) A t p (pass e) in
+          omega arith
       go false e =
-          let h : T (not (holds secret (n .variables) A)) = no-secrets (holds secret (n .variables) A) (holds mask (n .variables) A) e clean in
-          let alike : (m : List Bool) → exclusiveOr A (made s m) ≡ exclusiveOr A (made t m) = λ m. no-secret (n .variables) A s t m p h in
-          omega (arith, character-sum A s .0, character-sum A s .1, character-sum A t .0, character-sum A t .1, count-ext (λ m. exclusiveOr A (made s m)) (λ m. exclusiveOr A (made t m)) masks alike, count-ext (λ m. not (exclusiveOr A (made s m))) (λ m. not (exclusiveOr A (made t m))) masks (λ m. ap not (alike m)))
+          let (plus-s, minus-s) = character-sum A s in
+          let (plus-t, minus-t) = character-sum A t in
+          let unseen = no-secrets (holds secret (n .variables) A) (holds mask (n .variables) A) e clean in
+          let alike : (m : List Bool) → exclusiveOr A (made s m) ≡ exclusiveOr A (made t m) = λ m. no-secret (n .variables) A s t m p unseen in
+          let same-ones = count-ext (λ m. exclusiveOr A (made s m)) (λ m. exclusiveOr A (made t m)) masks alike in
+          let same-zeros = count-ext (λ m. not (exclusiveOr A (made s m))) (λ m. not (exclusiveOr A (made t m))) masks (λ m. ap not (alike m)) in
+          omega arith
 
   -- the weight 1 on the settings that give a pattern
   pattern-sum : (points : List ℕ) (z : Pattern) (secrets : List Bool)
@@ -242,7 +252,10 @@ module _ (n : Netlist) (p : List Bool) where
   -- the weight 1 itself: there are as many mask settings beside the one as beside the other, and each gives the pattern on no points
   as-many : (s t : List Bool) (z : Pattern) → Balanced (beside s) (beside t) (λ x. plus)
   unfolding Balanced matches giving
-  as-many s t z = omega (arith, pattern-sum [] z s .0, pattern-sum [] z s .1, pattern-sum [] z t .0, pattern-sum [] z t .1)
+  as-many s t z =
+      let (plus-s, minus-s) = pattern-sum [] z s in
+      let (plus-t, minus-t) = pattern-sum [] z t in
+      omega arith
 
 -- a family that holds the patterns on some points
 abbrev pub HoldsPatterns : Netlist → List ℕ → Family → Type 0
@@ -254,7 +267,9 @@ pub counts-agree : (n : Netlist) (points : List ℕ) (F : Family) → HoldsPatte
 unfolding CountsAgree Balanced
 counts-agree n points F patterns clean p s t z =
     let balanced = patterns (beside n p s) (beside n p t) z (λ x. plus) (as-many n p s t z) (λ A inF. unsuspected n p s t A (clean A inF)) in
-    omega (arith, pattern-sum n p points z s .0, pattern-sum n p points z s .1, pattern-sum n p points z t .0, pattern-sum n p points z t .1)
+    let (plus-s, minus-s) = pattern-sum n p points z s in
+    let (plus-t, minus-t) = pattern-sum n p points z t in
+    omega arith
 
 -- ---- demand 3
 

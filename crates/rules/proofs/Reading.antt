@@ -36,7 +36,8 @@ operands-below own (x ∷ l) e a t =
     go false q s first others = others s
 
 -- what holds of each entry and of one more holds of each entry of the longer list
-snoc : {A : Type 0} (d : A) (P : ℕ → A → Type 0) (l : List A) (a : A) → ((i : ℕ) → i < length l → P i (getD l i d)) → P (length l) a → (i : ℕ) → i < length (l ++ (a ∷ [])) → P i (getD (l ++ (a ∷ [])) i d)
+snoc : {A : Type 0} (d : A) (P : ℕ → A → Type 0) (l : List A) (a : A) → ((i : ℕ) → i < length l → P i (getD l i d)) → P (length l) a
+    → (i : ℕ) → i < length (l ++ (a ∷ [])) → P i (getD (l ++ (a ∷ [])) i d)
 snoc d P [] a old new zero h = new
 snoc d P [] a old new (suc i) h = absurd (omega arith)
 snoc d P (x ∷ l) a old new zero h = old 0 (omega arith)
@@ -110,7 +111,9 @@ module _ (bytes : List ℕ) (k : ℕ) (n : Netlist) (here : ℕ) (r : Reached by
           lower =
               snoc (input 0) (λ i cell. (a : ℕ) → T (member a (operands cell)) → a < i) (n .nodes) c
               (r .formed .lower) (operands-below _ (operands c) (a .allowed .below));
-          declared = snoc (input 0) (λ i cell. setOf cell < 2 ^ length (n .variables)) (n .nodes) c (r .formed .declared) (leb-false _ _ (a .allowed .declared));
+          declared =
+              snoc (input 0) (λ i cell. setOf cell < 2 ^ length (n .variables)) (n .nodes) c (r .formed .declared)
+              (leb-false _ _ (a .allowed .declared));
         };
         short = omega (arith, size-most (node c));
         written = λ low. rw (out-node n c, ← r .written low) (next-bytes bytes n here (node c) low a);
@@ -129,7 +132,8 @@ Kept bytes k (reading n here) = Reached bytes k n here
 Kept bytes k (finished (answered n)) = Ended bytes n
 Kept bytes k (finished (refused number place)) = Unit {0}
 
-kept-taken : (bytes : List ℕ) (k : ℕ) (n : Netlist) (here : ℕ) (o : Outcome Record) → Reached bytes k n here → recordAt bytes n here ≡ o → Kept bytes (suc k) (taken n here o)
+kept-taken : (bytes : List ℕ) (k : ℕ) (n : Netlist) (here : ℕ) (o : Outcome Record) → Reached bytes k n here → recordAt bytes n here ≡ o
+    → Kept bytes (suc k) (taken n here o)
 unfolding taken
 kept-taken bytes k n here (refused number place) r e = tt
 kept-taken bytes k n here (answered end) r e = record { records = k; offset = here; reached = r; ended = accepted bytes n here end e }

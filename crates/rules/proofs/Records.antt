@@ -100,7 +100,8 @@ class-back (suc (suc zero)) h = refl
 class-back (suc (suc (suc b))) h = absurd (omega arith)
 
 -- three bytes that say a record begin with its writing-out
-said-bytes : (k b c : ℕ) → k ≤ 7 → b < 256 → (isVariable (said k b c) && ltb 2 b) ≡ false → recordBytes (said k b c) ≡ take (size (said k b c)) (k ∷ b ∷ c ∷ [])
+said-bytes : (k b c : ℕ) → k ≤ 7 → b < 256 → (isVariable (said k b c) && ltb 2 b) ≡ false
+    → recordBytes (said k b c) ≡ take (size (said k b c)) (k ∷ b ∷ c ∷ [])
 unfolding said size recordBytes kindOf body operands
 said-bytes zero b c h l e = refl
 said-bytes (suc zero) b c h l e = rw (class-back b (ltb-false 2 b e))
@@ -131,7 +132,8 @@ window (suc (suc (suc zero))) (x ∷ y ∷ z ∷ bytes) h l = refl
 window (suc (suc (suc (suc s)))) (x ∷ y ∷ z ∷ bytes) h l = absurd (omega arith)
 
 -- the bytes from an accepted record to the next are its writing-out
-pub next-bytes : (bytes : List ℕ) (n : Netlist) (here : ℕ) (r : Record) → Bytes bytes → Accepted bytes n here r → take (here + size r) bytes ≡ take here bytes ++ recordBytes r
+pub next-bytes : (bytes : List ℕ) (n : Netlist) (here : ℕ) (r : Record) → Bytes bytes → Accepted bytes n here r
+    → take (here + size r) bytes ≡ take here bytes ++ recordBytes r
 next-bytes bytes n here r low a =
     let from = window (size r) (drop here bytes) (size-most r) (simp length-drop (omega arith)) in
     let out = said-bytes _ _ (getD bytes (here + 2) 0) (a .kind) (low (here + 1)) (rw (a .says) (a .class)) in

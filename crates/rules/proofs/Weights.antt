@@ -147,8 +147,14 @@ module _ (K L : List Assignment) where
 
   pub balanced-flip : (w : Weight) → Balanced w → Balanced (λ x. twist true (w x))
   unfolding Balanced
-  balanced-flip w b = omega (arith, flipped-sum w K .0, flipped-sum w K .1, flipped-sum w L .0, flipped-sum w L .1)
+  balanced-flip w b =
+      let (plus-K, minus-K) = flipped-sum w K in
+      let (plus-L, minus-L) = flipped-sum w L in
+      omega arith
 
   pub balanced-nought : Balanced (λ x. nought)
   unfolding Balanced
-  balanced-nought = omega (arith, nought-sum K .0, nought-sum K .1, nought-sum L .0, nought-sum L .1)
+  balanced-nought =
+      let (plus-K, minus-K) = nought-sum K in
+      let (plus-L, minus-L) = nought-sum L in
+      omega arith

@@ -21,7 +21,8 @@ abbrev Comes : List ℕ → Progress → Type 0
 Comes bytes p = (k : ℕ) × (after bytes k ≡ p)
 
 -- a property of the empty list that stays with each next entry holds of the whole list
-along : {A : Type 0} (P : List A → Type 0) (l : List A) → P [] → ((done : List A) (a : A) (todo : List A) → l ≡ done ++ (a ∷ todo) → P done → P (done ++ (a ∷ []))) → P l
+along : {A : Type 0} (P : List A → Type 0) (l : List A) → P []
+    → ((done : List A) (a : A) (todo : List A) → l ≡ done ++ (a ∷ todo) → P done → P (done ++ (a ∷ []))) → P l
 along P [] base next = base
 along P (a ∷ l) base next =
     along (λ done. P (a ∷ done)) l (next [] a l refl base) (λ done b todo e p. next (a ∷ done) b todo (ap (_∷_ a) e) p)
@@ -54,7 +55,8 @@ module _ (n : Netlist) (w : WellFormed n) where
       (onwards (writtenOut n) (variablesOut todo ++ (nodesOut (n .nodes) ++ recordBytes end)) m (variable c)
       (simp (e, variables-append, append-nil, append-assoc)) (record { ordered = refl; room = lt-leb _ _ room; declared = refl; below = refl }) refl p)
 
-  next-node : (done : List Cell) (c : Cell) (todo : List Cell) → n .nodes ≡ done ++ (c ∷ todo) → Read n (n .variables) done → Read n (n .variables) (done ++ (c ∷ []))
+  next-node : (done : List Cell) (c : Cell) (todo : List Cell) → n .nodes ≡ done ++ (c ∷ todo) → Read n (n .variables) done
+      → Read n (n .variables) (done ++ (c ∷ []))
   unfolding size taken overLimit undeclaredSet undeclared badOperand writtenOut nodesOut
   next-node done c todo e p =
       let m : Netlist = record { variables = n .variables; nodes = done } in
