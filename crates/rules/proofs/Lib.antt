@@ -7,7 +7,6 @@ pub mod Lists
 pub mod Members
 pub mod Tables
 pub mod Entries
-
 -- reading a file; the lent slices at exit; what replies say
 pub mod Records
 pub mod Reading
@@ -18,19 +17,16 @@ pub mod Packing
 pub mod Exit
 pub mod Decimal
 pub mod Paper
-
 -- families, feeding points and the two halves of the answer
 pub mod Once
 pub mod Bounds
 pub mod Halves
-
 -- demand 3
 pub mod Settings
 pub mod Weights
 pub mod Characters
 pub mod Spans
 pub mod Probe
-
 -- what antt computes: the table, and examples
 pub mod Blocks
 pub mod BlockCounts
