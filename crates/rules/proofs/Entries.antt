@@ -1,7 +1,8 @@
--- What the rules keep holds at every node: a property of table entries that the default has and the step keeps is every entry's, and from
--- it, properties of feeding points and of families. So one induction over the nodes serves `Once` and `Bounds`. Assumes nothing.
+-- What the rules keep holds at every node: a property of the entries of tables over the same nodes, which the defaults have and the steps
+-- keep, is that of all entries; and from it, properties of feeding points and of families. So one induction over the nodes serves `Once`,
+-- `Bounds` and `Probe`. Assumes nothing.
 use Prim.Native.Nat.{ℕ, zero, suc, _≤_, _<_}
-use mathlib.Core.Path.{_≡_}
+use mathlib.Core.Path.{_≡_, sym, subst, fun-ext}
 use mathlib.Core.Bool.{Bool, true, false}
 use mathlib.Core.List.{List, [], _∷_}
 use native.Mathlib.Nat.{not-suc-le-zero}
@@ -17,41 +18,49 @@ use Rattle.rules.specs.Values.{feedingRule, feedings, feeding}
 use Rattle.rules.specs.Families.{Family, product, spread, Families, constant, settledRule, glitchRule, familiesRule, families, familiesAt}
 use Rattle.rules.proofs.Tables.{table-length, table-entry}
 
--- ---- a property of every entry of a table
+-- ---- a property of every entry, of several tables over the same nodes side by side
 
--- P n x says that x is right where n entries are done. The step keeps that: what is right stays so where more are done, the default is
--- right, and the step from right entries is right.
-pub record KeptByStep {ℓ κ μ} {A : Type ℓ} {B : Type κ} (step : List A → B → A) (nodes : List B) (a : A) (b : B) (P : ℕ → A → Type μ)
-    : Type (ℓ ⊔ μ) where
-  pub stays : (m n : ℕ) (x : A) → m ≤ n → P m x → P n x
-  pub default : P 0 a
-  pub stepped : (done : List A) → length done < length nodes → ((k : ℕ) → P (length done) (getD done k a))
-      → P (suc (length done)) (step done (getD nodes (length done) b))
+module _ {ξ ℓ κ μ} {X : Type ξ} {A : X → Type ℓ} {B : Type κ} (step : (x : X) → List (A x) → B → A x) (nodes : List B)
+    (a : (x : X) → A x) (b : B) (P : ℕ → ((x : X) → A x) → Type μ) where
+  abbrev pub tables : (x : X) → List (A x)
+  tables x = table (step x) [] nodes
 
-module _ {ℓ κ μ} {A : Type ℓ} {B : Type κ} (step : List A → B → A) (nodes : List B) (a : A) (b : B) (P : ℕ → A → Type μ) where
-  entries-below : KeptByStep step nodes a b P → (n i : ℕ) → i < n → P (suc i) (getD (table step [] nodes) i a)
+  -- P n e says that the entries e are right where n nodes are done. The steps keep that: what is right stays so where more are done, the
+  -- defaults are right, and the steps from right entries are right.
+  pub record KeptBySteps : Type (ξ ⊔ ℓ ⊔ μ) where
+    pub stays : (m n : ℕ) (e : (x : X) → A x) → m ≤ n → P m e → P n e
+    pub defaults : P 0 a
+    pub stepped : (i : ℕ) → i < length nodes → ((k : ℕ) → P i (λ x. getD (take i (tables x)) k (a x)))
+        → P (suc i) (λ x. step x (take i (tables x)) (getD nodes i b))
+
+  entries-below : KeptBySteps → (n i : ℕ) → i < n → P (suc i) (λ x. getD (tables x) i (a x))
   entries-below kept zero i h = absurd (not-suc-le-zero h)
   entries-below kept (suc n) i h = entry (decLt i (length nodes)) (λ k l. entries-below kept n k (omega arith))
     where
-      t : List A
-      t = table step [] nodes
+      beyond : (k m : ℕ) (l : (x : X) → List (A x)) → ((x : X) → length (l x) ≤ k) → P m (λ x. getD (l x) k (a x))
+      beyond k m l g =
+          subst (P m) (fun-ext (λ x. sym (List·getD-eq-default (l x) (a x) (g x)))) (kept .stays 0 m a (omega arith) (kept .defaults))
 
-      beyond : (k m : ℕ) (l : List A) → length l ≤ k → P m (getD l k a)
-      beyond k m l g = rw (List·getD-eq-default l a g) (kept .stays 0 m a (omega arith) (kept .default))
+      earlier : ((k : ℕ) → k < i → P (suc k) (λ x. getD (tables x) k (a x))) → (k : ℕ) → Dec (k < i)
+          → P i (λ x. getD (take i (tables x)) k (a x))
+      earlier before k (yes l) =
+          subst (P i) (fun-ext (λ x. sym (getD-take i (tables x) k (a x) l))) (kept .stays (suc k) i _ l (before k l))
+      earlier before k (no l) = beyond k i (λ x. take i (tables x)) (λ x. omega (arith, length-take i (tables x)))
 
-      earlier : ((k : ℕ) → k < i → P (suc k) (getD t k a)) → (k : ℕ) → Dec (k < i) → P i (getD (take i t) k a)
-      earlier before k (yes l) = rw (getD-take i t k a l) (kept .stays (suc k) i (getD t k a) l (before k l))
-      earlier before k (no l) = beyond k i (take i t) (omega (arith, length-take i t))
-
-      entry : Dec (i < length nodes) → ((k : ℕ) → k < i → P (suc k) (getD t k a)) → P (suc i) (getD t i a)
+      entry : Dec (i < length nodes) → ((k : ℕ) → k < i → P (suc k) (λ x. getD (tables x) k (a x))) → P (suc i) (λ x. getD (tables x) i (a x))
       entry (yes l) before =
-          let reached : length (take i t) ≡ i = length-take-le i t (omega (arith, table-length step [] nodes)) in
-          rw (table-entry step nodes i a b l) ((rw reached at (kept .stepped (take i t))) l (λ k. earlier before k (decLt k i)))
-      entry (no l) before = beyond i (suc i) t (omega (arith, table-length step [] nodes))
+          subst (P (suc i)) (fun-ext (λ x. sym (table-entry (step x) nodes i (a x) b l)))
+          (kept .stepped i l (λ k. earlier before k (decLt k i)))
+      entry (no l) before = beyond i (suc i) tables (λ x. omega (arith, table-length (step x) [] nodes))
 
   -- every entry is right, whatever the node's number
-  pub each-entry : KeptByStep step nodes a b P → (i : ℕ) → P (suc i) (getD (table step [] nodes) i a)
+  pub each-entry : KeptBySteps → (i : ℕ) → P (suc i) (λ x. getD (tables x) i (a x))
   each-entry kept i = entries-below kept (suc i) i (omega arith)
+
+-- so many entries are taken as there are nodes before
+pub length-done {ℓ κ} : {A : Type ℓ} {B : Type κ} (step : List A → B → A) (nodes : List B) (i : ℕ) → i < length nodes
+    → length (take i (table step [] nodes)) ≡ i
+length-done step nodes i h = length-take-le i (table step [] nodes) (omega (arith, table-length step [] nodes))
 
 -- ---- feeding points
 
@@ -75,24 +84,25 @@ module _ (n : Netlist) (P : ℕ → List ℕ → Type 0) (kept : KeptByFeeding n
   later : (i : ℕ) (F : List ℕ) → P i F → P (suc i) F
   later i F p = kept .stays i (suc i) F (omega arith) p
 
-  by-feeding : (done : List (List ℕ)) → ((k : ℕ) → P (length done) (getD done k [])) → (cell : Cell)
-      → (T (isPoint cell) → P (suc (length done)) (length done ∷ [])) → P (suc (length done)) (feedingRule done cell)
+  by-feeding : (done : List (List ℕ)) (i : ℕ) → length done ≡ i → ((k : ℕ) → P i (getD done k [])) → (cell : Cell)
+      → (T (isPoint cell) → P (suc i) (i ∷ [])) → P (suc i) (feedingRule done cell)
   unfolding feedingRule isPoint
-  by-feeding done before (input s) point = point tt
-  by-feeding done before (NOT a) point = later (length done) (getD done a []) (before a)
-  by-feeding done before (XOR a b) point = later (length done) _ (kept .joined (length done) _ _ (before a) (before b))
-  by-feeding done before (AND a b) point = later (length done) _ (kept .joined (length done) _ _ (before a) (before b))
-  by-feeding done before (OR a b) point = later (length done) _ (kept .joined (length done) _ _ (before a) (before b))
-  by-feeding done before (register a) point = point tt
+  by-feeding done i e before (input s) point = rw e (point tt)
+  by-feeding done i e before (NOT a) point = later i (getD done a []) (before a)
+  by-feeding done i e before (XOR a b) point = later i _ (kept .joined i _ _ (before a) (before b))
+  by-feeding done i e before (AND a b) point = later i _ (kept .joined i _ _ (before a) (before b))
+  by-feeding done i e before (OR a b) point = later i _ (kept .joined i _ _ (before a) (before b))
+  by-feeding done i e before (register a) point = rw e (point tt)
 
   -- the feeding points of every node are right
   pub each-feeding : (i : ℕ) → P (suc i) (feeding n i)
   unfolding feeding feedings
   each-feeding =
-      each-entry feedingRule (n .nodes) [] (input 0) P record {
-        stays = kept .stays;
-        default = kept .empty;
-        stepped = λ done there before. by-feeding done before (getD (n .nodes) (length done) (input 0)) (kept .alone (length done) there);
+      each-entry {X = Unit {0}} (λ x. feedingRule) (n .nodes) (λ x. []) (input 0) (λ i F. P i (F tt)) record {
+        stays = λ m i F h p. kept .stays m i (F tt) h p;
+        defaults = kept .empty;
+        stepped = λ i there before.
+            by-feeding _ i (length-done feedingRule (n .nodes) i there) before (getD (n .nodes) i (input 0)) (kept .alone i there);
       }
 
 -- ---- both families of a node
@@ -124,8 +134,8 @@ module _ (n : Netlist) (P : Family → Type 0) (kept : KeptByFamilies n P) where
   pub each-family : (i : ℕ) → P (familiesAt n i .settled) × P (familiesAt n i .glitch)
   unfolding familiesAt families familiesRule
   each-family =
-      each-entry familiesRule (n .nodes) constant (input 0) (λ i F. P (F .settled) × P (F .glitch)) record {
+      each-entry {X = Unit {0}} (λ x. familiesRule) (n .nodes) (λ x. constant) (input 0) (λ i F. P (F tt .settled) × P (F tt .glitch)) record {
         stays = λ m i F h p. p;
-        default = (kept .empty, kept .empty);
-        stepped = λ done there before. by-families done before (getD (n .nodes) (length done) (input 0)) (kept .alone (length done) there);
+        defaults = (kept .empty, kept .empty);
+        stepped = λ i there before. by-families _ before (getD (n .nodes) i (input 0)) (kept .alone i there);
       }

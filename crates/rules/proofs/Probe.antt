@@ -1,16 +1,14 @@
 -- Demand 3: where no tested node's glitch family holds a suspect set, the counts of mask settings agree on the feeding points of each tested
 -- node. Each node's settled family spans its value and its glitch family holds every pattern on its feeding points, by the rules of its kind;
 -- the weight 1 is balanced with every set that is not suspect. Assumes nothing.
-use Prim.Native.Nat.{ℕ, _<_}
-use mathlib.Core.Path.{_≡_, refl, sym, ap, _∙_, subst, subst₃, fun-ext}
+use Prim.Native.Nat.{ℕ}
+use mathlib.Core.Path.{_≡_, refl, sym, ap, _∙_, subst, fun-ext}
 use mathlib.Core.Logic.{_⊎_, inl, inr}
 use mathlib.Core.Bool.{Bool, true, false, cond, not, _&&_, Bool·beq, and-true, and-assoc, and-self-left}
-use mathlib.Core.List.{List, [], _∷_, _++_, map, append-assoc}
+use mathlib.Core.List.{List, [], _∷_, map}
 use native.Mathlib.Omega.{arith}
-use native.Mathlib.Decide.{decLt}
 use lib.Dec.{T}
-use lib.ListN.{length, getD, length-append, List·getD-append, List·getD-eq-default}
-use lib.Seq.{getD-at}
+use lib.ListN.{length, getD, take}
 use Rattle.rules.specs.Lists.{member, insert, union, count}
 use Rattle.rules.specs.Tables.{table}
 use Rattle.rules.specs.Records.{secret, mask, Cell, input, NOT, XOR, AND, OR, register, Netlist}
@@ -20,7 +18,8 @@ use Rattle.rules.specs.Slices.{reply}
 use Rattle.rules.specs.Demands.{Clear, NoSuspect, NothingSuspect, OneProbe}
 use Rattle.rules.proofs.Tests.{pass}
 use Rattle.rules.proofs.Lists.{member-cases, insert-old, count-map, count-ext}
-use Rattle.rules.proofs.Tables.{table-keeps}
+use Rattle.rules.proofs.Tables.{table-entry}
+use Rattle.rules.proofs.Entries.{each-entry, length-done}
 use Rattle.rules.proofs.Room.{admitted-says}
 use Rattle.rules.proofs.Halves.{exactly-when}
 use Rattle.rules.proofs.Weights.{plus, twist, keep, pluses, minuses, Balanced, kept-sum, twisted-sum}
@@ -72,18 +71,27 @@ matches-union settled (i ∷ P) Q z =
     ∙ ap (λ (b : Bool). Bool·beq (getD settled i false) (z i) && b) (matches-union settled P Q z)
     ∙ sym (and-assoc (Bool·beq (getD settled i false) (z i)) (matches settled P z) (matches settled Q z))
 
--- ---- one entry more
+-- ---- the three tables side by side
 
--- a table with e behind the entries l: before it those of l, then e, then the default
-module _ {ℓ} {A : Type ℓ} (l : List A) (e d : A) where
-  snoc-before : (j : ℕ) → j < length l → getD l j d ≡ getD (l ++ (e ∷ [])) j d
-  snoc-before j h = sym (List·getD-append l (e ∷ []) d j h)
+-- a node's families, its feeding points, and its value under each assignment
+data Layer : Type 0 where
+  familiesOf feedingOf : Layer
+  valueUnder : Assignment → Layer
 
-  snoc-at : (j : ℕ) → length l ≡ j → e ≡ getD (l ++ (e ∷ [])) j d
-  snoc-at j h = sym (getD-at l e [] d j h)
+abbrev Entry : Layer → Type 0
+Entry familiesOf = Families
+Entry feedingOf = List ℕ
+Entry (valueUnder x) = Bool
 
-  snoc-beyond : (j : ℕ) → length l < j → d ≡ getD (l ++ (e ∷ [])) j d
-  snoc-beyond j h = sym (List·getD-eq-default (l ++ (e ∷ [])) d {n = j} (omega (arith, length-append l (e ∷ []))))
+abbrev rule : (l : Layer) → List (Entry l) → Cell → Entry l
+rule familiesOf = familiesRule
+rule feedingOf = feedingRule
+rule (valueUnder x) = valueRule x
+
+abbrev default : (l : Layer) → Entry l
+default familiesOf = constant
+default feedingOf = []
+default (valueUnder x) = false
 
 -- ---- every node, over any two lists of assignments
 module _ (K L : List Assignment) (settled : Assignment → List Bool) where
@@ -91,9 +99,6 @@ module _ (K L : List Assignment) (settled : Assignment → List Bool) where
   record Good (F : Families) (points : List ℕ) (value : Assignment → Bool) : Type 0 where
     spans : Spans K L (F .settled) value
     patterns : (z : Pattern) → Holds K L (F .glitch) (λ x. matches (settled x) points z)
-
-  good-ext : {F G : Families} {P Q : List ℕ} {g h : Assignment → Bool} → F ≡ G → P ≡ Q → ((x : Assignment) → g x ≡ h x) → Good F P g → Good G Q h
-  good-ext e f k = subst₃ Good e f (fun-ext k)
 
   good-constant : Good constant [] (λ x. false)
   unfolding matches
@@ -115,83 +120,54 @@ module _ (K L : List Assignment) (settled : Assignment → List Bool) where
       subst (λ (t : Assignment → Bool). Holds K L (spread (F .glitch) (G .glitch)) t) (fun-ext (λ x. sym (matches-union (settled x) P Q z)))
       (holds-both K L (F .glitch) (G .glitch) (λ x. matches (settled x) P z) (λ x. matches (settled x) Q z) (a .patterns z) (b .patterns z))
 
-  module _ (doneV : Assignment → List Bool) (doneF : List Families) (doneP : List (List ℕ))
-      (so-far : (j : ℕ) → Good (getD doneF j constant) (getD doneP j []) (λ x. getD (doneV x) j false)) where
-    abbrev value : ℕ → Assignment → Bool
-    value a = λ x. getD (doneV x) a false
+  -- entries of the three tables that belong together
+  abbrev GoodEntries : ((l : Layer) → Entry l) → Type 0
+  GoodEntries e = Good (e familiesOf) (e feedingOf) (λ x. e (valueUnder x))
 
-    -- the rules of each kind
-    good-node : (cell : Cell) → ((x : Assignment) → getD (settled x) (length doneP) false ≡ valueRule x (doneV x) cell)
-        → Good (familiesRule doneF cell) (feedingRule doneP cell) (λ x. valueRule x (doneV x) cell)
+  module _ (done : (l : Layer) → List (Entry l)) (so-far : (k : ℕ) → GoodEntries (λ l. getD (done l) k (default l))) where
+    abbrev value : ℕ → Assignment → Bool
+    value a = λ x. getD (done (valueUnder x)) a false
+
+    -- the rules of each kind, at node i
+    good-node : (i : ℕ) → length (done feedingOf) ≡ i → (cell : Cell)
+        → ((x : Assignment) → getD (settled x) i false ≡ valueRule x (done (valueUnder x)) cell) → GoodEntries (λ l. rule l (done l) cell)
     unfolding familiesRule settledRule glitchRule feedingRule valueRule
-    good-node (input s) own = good-point (s ∷ []) (length doneP) (exclusiveOr s) own (spans-input K L s)
-    good-node (NOT a) own = record {
+    good-node i e (input s) own = rw e (good-point (s ∷ []) i (exclusiveOr s) own (spans-input K L s))
+    good-node i e (NOT a) own = record {
       spans = spans-not K L _ (value a) (so-far a .spans);
-      patterns = λ z. holds-more K L _ _ (λ x. matches (settled x) (getD doneP a []) z) (λ A inF. insert-old A 0 _ inF) (so-far a .patterns z);
+      patterns = λ z.
+          holds-more K L _ _ (λ x. matches (settled x) (getD (done feedingOf) a []) z) (λ A inF. insert-old A 0 _ inF) (so-far a .patterns z);
     }
-    good-node (XOR a b) own = record {
+    good-node i e (XOR a b) own = record {
       spans = spans-xor K L _ _ (value a) (value b) (so-far a .spans) (so-far b .spans);
       patterns = good-pair _ _ _ _ _ _ (so-far a) (so-far b);
     }
-    good-node (AND a b) own = record {
+    good-node i e (AND a b) own = record {
       spans = spans-and K L _ _ (value a) (value b) (so-far a .spans) (so-far b .spans);
       patterns = good-pair _ _ _ _ _ _ (so-far a) (so-far b);
     }
-    good-node (OR a b) own = record {
+    good-node i e (OR a b) own = record {
       spans = spans-or K L _ _ (value a) (value b) (so-far a .spans) (so-far b .spans);
       patterns = good-pair _ _ _ _ _ _ (so-far a) (so-far b);
     }
-    good-node (register a) own = good-point _ (length doneP) (value a) own (so-far a .spans)
-
-    -- so it is of the entries with the next node's behind them
-    good-next : (cell : Cell) → ((x : Assignment) → length (doneV x) ≡ length doneP) → length doneF ≡ length doneP
-        → ((x : Assignment) → getD (settled x) (length doneP) false ≡ valueRule x (doneV x) cell) → (j : ℕ)
-        → Good (getD (doneF ++ (familiesRule doneF cell ∷ [])) j constant) (getD (doneP ++ (feedingRule doneP cell ∷ [])) j [])
-        (λ x. getD (doneV x ++ (valueRule x (doneV x) cell ∷ [])) j false)
-    good-next cell lv lf own j = go (decLt j (length doneP)) (decLt (length doneP) j)
-      where
-        go : Dec (j < length doneP) → Dec (length doneP < j)
-            → Good (getD (doneF ++ (familiesRule doneF cell ∷ [])) j constant) (getD (doneP ++ (feedingRule doneP cell ∷ [])) j [])
-            (λ x. getD (doneV x ++ (valueRule x (doneV x) cell ∷ [])) j false)
-        go (yes h) k =
-            good-ext (snoc-before doneF _ constant j (omega arith)) (snoc-before doneP _ [] j h)
-            (λ x. snoc-before (doneV x) _ false j (omega (arith, lv x))) (so-far j)
-        go (no h) (yes k) =
-            good-ext (snoc-beyond doneF _ constant j (omega arith)) (snoc-beyond doneP _ [] j k)
-            (λ x. snoc-beyond (doneV x) _ false j (omega (arith, lv x))) good-constant
-        go (no h) (no k) =
-            good-ext (snoc-at doneF _ constant j (omega arith)) (snoc-at doneP _ [] j (omega arith))
-            (λ x. snoc-at (doneV x) _ false j (omega (arith, lv x))) (good-node cell own)
-
-  -- and of all nodes, where `settled` has the values of all of them
-  good-all : (nodes : List Cell) (doneV : Assignment → List Bool) (doneF : List Families) (doneP : List (List ℕ))
-      → ((j : ℕ) → Good (getD doneF j constant) (getD doneP j []) (λ x. getD (doneV x) j false))
-      → ((x : Assignment) → length (doneV x) ≡ length doneP) → length doneF ≡ length doneP
-      → ((x : Assignment) → settled x ≡ table (valueRule x) (doneV x) nodes)
-      → (j : ℕ) → Good (getD (table familiesRule doneF nodes) j constant) (getD (table feedingRule doneP nodes) j [])
-      (λ x. getD (table (valueRule x) (doneV x) nodes) j false)
-  unfolding table
-  good-all [] doneV doneF doneP so-far lv lf all = so-far
-  good-all (cell ∷ nodes) doneV doneF doneP so-far lv lf all =
-      good-all nodes (λ x. doneV x ++ (valueRule x (doneV x) cell ∷ [])) (doneF ++ (familiesRule doneF cell ∷ [])) (doneP ++ (feedingRule doneP cell ∷ []))
-      (good-next doneV doneF doneP so-far cell lv lf own)
-      (λ x. omega (arith, lv x, length-append (doneV x) (valueRule x (doneV x) cell ∷ []), length-append doneP (feedingRule doneP cell ∷ [])))
-      (omega (arith, length-append doneF (familiesRule doneF cell ∷ []), length-append doneP (feedingRule doneP cell ∷ [])))
-      all
-    where
-      own : (x : Assignment) → getD (settled x) (length doneP) false ≡ valueRule x (doneV x) cell
-      own x =
-          let v : Bool = valueRule x (doneV x) cell in
-          let kept = table-keeps (valueRule x) (doneV x ++ (v ∷ [])) nodes in
-          ap (λ (l : List Bool). getD l (length doneP) false) (all x ∙ kept .1 ∙ append-assoc (doneV x) (v ∷ []) (kept .0))
-          ∙ getD-at (doneV x) v (kept .0) false (length doneP) (lv x)
+    good-node i e (register a) own = rw e (good-point _ i (value a) own (so-far a .spans))
 
 -- the glitch family of each node holds every pattern on its feeding points
 pub each-node : (K L : List Assignment) (n : Netlist) (i : ℕ) (z : Pattern)
     → Holds K L (familiesAt n i .glitch) (λ x. matches (values n x) (feeding n i) z)
 unfolding values families feedings familiesAt feeding
 each-node K L n i z =
-    good-all K L (values n) (n .nodes) (λ x. []) [] [] (λ j. good-constant K L (values n)) (λ x. refl) refl (λ x. refl) i .patterns z
+    each-entry rule (n .nodes) default (input 0) (λ m e. GoodEntries K L (values n) e)
+    record {
+      stays = λ m j e h good. good;
+      defaults = good-constant K L (values n);
+      stepped = λ j there before.
+          good-node K L (values n) (λ l. take j (table (rule l) [] (n .nodes))) before j (length-done feedingRule (n .nodes) j there)
+          (getD (n .nodes) j (input 0))
+          (λ x. table-entry (valueRule x) (n .nodes) j false (input 0) there);
+    }
+    i
+    .patterns z
 
 -- ---- over all mask settings, beside the one setting of the secrets and beside the other
 
