@@ -30,4 +30,4 @@ pub mod Probe
 -- what antt computes: the table, and examples
 pub mod Blocks
 pub mod BlockCounts
-pub mod BlockTexts
+pub mod BlockOutputs

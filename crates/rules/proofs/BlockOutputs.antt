@@ -1,27 +1,51 @@
--- The listing and the queries on blocks, which antt computes from the rules: document 01's text for block A, and each refusal of a query.
--- Assumes nothing.
+-- The listing, the node records and the queries on blocks, which antt computes from the rules: document 01's text for block A, a node of each
+-- kind, and each refusal of a query. Assumes nothing.
 use Prim.Native.Nat.{ℕ}
 use mathlib.Core.Path.{_≡_, refl}
 use mathlib.Core.Bool.{true, false, xor}
-use mathlib.Core.List.{_∷_}
+use mathlib.Core.List.{List, [], _∷_}
 use lib.ListN.{replicate}
+use Rattle.rules.specs.declared.Node.{Node}
 use Rattle.rules.specs.Lists.{tabulate}
 use Rattle.rules.specs.Records.{bits}
 use Rattle.rules.specs.Values.{exclusiveOr, valueRule, values, feedingRule, feedings, feeding}
 use Rattle.rules.specs.Families.{familiesAt}
 use Rattle.rules.specs.Checks.{answered, refused, nodeCheck, numberCheck, queried, queriedWith}
+use Rattle.rules.specs.Slices.{entry, filled, nodesAfter}
 use Rattle.rules.specs.Listing.{word, digits, decimal, line, kindName, nodeLines, halfLine, netlistText, textOf, listing}
 use Rattle.rules.specs.Queries.{Given, given, valueQuery, feedingQuery, membershipQuery}
 use Rattle.rules.specs.Blocks.{P3, P9, P10}
 use Rattle.rules.proofs.Blocks.{replyTo}
 
+-- A node of each kind: variables secret, mask, public; inputs 3 and 4; 2 NOT 1; 3 XOR(2,0); 4 AND(3,1); 5 OR(4,0); 6 register 5.
+abbrev each-kind : List ℕ
+each-kind =
+    0x01 ∷ 0x00 ∷ 0x01 ∷ 0x01 ∷ 0x01 ∷ 0x02
+    ∷ 0x02 ∷ 0x03 ∷ 0x00 ∷ 0x02 ∷ 0x04 ∷ 0x00
+    ∷ 0x03 ∷ 0x01 ∷ 0x04 ∷ 0x02 ∷ 0x00 ∷ 0x05 ∷ 0x03 ∷ 0x01 ∷ 0x06 ∷ 0x04 ∷ 0x00 ∷ 0x07 ∷ 0x05
+    ∷ 0x00 ∷ []
+
 -- ---- the listing
 
--- document 01's listing of block A, and the line of a refusal
+-- document 01's listing of block A, the line of a refusal, and a line of each kind
 pub texts : (listing (P9 .bytes) ≡ word "vars 3 nodes 5\n0 in 1 1\n1 in 1 1\n2 in 1 1\n3 xor 1 4\n4 xor 1 8\nsettled clear\nglitch 4 1\n")
     × (listing (P3 .bytes) ≡ word "refused 9 1\n")
+    × (listing each-kind
+    ≡ word "vars 3 nodes 7\n0 in 1 1\n1 in 1 1\n2 not 1 2\n3 xor 1 4\n4 and 4 4\n5 or 4 4\n6 reg 4 4\nsettled clear\nglitch clear\n")
 unfolding replyTo word digits decimal line kindName nodeLines halfLine netlistText textOf listing
-texts = (refl, refl)
+texts = (refl, refl, refl)
+
+-- ---- the node records
+
+abbrev node : (kind first second set : ℕ) → Node
+node k a b s = record { kind = k; first = a; second = b; set = s }
+
+-- the entries of a netlist of seven nodes in a slice of nine, whose last two stay; and on a refusal all stay
+pub records : (nodesAfter each-kind (replicate 9 (node 9 9 9 9)) 1792
+    ≡ node 2 0 0 3 ∷ node 2 0 0 4 ∷ node 3 1 0 0 ∷ node 4 2 0 0 ∷ node 5 3 1 0 ∷ node 6 4 0 0 ∷ node 7 5 0 0 ∷ replicate 2 (node 9 9 9 9))
+    × (nodesAfter each-kind (replicate 9 (node 9 9 9 9)) 1791 ≡ replicate 9 (node 9 9 9 9))
+unfolding replyTo entry filled nodesAfter
+records = (refl, refl)
 
 -- ---- queries
 
@@ -39,6 +63,12 @@ pub values-of-A : (valueQuery (P9 .bytes) 4 1 ≡ gave true) × (valueQuery (P9 
     × (valueQuery (P3 .bytes) 0 0 ≡ refusing 9 1 false)
 unfolding replyTo bits xor exclusiveOr valueRule values nodeCheck numberCheck queriedWith given valueQuery
 values-of-A = (refl, refl, refl, refl, refl)
+
+-- the values of a node of each kind, where the secret and the public are 1, and where the public alone is
+pub values-of-each-kind : (tabulate (λ i. valueQuery each-kind i 5 .gives) 7 ≡ true ∷ true ∷ false ∷ true ∷ true ∷ true ∷ true ∷ [])
+    × (tabulate (λ i. valueQuery each-kind i 4 .gives) 7 ≡ false ∷ true ∷ false ∷ false ∷ false ∷ false ∷ false ∷ [])
+unfolding replyTo bits xor exclusiveOr valueRule values nodeCheck numberCheck queriedWith given valueQuery tabulate
+values-of-each-kind = (refl, refl)
 
 -- node 5 of block B is fed by input 1 and register 4
 pub points-of-B : (feedingQuery (P10 .bytes) 5 ≡ gave (false ∷ true ∷ false ∷ false ∷ true ∷ replicate 195 false))
