@@ -1,5 +1,5 @@
 -- Counts of mask settings that antt computes: a block whose counts differ, so that the statement of demand 3 is not empty, and one that the
--- families refuse though its settled value gives nothing away; and what feeds the last gate of block B. Assumes nothing.
+-- families refuse though its settled value gives nothing away; and what feeds a gate of each kind. Assumes nothing.
 use mathlib.Core.Path.{_≡_, refl, sym, _∙_}
 use mathlib.Core.Bool.{Bool, true, false, xor, _&&_, Bool·beq}
 use mathlib.Core.List.{List, [], _∷_}
@@ -7,7 +7,7 @@ use native.Mathlib.Omega.{arith}
 use lib.ListN.{getD}
 use Rattle.rules.specs.Lists.{member, insert, union, count}
 use Rattle.rules.specs.Tables.{table}
-use Rattle.rules.specs.Records.{secret, mask, input, NOT, XOR, AND, register, Netlist}
+use Rattle.rules.specs.Records.{secret, mask, input, NOT, XOR, AND, OR, register, Netlist}
 use Rattle.rules.specs.Values.{exclusiveOr, valueRule, values, feedingRule, feedings, feeding, same, howMany, settings, next, others, make, Pattern, matches, giving, CountsAgree}
 use Rattle.rules.specs.Checks.{answered, read}
 use Rattle.rules.specs.Blocks.{P10, P12, P14-without}
@@ -105,3 +105,12 @@ p10-read = refl
 pub p10-feeding : (feeding p10 5 ≡ 4 ∷ 1 ∷ []) × (feeding p10 4 ≡ 4 ∷ [])
 unfolding member insert union table feedingRule feedings feeding
 p10-feeding = (refl, refl)
+
+-- a gate of each kind over the inputs 0 and 1, and a register: each gate is fed through all its operands
+abbrev pub gates : Netlist
+gates = record { variables = []; nodes = input 0 ∷ input 0 ∷ NOT 1 ∷ XOR 0 1 ∷ AND 0 1 ∷ OR 0 1 ∷ register 5 ∷ [] }
+
+pub gates-feeding : feedings gates
+    ≡ (0 ∷ []) ∷ (1 ∷ []) ∷ (1 ∷ []) ∷ (0 ∷ 1 ∷ []) ∷ (0 ∷ 1 ∷ []) ∷ (0 ∷ 1 ∷ []) ∷ (6 ∷ []) ∷ []
+unfolding member insert union table feedingRule feedings
+gates-feeding = refl

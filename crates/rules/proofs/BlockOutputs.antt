@@ -64,11 +64,12 @@ pub values-of-A : (valueQuery (P9 .bytes) 4 1 ≡ gave true) × (valueQuery (P9 
 unfolding replyTo bits xor exclusiveOr valueRule values nodeCheck numberCheck queriedWith given valueQuery
 values-of-A = (refl, refl, refl, refl, refl)
 
--- the values of a node of each kind, where the secret and the public are 1, and where the public alone is
+-- the values of a node of each kind, where the secret and the public are 1, where the public alone is, and where the secret alone is
 pub values-of-each-kind : (tabulate (λ i. valueQuery each-kind i 5 .gives) 7 ≡ true ∷ true ∷ false ∷ true ∷ true ∷ true ∷ true ∷ [])
     × (tabulate (λ i. valueQuery each-kind i 4 .gives) 7 ≡ false ∷ true ∷ false ∷ false ∷ false ∷ false ∷ false ∷ [])
+    × (tabulate (λ i. valueQuery each-kind i 1 .gives) 7 ≡ true ∷ false ∷ true ∷ false ∷ false ∷ true ∷ true ∷ [])
 unfolding replyTo bits xor exclusiveOr valueRule values nodeCheck numberCheck queriedWith given valueQuery tabulate
-values-of-each-kind = (refl, refl)
+values-of-each-kind = (refl, refl, refl)
 
 -- node 5 of block B is fed by input 1 and register 4
 pub points-of-B : (feedingQuery (P10 .bytes) 5 ≡ gave (false ∷ true ∷ false ∷ false ∷ true ∷ replicate 195 false))
