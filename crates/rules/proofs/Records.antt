@@ -92,7 +92,8 @@ total-unseen t u v n here k b c p q =
     rw (lt-leb t here (omega arith), le-ltb t (here + s) (omega arith), lt-ltb (here + 1) t (omega arith))
     (rw (lt-leb u here (omega arith), le-ltb u (here + s) (omega arith), lt-ltb (here + 1) u (omega arith)))
 
-class-back : (b : ℕ) → b ≤ 2 → classByte (classOf b) ≡ b
+-- a class byte is that of its class
+pub class-back : (b : ℕ) → b ≤ 2 → classByte (classOf b) ≡ b
 unfolding classByte classOf
 class-back zero h = refl
 class-back (suc zero) h = refl

@@ -5,7 +5,7 @@ use mathlib.Core.Bool.{Bool, true, false, _&&_, _||_}
 use mathlib.Core.List.{List, [], _∷_}
 use lib.Dec.{leb, ltb}
 use lib.ListN.{length, getD}
-use Rattle.rules.specs.Records.{Record, end, variable, node, Netlist, withVariable, withNode, most-variables, most-nodes, said, size, operands, setOf}
+use Rattle.rules.specs.Records.{Record, end, variable, node, Netlist, empty, withVariable, withNode, most-variables, most-nodes, said, size, operands, setOf}
 
 -- something asked of the checker has an answer, or is refused with number and place
 pub data Outcome {ℓ} (A : Type ℓ) : Type ℓ where
@@ -82,11 +82,14 @@ judgedRecord total v n here k b c =
     ∷ [])
     r
 
--- what one record says, after the variables and nodes of n
+-- what one record of a file says, after so many variables and nodes
+abbrev pub judgedAt : List ℕ → (v n here : ℕ) → Outcome Record
+judgedAt bytes v n here =
+    judgedRecord (length bytes) v n here (getD bytes here 0) (getD bytes (here + 1) 0) (getD bytes (here + 2) 0)
+
+-- and after the variables and nodes of a netlist
 unfoldable pub recordAt : List ℕ → Netlist → (here : ℕ) → Outcome Record
-recordAt bytes n here =
-    judgedRecord (length bytes) (length (n .variables)) (length (n .nodes)) here
-    (getD bytes here 0) (getD bytes (here + 1) 0) (getD bytes (here + 2) 0)
+recordAt bytes n here = judgedAt bytes (length (n .variables)) (length (n .nodes)) here
 
 -- ---- a whole file
 
@@ -108,7 +111,7 @@ step bytes (finished outcome) = finished outcome
 
 -- after a number of records, taken in file order
 unfoldable pub after : List ℕ → (records : ℕ) → Progress
-after bytes zero = reading (record { variables = []; nodes = [] }) 0
+after bytes zero = reading empty 0
 after bytes (suc records) = step bytes (after bytes records)
 
 -- no file has more records than the variables and nodes there may be, and the end

@@ -29,7 +29,10 @@ pub record Netlist : Type 0 where
   pub variables : List Class
   pub nodes : List Cell
 
--- a variable goes behind those before it, and so does a node
+-- the netlist of no records; a variable goes behind those before it, and so does a node
+abbrev pub empty : Netlist
+empty = record { variables = []; nodes = [] }
+
 abbrev pub withVariable : Netlist → Class → Netlist
 withVariable n c = record { variables = n .variables ++ (c ∷ []); nodes = n .nodes }
 

@@ -1,0 +1,135 @@
+-- Netlists by value: a store behind the entries is one entry more, each entry stands in the table, and no two netlists have the same one. By laws
+-- of padded lists of any length, so that no array is unfolded. Assumes nothing.
+use Prim.Native.Nat.{ℕ, zero, suc, _-_, _≤_, _<_}
+use mathlib.Core.Path.{_≡_, refl, sym, ap, _∙_}
+use mathlib.Core.List.{List, [], _∷_, _++_, map, map-append}
+use native.Mathlib.Nat.{sub-zero}
+use native.Mathlib.Omega.{arith}
+use lib.ListN.{length, getD, take, set, replicate, length-append, length-map, length-replicate, List·getD-append}
+use lib.Seq.{append-snoc, set-append-seam, take-at}
+use Rattle.rules.specs.declared.Node.{Node}
+use Rattle.rules.specs.Records.{Class, secret, mask, public, Cell, input, NOT, XOR, AND, OR, register, Netlist, classOf, classByte, kindOf, operands, setOf}
+use Rattle.rules.specs.Slices.{entry}
+use Rattle.rules.specs.Checks.{reading}
+use Rattle.records.specs.declared.Netlist.{Netlist as Table}
+use Rattle.records.specs.declared.Stage.the-variants as Stage
+use Rattle.records.specs.declared.Progress.{Progress}
+use Rattle.records.specs.Netlists.{padded, blank, tableOf, Reached}
+
+-- ---- padded lists
+
+module _ {ℓ} {A : Type ℓ} (k : ℕ) (rest : A) where
+  pub padded-none : padded k rest [] ≡ replicate k rest
+  unfolding padded
+  padded-none = rw sub-zero
+
+  -- the entry behind the last one is stored
+  pub padded-set : (xs : List A) (v : A) → length xs < k → set (padded k rest xs) (length xs) v ≡ padded k rest (xs ++ (v ∷ []))
+  unfolding padded
+  padded-set xs v h =
+      let left = k - suc (length xs) in
+      let before : k - length xs ≡ suc left = omega arith in
+      let after : k - length (xs ++ (v ∷ [])) ≡ left = omega (arith, length-append xs (v ∷ [])) in
+      rw (before, after) (set-append-seam xs rest (replicate left rest) v ∙ sym (append-snoc xs v (replicate left rest)))
+
+  pub padded-length : (xs : List A) → length xs ≤ k → length (padded k rest xs) ≡ k
+  unfolding padded
+  padded-length xs h = omega (arith, length-append xs (replicate (k - length xs) rest), length-replicate (k - length xs) rest)
+
+  pub padded-at : (xs : List A) (i : ℕ) (d : A) → i < length xs → getD (padded k rest xs) i d ≡ getD xs i d
+  unfolding padded
+  padded-at xs i d h = List·getD-append xs (replicate (k - length xs) rest) d i h
+
+-- of entries that f makes
+module _ {ℓ κ} {A : Type ℓ} {B : Type κ} (f : A → B) (k : ℕ) (rest : B) where
+  pub made-set : (xs : List A) (x : A) → length xs < k → set (padded k rest (map f xs)) (length xs) (f x) ≡ padded k rest (map f (xs ++ (x ∷ [])))
+  made-set xs x h =
+      rw (map-append, ← (length-map xs f)) (padded-set k rest (map f xs) (f x) (omega (arith, length-map xs f)))
+
+  made-at : (xs : List A) (i : ℕ) (d : A) → i < length xs → getD (padded k rest (map f xs)) i rest ≡ f (getD xs i d)
+  made-at xs i d h = padded-at k rest (map f xs) i rest (omega (arith, length-map xs f)) ∙ map-at xs i h
+    where
+      map-at : (xs : List A) (i : ℕ) → i < length xs → getD (map f xs) i rest ≡ f (getD xs i d)
+      map-at [] i h = absurd (omega arith)
+      map-at (x ∷ xs) zero h = refl
+      map-at (x ∷ xs) (suc i) h = map-at xs i (omega arith)
+
+  -- where g undoes f, of the lists of one length only one has these entries
+  module _ (g : B → A) (undo : (a : A) → g (f a) ≡ a) where
+    map-back : (xs : List A) → map g (map f xs) ≡ xs
+    map-back [] = refl
+    map-back (x ∷ xs) = rw (undo x, map-back xs)
+
+    made-back : (xs ys : List A) → length xs ≡ length ys → padded k rest (map f xs) ≡ padded k rest (map f ys) → xs ≡ ys
+    unfolding padded
+    made-back xs ys same e = sym (back xs) ∙ ap (λ (l : List B). map g (take (length xs) l)) e ∙ rw same (back ys)
+      where
+        back : (zs : List A) → map g (take (length zs) (padded k rest (map f zs))) ≡ zs
+        back zs = rw (take-at (map f zs) _ (length zs) (length-map zs f)) (map-back zs)
+
+-- ---- tables
+
+-- each class and each node stands in the table
+pub table-class-at : (n : Netlist) (i : ℕ) → i < length (n .variables) → getD (tableOf n .classes) i 0 ≡ classByte (getD (n .variables) i public)
+unfolding tableOf
+table-class-at n i h = made-at classByte 10 0 (n .variables) i public h
+
+pub table-entry-at : (n : Netlist) (i : ℕ) → i < length (n .nodes) → getD (tableOf n .nodes) i blank ≡ entry (getD (n .nodes) i (input 0))
+unfolding tableOf
+table-entry-at n i h = made-at entry 200 blank (n .nodes) i (input 0) h
+
+-- a class and a node are read back off the table
+class-back : (c : Class) → classOf (classByte c) ≡ c
+unfolding classOf classByte
+class-back secret = refl
+class-back mask = refl
+class-back public = refl
+
+cellOf : Node → Cell
+cellOf e =
+    getD
+    (input 0
+    ∷ input 0
+    ∷ input (e .set)
+    ∷ NOT (e .first)
+    ∷ XOR (e .first) (e .second)
+    ∷ AND (e .first) (e .second)
+    ∷ OR (e .first) (e .second)
+    ∷ register (e .first)
+    ∷ [])
+    (e .kind)
+    (input 0)
+
+cell-back : (c : Cell) → cellOf (entry c) ≡ c
+unfolding cellOf entry kindOf operands setOf
+cell-back (input s) = refl
+cell-back (NOT a) = refl
+cell-back (XOR a b) = refl
+cell-back (AND a b) = refl
+cell-back (OR a b) = refl
+cell-back (register a) = refl
+
+-- no two netlists have the same table
+pub table-injective : (n m : Netlist) → tableOf n ≡ tableOf m → n ≡ m
+unfolding tableOf
+table-injective n m e =
+    let variables =
+    made-back classByte 10 0 classOf class-back (n .variables) (m .variables) (ap (λ (t : Table). t .variables) e) (ap (λ (t : Table). t .classes) e) in
+    let nodes = made-back entry 200 blank cellOf cell-back (n .nodes) (m .nodes) (ap (λ (t : Table). t .count) e) (ap (λ (t : Table). t .nodes) e) in
+    let same : _≡_ {A = Netlist} (record { variables = n .variables; nodes = n .nodes }) (record { variables = m .variables; nodes = m .nodes }) = cc in
+    same
+
+-- ---- a file that is being read
+
+module _ (s : Progress) (n : Netlist) (here : ℕ) (e : Reached s (reading n here)) where
+  pub reading-stage : s .stage ≡ Stage.Reading
+  unfolding Reached
+  reading-stage = ap (λ (p : Progress). p .stage) e
+
+  pub reading-here : s .here ≡ here
+  unfolding Reached
+  reading-here = ap (λ (p : Progress). p .here) e
+
+  pub reading-netlist : s .netlist ≡ tableOf n
+  unfolding Reached
+  reading-netlist = ap (λ (p : Progress). p .netlist) e

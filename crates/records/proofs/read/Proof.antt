@@ -1,0 +1,57 @@
+-- `records::read` meets its contract. The loop's invariant: the progress is that of the rules after as many records as were taken, at most 211.
+-- No file is still being read then. The measure is what is left of them. Assumes nothing.
+use Prim.Native.Nat.{_-_, _≤_}
+use mathlib.Core.Path.{_≡_, subst, ap, _∙_}
+use native.Mathlib.Numerals.{add-one}
+use native.Mathlib.Omega.{arith}
+use borrow.Author.Needs.{needs}
+use Rattle.rules.specs.Checks.{after, most-records}
+use Rattle.rules.proofs.Reading.{always-finished}
+use Rattle.records.specs.Netlists.{Reached}
+use Rattle.records.proofs.read.Statement.{statement}
+use Rattle.records.proofs.read.Tie as tie
+
+abbrev Inv-loop : tie.InvT-loop
+Inv-loop bytes progress₀ records₀ progress records = (records ≤ most-records) × Reached progress (after bytes records)
+
+abbrev μ-loop : tie.MeasureT-loop
+μ-loop bytes progress₀ records₀ progress records = most-records - records
+
+no-records-requires : tie.Need-no-records-requires Inv-loop μ-loop
+no-records-requires c κs = search needs
+
+loop-holds : tie.Need-loop-holds Inv-loop μ-loop
+unfolding after Reached
+loop-holds c = (omega arith, rw (c .no-records .ensures))
+
+take-record-requires : tie.Need-take-record-requires Inv-loop μ-loop
+take-record-requires c κs = search needs
+
+add-records : tie.Need-add-records Inv-loop μ-loop
+add-records c = search needs
+
+loop-less : tie.Need-loop-less Inv-loop μ-loop
+loop-less c = omega arith
+
+loop-again : tie.Need-loop-again Inv-loop μ-loop
+unfolding after
+loop-again c = (omega arith, rw add-one (c .take-record .ensures _ (c .before .before .loop .inv .1)))
+
+returns : tie.Need-returns Inv-loop μ-loop
+returns c =
+    let all : c .before .loop .records ≡ most-records = omega arith in
+    subst (Reached (c .before .loop .progress)) (ap (after _) all ∙ always-finished _) (c .before .loop .inv .1)
+
+pub read-spec : {M : Type 1} → statement M
+read-spec =
+    tie.close
+    (tie.spec
+    Inv-loop
+    μ-loop
+    no-records-requires
+    loop-holds
+    take-record-requires
+    add-records
+    loop-less
+    loop-again
+    returns)

@@ -1,0 +1,63 @@
+-- The forms of a file that is being read, as values of this crate's types. Assumes nothing.
+use Prim.Native.Nat.{ℕ, _+_, _-_, _^_, _<_}
+use mathlib.Core.Path.{_≡_}
+use mathlib.Core.Bool.{false}
+use mathlib.Core.List.{List, _++_, map}
+use lib.ListN.{length, replicate}
+use Rattle.rules.specs.declared.Node.{Node}
+use Rattle.rules.specs.Records as R
+use Rattle.rules.specs.Records.{Record, empty, said, classByte}
+use Rattle.rules.specs.Slices.{entry}
+use Rattle.rules.specs.Checks as C
+use Rattle.rules.specs.Checks.{Outcome, answered, refused, overLimit, reading, finished}
+use Rattle.rules.specs.Paper.{numberOf, placeOf}
+use Rattle.records.specs.declared.Found.{Found}
+use Rattle.records.specs.declared.Found.the-variants as Found
+use Rattle.records.specs.declared.Netlist.{Netlist}
+use Rattle.records.specs.declared.Stage.{Stage}
+use Rattle.records.specs.declared.Stage.the-variants as Stage
+use Rattle.records.specs.declared.Progress.{Progress}
+
+-- what one record says
+abbrev pub foundOf : Found → Outcome Record
+foundOf (Found.Record k b c) = answered (said k b c)
+foundOf (Found.Refused r) = refused (numberOf r) (placeOf r)
+
+-- a list of k entries that begins with xs and goes on with `rest`
+unfoldable pub padded {ℓ} : {A : Type ℓ} → (k : ℕ) (rest : A) → List A → List A
+padded k rest xs = xs ++ replicate (k - length xs) rest
+
+-- no node's record
+abbrev pub blank : Node
+blank = record { kind = 0; first = 0; second = 0; set = 0 }
+
+-- a netlist by value
+unfoldable pub tableOf : R.Netlist → Netlist
+tableOf n = record {
+  variables = length (n .variables);
+  count = length (n .nodes);
+  classes = padded 10 0 (map classByte (n .variables));
+  nodes = padded 200 blank (map entry (n .nodes));
+}
+
+-- there is room for a record behind those of a reading
+pub record RoomFor (progress : Progress) (r : Record) : Type 0 where
+  pub room : overLimit (progress .netlist .variables) (progress .netlist .count) r ≡ false
+  pub here : progress .here + 3 < 2 ^ 64
+
+-- a stage is the refusal with this number and place
+unfoldable pub RefusedAs : Stage → (number place : ℕ) → Type 0
+RefusedAs Stage.Reading k p = ⊥
+RefusedAs Stage.Ended k p = ⊥
+RefusedAs (Stage.Refused r) k p = (numberOf r ≡ k) × (placeOf r ≡ p)
+
+-- how far the reading of a file has come
+pub record RefusedWith (s : Progress) (number place : ℕ) : Type 0 where
+  pub stage : RefusedAs (s .stage) number place
+  pub here : s .here ≡ 0
+  pub netlist : s .netlist ≡ tableOf empty
+
+unfoldable pub Reached : Progress → C.Progress → Type 0
+Reached s (reading n here) = s ≡ record { stage = Stage.Reading; here = here; netlist = tableOf n }
+Reached s (finished (answered n)) = s ≡ record { stage = Stage.Ended; here = 0; netlist = tableOf n }
+Reached s (finished (refused k p)) = RefusedWith s k p

@@ -1,0 +1,416 @@
+// Netlist records: what one record says, the reader that takes the next one, and the walk over a file. Reading writes
+// to no lent slice; what it finds is a netlist by value.
+ghost use mathlib.Core.Path.{_≡_};
+ghost use mathlib.Core.Logic.{_⊎_};
+ghost use Prim.Native.Nat.{ℕ, _+_, _<_, _≤_};
+ghost use lib.ListN.{length, getD};
+ghost use Rattle.rules.specs.Records.{Cell, Class, said, size, node, classOf, classByte, empty, withVariable, withNode};
+ghost use Rattle.rules.specs.Records as Rules;
+ghost use Rattle.rules.specs.Slices.{entry};
+ghost use Rattle.rules.specs.Checks.{undeclared, judgedRecord, judgedAt, finished, taken, step};
+ghost use Rattle.rules.specs.Checks as Checks;
+ghost use Rattle.records.specs.Netlists.{foundOf, tableOf, RoomFor, Reached};
+use rules::Node;
+use rules::Refusal;
+
+// What taking one record finds: its kind and the two bytes behind it, which a shorter body leaves unused; or a refusal.
+pub enum Found {
+    Record(u8, u8, u8),
+    Refused(Refusal),
+}
+
+// A netlist by value: the counts, the class bytes and the node records, each in file order. Beyond the counts all is 0.
+pub struct Netlist {
+    pub variables: usize,
+    pub count: usize,
+    pub classes: [u8; 10],
+    pub nodes: [Node; 200],
+}
+
+// How far a file is read: to its next record, to its end record, or to a refusal.
+pub enum Stage {
+    Reading,
+    Ended,
+    Refused(Refusal),
+}
+
+// The stage, the offset of the next record (0 once the reading is over) and the netlist so far (an empty one on a
+// refusal).
+pub struct Progress {
+    pub stage: Stage,
+    pub here: usize,
+    pub netlist: Netlist,
+}
+
+// The netlist bytes together with the offset of the next record.
+pub struct Reader<'a> {
+    pub bytes: &'a [u8],
+    pub here: usize,
+}
+
+// ---- one record
+
+// The byte `k` places behind `here`, and 0 where the file has none there.
+fn byte_behind(bytes: &[u8], here: usize, k: usize) -> u8
+    ensures { λ r. ⌜ r ≡ getD (now (bytes .entry)) (here + k) 0 ⌝ }
+{
+    if bytes.len() <= here {
+        return 0;
+    }
+    if bytes.len() - here <= k {
+        return 0;
+    }
+    bytes[here + k]
+}
+
+// Whether a set has a bit of a variable that is not declared.
+pub fn undeclared_bit(variables: usize, set: usize) -> bool
+    requires { ⌜ set < 65536 ⌝ }
+    ensures { λ r. ⌜ r ≡ undeclared variables set ⌝ }
+{
+    if 16 <= variables {
+        return false;
+    }
+    (1usize << variables) <= set
+}
+
+// An end record: nothing may follow it.
+fn judge_end(total: usize, variables: usize, nodes: usize, here: usize, b: u8, c: u8) -> Found
+    requires { ⌜ here < total ⌝ }
+    ensures { λ r. ⌜ foundOf r ≡ judgedRecord total variables nodes here 0 b c ⌝ }
+{
+    if 1 < total - here {
+        return Found::Refused(Refusal::BytesAfterEnd(here + 1));
+    }
+    Found::Record(0, b, c)
+}
+
+// A variable: before every node, at most ten, and its class one of three.
+fn judge_variable(total: usize, variables: usize, nodes: usize, here: usize, b: u8, c: u8) -> Found
+    requires { ⌜ here < total ⌝ }
+    ensures { λ r. ⌜ foundOf r ≡ judgedRecord total variables nodes here 1 b c ⌝ }
+{
+    if 0 < nodes {
+        return Found::Refused(Refusal::LateVariable(here));
+    }
+    if 10 <= variables {
+        return Found::Refused(Refusal::OverLimit(here));
+    }
+    if total - here < 2 {
+        return Found::Refused(Refusal::CutShort(here));
+    }
+    if 2 < b {
+        return Found::Refused(Refusal::UnknownClass(here));
+    }
+    Found::Record(1, b, c)
+}
+
+// An input: its set has declared variables only.
+fn judge_input(total: usize, variables: usize, nodes: usize, here: usize, b: u8, c: u8) -> Found
+    requires { ⌜ here < total ⌝ }
+    ensures { λ r. ⌜ foundOf r ≡ judgedRecord total variables nodes here 2 b c ⌝ }
+{
+    if 200 <= nodes {
+        return Found::Refused(Refusal::OverLimit(here));
+    }
+    if total - here < 3 {
+        return Found::Refused(Refusal::CutShort(here));
+    }
+    if undeclared_bit(variables, (b as usize) + 256 * (c as usize)) {
+        return Found::Refused(Refusal::UndeclaredSet(here));
+    }
+    Found::Record(2, b, c)
+}
+
+// NOT or a register: its operand is a lower node.
+fn judge_unary(
+    total: usize,
+    variables: usize,
+    nodes: usize,
+    here: usize,
+    k: u8,
+    b: u8,
+    c: u8,
+) -> Found
+    requires { ⌜ (here < total) × ((k ≡ 3) ⊎ (k ≡ 7)) ⌝ }
+    ensures { λ r. ⌜ foundOf r ≡ judgedRecord total variables nodes here k b c ⌝ }
+{
+    if 200 <= nodes {
+        return Found::Refused(Refusal::OverLimit(here));
+    }
+    if total - here < 2 {
+        return Found::Refused(Refusal::CutShort(here));
+    }
+    if nodes <= (b as usize) {
+        return Found::Refused(Refusal::BadOperand(here));
+    }
+    Found::Record(k, b, c)
+}
+
+// XOR, AND or OR: both operands are lower nodes.
+fn judge_binary(
+    total: usize,
+    variables: usize,
+    nodes: usize,
+    here: usize,
+    k: u8,
+    b: u8,
+    c: u8,
+) -> Found
+    requires { ⌜ (here < total) × (3 < k) × (k < 7) ⌝ }
+    ensures { λ r. ⌜ foundOf r ≡ judgedRecord total variables nodes here k b c ⌝ }
+{
+    if 200 <= nodes {
+        return Found::Refused(Refusal::OverLimit(here));
+    }
+    if total - here < 3 {
+        return Found::Refused(Refusal::CutShort(here));
+    }
+    if nodes <= (b as usize) {
+        return Found::Refused(Refusal::BadOperand(here));
+    }
+    if nodes <= (c as usize) {
+        return Found::Refused(Refusal::BadOperand(here));
+    }
+    Found::Record(k, b, c)
+}
+
+// The record of kind `k` with the body `b`, `c` whose kind byte stands at `here`, in a file of `total` bytes.
+fn judge(total: usize, variables: usize, nodes: usize, here: usize, k: u8, b: u8, c: u8) -> Found
+    ensures { λ r. ⌜ foundOf r ≡ judgedRecord total variables nodes here k b c ⌝ }
+{
+    if total <= here {
+        return Found::Refused(Refusal::NoEnd(total));
+    }
+    if k == 0 {
+        return judge_end(total, variables, nodes, here, b, c);
+    }
+    if k == 1 {
+        return judge_variable(total, variables, nodes, here, b, c);
+    }
+    if k == 2 {
+        return judge_input(total, variables, nodes, here, b, c);
+    }
+    if k == 3 {
+        return judge_unary(total, variables, nodes, here, k, b, c);
+    }
+    if k == 7 {
+        return judge_unary(total, variables, nodes, here, k, b, c);
+    }
+    if 7 < k {
+        return Found::Refused(Refusal::UnknownKind(here));
+    }
+    judge_binary(total, variables, nodes, here, k, b, c)
+}
+
+// The record at an offset, after so many variables and nodes.
+pub fn record_at(bytes: &[u8], here: usize, variables: usize, nodes: usize) -> Found
+    ensures { λ r. ⌜ foundOf r ≡ judgedAt (now (bytes .entry)) variables nodes here ⌝ }
+{
+    let k = byte_behind(bytes, here, 0);
+    let b = byte_behind(bytes, here, 1);
+    let c = byte_behind(bytes, here, 2);
+    judge(bytes.len(), variables, nodes, here, k, b, c)
+}
+
+// ---- the reader
+
+// A reader whose next record is at `here`.
+fn reader_at<'a>(bytes: &'a [u8], here: usize) -> Reader<'a>
+    ensures { λ r. ⌜ (r .bytes ≡ bytes .entry) × (r .here ≡ here) ⌝ }
+{
+    Reader { bytes, here }
+}
+
+// The reader's next record, after so many variables and nodes.
+pub fn next<'a>(reader: Reader<'a>, variables: usize, nodes: usize) -> Found
+    ensures { λ r. ⌜ foundOf r ≡ judgedAt (now (reader .entry .bytes)) variables nodes (reader .entry .here) ⌝ }
+{
+    record_at(reader.bytes, reader.here, variables, nodes)
+}
+
+// The same for whoever has the bytes and an offset.
+pub fn next_record(bytes: &[u8], here: usize, variables: usize, nodes: usize) -> Found
+    ensures { λ r. ⌜ foundOf r ≡ judgedAt (now (bytes .entry)) variables nodes here ⌝ }
+{
+    next(reader_at(bytes, here), variables, nodes)
+}
+
+// ---- the walk over a file
+
+// The netlist of no records.
+pub fn no_records() -> Netlist
+    ensures { λ r. ⌜ r ≡ tableOf empty ⌝ }
+{
+    Netlist {
+        variables: 0,
+        count: 0,
+        classes: [0u8; 10],
+        nodes: [Node {
+            kind: 0,
+            first: 0,
+            second: 0,
+            set: 0,
+        }; 200],
+    }
+}
+
+// The netlist with one variable more.
+fn with_variable(netlist: Netlist, class: u8) -> Netlist
+    requires { ⌜ netlist .variables < 10 ⌝ }
+    ensures { λ r. ⌜ ((n : Rules.Netlist) (c : Class) → netlist ≡ tableOf n → class ≡ classByte c → r ≡ tableOf (withVariable n c)) ⌝ }
+{
+    let mut longer = netlist;
+    let at = longer.variables;
+    longer.classes[at] = class;
+    longer.variables = at + 1;
+    longer
+}
+
+// The netlist with one node more.
+fn with_node(netlist: Netlist, last: Node) -> Netlist
+    requires { ⌜ netlist .count < 200 ⌝ }
+    ensures { λ r. ⌜ ((n : Rules.Netlist) (cell : Cell) → netlist ≡ tableOf n → last ≡ entry cell → r ≡ tableOf (withNode n cell)) ⌝ }
+{
+    let mut longer = netlist;
+    let at = longer.count;
+    longer.nodes[at] = last;
+    longer.count = at + 1;
+    longer
+}
+
+// The class byte of the class that `b` says.
+fn class_of(b: u8) -> u8
+    ensures { λ r. ⌜ r ≡ classByte (classOf b) ⌝ }
+{
+    if b < 2 {
+        return b;
+    }
+    2
+}
+
+// The node record of a node of kind `k` with the body `b`, `c`.
+fn entry_of(k: u8, b: u8, c: u8) -> Node
+    ensures { λ r. ⌜ ((cell : Cell) → said k b c ≡ node cell → r ≡ entry cell) ⌝ }
+{
+    if k == 2 {
+        return Node {
+            kind: 2,
+            first: 0,
+            second: 0,
+            set: (b as u16) + 256 * (c as u16),
+        };
+    }
+    if k == 3 {
+        return Node {
+            kind: 3,
+            first: b,
+            second: 0,
+            set: 0,
+        };
+    }
+    if k == 7 {
+        return Node {
+            kind: 7,
+            first: b,
+            second: 0,
+            set: 0,
+        };
+    }
+    Node {
+        kind: k,
+        first: b,
+        second: c,
+        set: 0,
+    }
+}
+
+// How many bytes a variable or a node of kind `k` takes.
+fn size_of(k: u8) -> usize
+    ensures { λ r. ⌜ ((b c : ℕ) → 0 < k → k ≤ 7 → r ≡ size (said k b c)) ⌝ }
+    ensures few { λ r. ⌜ r ≤ 3 ⌝ }
+{
+    if k == 1 {
+        return 2;
+    }
+    if k == 3 {
+        return 2;
+    }
+    if k == 7 {
+        return 2;
+    }
+    3
+}
+
+// A refusal ends the reading.
+fn refused(refusal: Refusal) -> Progress
+    ensures { λ r. ⌜ ((n : Rules.Netlist) (here : ℕ) → Reached r (taken n here (foundOf (Found.Refused refusal)))) ⌝ }
+{
+    Progress {
+        stage: Stage::Refused(refusal),
+        here: 0,
+        netlist: no_records(),
+    }
+}
+
+// A record of kind `k` with the body `b`, `c` is taken: a variable or a node goes behind those before it, and any other
+// is the end record.
+fn with_record(progress: Progress, k: u8, b: u8, c: u8) -> Progress
+    requires { ⌜ RoomFor progress (said k b c) ⌝ }
+    ensures { λ r. ⌜ ((n : Rules.Netlist) (here : ℕ) → Reached progress (Checks.reading n here) → Reached r (taken n here (foundOf (Found.Record k b c)))) ⌝ }
+{
+    let netlist = progress.netlist;
+    let here = progress.here;
+    match k {
+        1 => Progress {
+            stage: Stage::Reading,
+            here: here + 2,
+            netlist: with_variable(netlist, class_of(b)),
+        },
+        2..=7 => Progress {
+            stage: Stage::Reading,
+            here: here + size_of(k),
+            netlist: with_node(netlist, entry_of(k, b, c)),
+        },
+        _ => Progress {
+            stage: Stage::Ended,
+            here: 0,
+            netlist,
+        },
+    }
+}
+
+// Takes the next record; a reading that is over stays as it is.
+fn take_record(bytes: &[u8], progress: Progress) -> Progress
+    ensures { λ r. ⌜ ((p : Checks.Progress) → Reached progress p → Reached r (step (now (bytes .entry)) p)) ⌝ }
+{
+    let stage = progress.stage;
+    let Stage::Reading = stage else {
+        return progress;
+    };
+    let here = progress.here;
+    let netlist = progress.netlist;
+    let variables = netlist.variables;
+    let count = netlist.count;
+    match next_record(bytes, here, variables, count) {
+        Found::Refused(refusal) => refused(refusal),
+        Found::Record(k, b, c) => with_record(progress, k, b, c),
+    }
+}
+
+// Reads a whole file: its netlist, or the refusal.
+pub fn read(bytes: &[u8]) -> Progress
+    ensures { λ r. ⌜ Reached r (finished (Checks.read (now (bytes .entry)))) ⌝ }
+{
+    let mut progress = Progress {
+        stage: Stage::Reading,
+        here: 0,
+        netlist: no_records(),
+    };
+    let mut records: usize = 0;
+    while records < 211 {
+        progress = take_record(bytes, progress);
+        records += 1;
+    }
+    progress
+}
