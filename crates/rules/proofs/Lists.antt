@@ -1,17 +1,18 @@
--- Laws of lists that name each number once: what is in them after `insert`, `union`, `product` and `spread`; and of
--- counts. Assumes nothing.
-use Prim.Native.Nat.{ℕ, _+_, _*_}
-use mathlib.Core.Path.{_≡_, refl, sym, ap, subst, fun-ext}
-use mathlib.Core.Logic.{_⊎_, inl, inr}
-use mathlib.Core.Bool.{Bool, true, false, cond}
+-- Laws of lists that name each number once: what is in them after `insert`, `union`, `product` and `spread`, some of it
+-- also as equations; and of counts. Assumes nothing.
+use Prim.Native.Nat.{ℕ, zero, suc, _+_, _*_, _/_, _%_, _<_}
+use mathlib.Core.Path.{_≡_, refl, sym, ap, ap₂, _∙_, subst, fun-ext}
+use mathlib.Core.Logic.{_⊎_, inl, inr, ⊎-elim}
+use mathlib.Core.Bool.{Bool, true, false, cond, _||_, or-assoc}
 use mathlib.Core.List.{List, [], _∷_, _++_, map}
-use native.Mathlib.Nat.{zero-add, mul-zero, mul-suc}
+use native.Mathlib.Nat.{zero-add, mul-zero, mul-suc, div-add-mod'}
 use native.Mathlib.Omega.{arith}
-use lib.Bits.{bitXor}
+use lib.Arith.{bin-ind}
+use lib.Bits.{bitXor, differ, xor-step, xor-shr, xor-mod}
 use lib.Dec.{T, eqb, eqb→eq, eqb-refl}
 use lib.ListN.{length}
 use Rattle.rules.specs.Lists.{digit, member, insert, union, count}
-use Rattle.rules.proofs.Tests.{or-left, or-right, or-cases}
+use Rattle.rules.proofs.Tests.{or-left, or-right, or-cases, same-test}
 use Rattle.rules.specs.Families.{Family, product, spread}
 
 pub member-head : (x : ℕ) (ys : List ℕ) → T (member x (x ∷ ys))
@@ -84,6 +85,52 @@ union-cases x (y ∷ xs) ys t = go (insert-cases x y (union xs ys) t) (union-cas
         → T (member x (y ∷ xs)) ⊎ T (member x ys)
     go (inl e) rest = inl (subst (λ (z : ℕ). T (member z (y ∷ xs))) (sym e) (member-head y xs))
     go (inr m) rest = old (rest m)
+
+-- ---- membership as equations
+
+pub member-insert : (x y : ℕ) (ys : List ℕ) → member x (insert y ys) ≡ (eqb x y || member x ys)
+unfolding member
+member-insert x y ys =
+    same-test (member x (insert y ys)) (member x (y ∷ ys))
+    (λ t. ⊎-elim (λ e. subst (λ (z : ℕ). T (member z (y ∷ ys))) (sym e) (member-head y ys)) (member-tail x y ys) (insert-cases x y ys t))
+    (λ t. ⊎-elim (λ e. subst (λ (z : ℕ). T (member z (insert y ys))) (sym e) (insert-new y ys)) (insert-old x y ys) (member-cases x y ys t))
+
+pub member-union : (x : ℕ) (xs ys : List ℕ) → member x (union xs ys) ≡ (member x xs || member x ys)
+unfolding member union
+member-union x [] ys = refl
+member-union x (y ∷ xs) ys =
+    rw (member-insert x y (union xs ys), member-union x xs ys) (sym (or-assoc (eqb x y) (member x xs) (member x ys)))
+
+-- ---- symmetric differences
+
+-- the difference with A, taken twice, changes nothing
+pub xor-twice : (A B : ℕ) → bitXor A (bitXor A B) ≡ B
+xor-twice =
+    bin-ind (λ A. (B : ℕ) → bitXor A (bitXor A B) ≡ B) (λ B. refl)
+    (λ A ih B.
+    xor-step A (bitXor A B)
+    ∙ rw (xor-shr A B 1, xor-mod A B 1, ih (B / 2), last (A % 2) (B % 2) (omega arith) (omega arith)) (div-add-mod' B 2))
+  where
+    last : (a b : ℕ) → a < 2 → b < 2 → differ a (bitXor a b) ≡ b
+    last zero b p q = refl
+    last (suc zero) zero p q = refl
+    last (suc zero) (suc zero) p q = refl
+    last (suc zero) (suc (suc b)) p q = absurd (omega arith)
+    last (suc (suc a)) b p q = absurd (omega arith)
+
+-- what is in a family shifted by A is the difference of A and what is in the family
+pub member-shift : (A B : ℕ) (F : Family) → member B (map (bitXor A) F) ≡ member (bitXor A B) F
+unfolding member
+member-shift A B [] = refl
+member-shift A B (C ∷ F) = ap₂ _||_ moved (member-shift A B F)
+  where
+    eq-test : {x y : ℕ} → x ≡ y → T (eqb x y)
+    eq-test {x} {y} e = subst (λ (z : ℕ). T (eqb x z)) e (eqb-refl x)
+
+    moved : eqb B (bitXor A C) ≡ eqb (bitXor A B) C
+    moved = same-test (eqb B (bitXor A C)) (eqb (bitXor A B) C)
+        (λ t. eq-test (ap (bitXor A) (eqb→eq B (bitXor A C) t) ∙ xor-twice A C))
+        (λ t. eq-test (sym (xor-twice A B) ∙ ap (bitXor A) (eqb→eq (bitXor A B) C t)))
 
 -- ---- products
 

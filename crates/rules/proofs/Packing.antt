@@ -1,7 +1,7 @@
 -- The work slice: set A of a family is bit A mod 8 of byte A / 8 of its 128 bytes, and a node has 256 of them, settled before glitch.
 -- By induction on the bits of a byte, on the entries of a table, and on the nodes. Assumes nothing.
 use Prim.Native.Nat.{ℕ, zero, suc, _+_, _*_, _/_, _%_, _^_, _<_}
-use mathlib.Core.Path.{_≡_, refl, _∙_}
+use mathlib.Core.Path.{_≡_, refl, sym, ap₂, _∙_}
 use mathlib.Core.Logic.{_⊎_, inl, inr}
 use mathlib.Core.List.{List, [], _∷_, _++_}
 use native.Mathlib.Nat.{add-zero, zero-add, add-suc, suc-add, add-assoc, div-one, div-add-mod, eq-or-lt-of-le, le-of-suc-le-suc}
@@ -14,7 +14,7 @@ use Rattle.rules.specs.Records.{odd}
 use Rattle.rules.specs.Families.{Family, Families, constant}
 use Rattle.rules.specs.Slices.{packed, familyBytes, nodeBytes, workBytes}
 use Rattle.rules.proofs.Each.{Each, each-append, each-at}
-use Rattle.rules.proofs.Sets.{lowest-bit, other-bits, one-more-below}
+use Rattle.rules.proofs.Sets.{lowest-bit, other-bits, one-more-below, same-number}
 
 -- ---- the entries f 0, f 1, .. of a table
 
@@ -32,6 +32,12 @@ module _ {ℓ} {A : Type ℓ} where
       go : (i ≡ n) ⊎ (i < n) → (i < n → getD (tabulate f n) i d ≡ f i) → getD (tabulate f n ++ (f n ∷ [])) i d ≡ f i
       go (inl e) before = rw e (getD-at (tabulate f n) (f n) [] d n (tabulate-length f n))
       go (inr l) before = List·getD-append (tabulate f n) (f n ∷ []) d i (omega (arith, tabulate-length f n)) ∙ before l
+
+  pub tabulate-same : (f g : ℕ → A) (n : ℕ) → ((i : ℕ) → i < n → f i ≡ g i) → tabulate f n ≡ tabulate g n
+  unfolding tabulate
+  tabulate-same f g zero h = refl
+  tabulate-same f g (suc n) h =
+      ap₂ {C = List A} (λ l x. l ++ (x ∷ [])) (tabulate-same f g n (λ i l. h i (omega arith))) (h n (omega arith))
 
 tabulate-each {ℓ} : {A : Type ℓ} (P : A → Type 0) (f : ℕ → A) (n : ℕ) → ((i : ℕ) → P (f i)) → Each P (tabulate f n)
 unfolding tabulate
@@ -62,6 +68,16 @@ pub family-bit : (F : Family) (A : ℕ) → A < 1024 → odd (getD (familyBytes 
 unfolding familyBytes
 family-bit F A h =
     rw (tabulate-at (λ j. packed F (8 * j) 8) 128 (A / 8) 0 (omega arith), packed-bit F (8 * (A / 8)) 8 (A % 8) (omega arith), div-add-mod)
+
+-- only membership counts
+pub family-same : (F G : Family) → ((A : ℕ) → A < 1024 → member A F ≡ member A G) → familyBytes F ≡ familyBytes G
+unfolding familyBytes
+family-same F G h = tabulate-same _ _ 128 (λ j l. packed-same (8 * j) 8 (λ i m. h (8 * j + i) (omega arith)))
+  where
+    packed-same : (A n : ℕ) → ((i : ℕ) → i < n → member (A + i) F ≡ member (A + i) G) → packed F A n ≡ packed G A n
+    packed-same A n same =
+        same-number n (packed F A n) (packed G A n) (packed-below F A n) (packed-below G A n)
+        (λ i l. packed-bit F A n i l ∙ same i l ∙ sym (packed-bit G A n i l))
 
 -- ---- 256 bytes a node
 
@@ -113,6 +129,9 @@ Byte b = b < 256
 family-byte : (F : Family) → Each Byte (familyBytes F)
 unfolding familyBytes
 family-byte F = tabulate-each Byte (λ j. packed F (8 * j) 8) 128 (λ j. packed-below F (8 * j) 8)
+
+pub family-below : (F : Family) (j : ℕ) → getD (familyBytes F) j 0 < 256
+family-below F = each-at Byte (familyBytes F) 0 (family-byte F) (omega arith)
 
 work-each : (Fs : List Families) → Each Byte (workBytes Fs)
 unfolding workBytes nodeBytes

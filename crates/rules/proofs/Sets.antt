@@ -1,7 +1,7 @@
 -- A set's number and its bits are each made from the other, and a number has the bit of an undeclared variable just if it is too large.
 -- By induction on the bits, a half at a time. Assumes nothing.
 use Prim.Native.Nat.{ℕ, zero, suc, _+_, _*_, _/_, _%_, _^_, _≤_, _<_}
-use mathlib.Core.Path.{_≡_, refl, sym, ap, _∙_}
+use mathlib.Core.Path.{_≡_, refl, sym, ap, ap₂, _∙_}
 use mathlib.Core.Bool.{Bool, true, false}
 use mathlib.Core.List.{List, [], _∷_}
 use native.Mathlib.Nat.{two-pow-succ, pow-succ', div-one, div-div-eq-div-mul, div-eq-of-lt, add-mul-mod-self-left, lt-of-not-le, lt-of-lt-of-le, le-add-right, le-div-iff-mul-le}
@@ -65,6 +65,17 @@ pub number-below : (b : List Bool) → number b < 2 ^ length b
 unfolding number
 number-below [] = omega arith
 number-below (b ∷ bs) = one-more-below b (number bs) (length bs) (number-below bs)
+
+-- numbers below 2 to the power k are equal if their k bits are
+same-bits : (k s t : ℕ) → ((w : ℕ) → w < k → odd (s / 2 ^ w) ≡ odd (t / 2 ^ w)) → bits k s ≡ bits k t
+unfolding bits
+same-bits zero s t h = refl
+same-bits (suc k) s t h =
+    ap₂ {C = List Bool} _∷_ (rw (div-one s, div-one t) at (h 0 (omega arith)))
+    (same-bits k (s / 2) (t / 2) (λ w l. rw (halved s w, halved t w) (h (suc w) (omega arith))))
+
+pub same-number : (k s t : ℕ) → s < 2 ^ k → t < 2 ^ k → ((w : ℕ) → w < k → odd (s / 2 ^ w) ≡ odd (t / 2 ^ w)) → s ≡ t
+same-number k s t p q h = sym (number-bits k s p) ∙ ap number (same-bits k s t h) ∙ number-bits k t q
 
 -- ---- the bits of undeclared variables
 

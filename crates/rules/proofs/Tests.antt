@@ -1,8 +1,11 @@
--- What a passed test tells: the parts of `&&` and `||`, and the equation with `true`. Assumes nothing.
+-- What a passed test tells: the parts of `&&` and `||`, and the equation with `true`; two tests that pass
+-- together; of two numbers, which is less. Assumes nothing.
+use Prim.Native.Nat.{ℕ, _≤_, _<_}
 use mathlib.Core.Path.{_≡_, refl, sym, subst}
 use mathlib.Core.Logic.{_⊎_, inl, inr}
 use mathlib.Core.Bool.{Bool, true, false, _&&_, _||_, Bool·beq}
-use lib.Dec.{T}
+use borrow.Author.Tests.{ltb-true, ltb-false}
+use lib.Dec.{T, ltb}
 
 pub or-left : (a b : Bool) → T a → T (a || b)
 or-left true b t = tt
@@ -28,6 +31,13 @@ and-right false b t = absurd t
 pub pass : {b : Bool} → b ≡ true → T b
 pass e = subst T (sym e) tt
 
+-- two tests that pass together are equal
+pub same-test : (a b : Bool) → (T a → T b) → (T b → T a) → a ≡ b
+same-test true true f g = refl
+same-test true false f g = absurd (f tt)
+same-test false true f g = absurd (g tt)
+same-test false false f g = refl
+
 pub same-bit : (a b : Bool) → T (Bool·beq a b) → a ≡ b
 same-bit true true t = refl
 same-bit true false t = absurd t
@@ -41,3 +51,11 @@ both f = f true && f false
 pub each : (f : Bool → Bool) → T (both f) → (b : Bool) → T (f b)
 each f t true = and-left (f true) (f false) t
 each f t false = and-right (f true) (f false) t
+
+-- a number is below another or not
+pub lt-or-le : (i n : ℕ) → (i < n) ⊎ (n ≤ i)
+lt-or-le i n = go (ltb i n) refl
+  where
+    go : (b : Bool) → ltb i n ≡ b → (i < n) ⊎ (n ≤ i)
+    go true e = inl (ltb-true i n e)
+    go false e = inr (ltb-false i n e)

@@ -1,0 +1,19 @@
+-- `families::bits_over` meets its contract: at each byte, by a test that antt computes. Assumes nothing.
+use Prim.Native.Nat.{_+_, _*_, _/_}
+use native.Mathlib.Omega.{arith}
+use lib.Bits.{bitAnd, and-le-r}
+use Rattle.families.proofs.Bits.{turned-by}
+use Rattle.families.proofs.bits_over.Statement.{statement}
+use Rattle.families.proofs.bits_over.Tie as tie
+
+mul-result : tie.Need-mul-result
+mul-result c = omega (arith, and-le-r (c .args .byte) 85)
+
+add-result : tie.Need-add-result
+add-result c = omega (arith, and-le-r (c .args .byte) 85, and-le-r (c .args .byte / 2) 85)
+
+returns : tie.Need-returns
+returns c = turned-by (λ byte. bitAnd byte 85 * 2 + bitAnd (byte / 2) 85) 1 tt (c .args .byte) (omega arith)
+
+pub bits-over-spec : {M : Type 1} → statement M
+bits-over-spec = tie.close (tie.spec mul-result add-result returns)

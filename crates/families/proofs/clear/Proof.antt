@@ -1,0 +1,52 @@
+-- `families::clear` meets its contract. The loop's invariant: the part's first j bytes are those of the empty family, and all else is as it
+-- was (`Filled`). The measure is what is left of the 128 bytes. Assumes nothing.
+use Prim.Native.Nat.{ℕ, _-_, _^_}
+use mathlib.Core.Path.{ap}
+use mathlib.Core.List.{[]}
+use native.Mathlib.Nat.{zero-div}
+use native.Mathlib.Omega.{arith}
+use Rattle.rules.specs.Lists.{member}
+use Rattle.rules.specs.Records.{odd}
+use Rattle.families.proofs.Filling.{ByteOf, Filled, fill-start, fill-more, fill-end}
+use Rattle.families.proofs.clear.Statement.{statement}
+use Rattle.families.proofs.clear.Tie as tie
+
+abbrev Inv-loop : tie.InvT-loop
+Inv-loop work₀ part from j₀ work j = Filled work₀ part [] j work
+
+abbrev μ-loop : tie.MeasureT-loop
+μ-loop work₀ part from j₀ work j = 128 - j
+
+mul-from : tie.Need-mul-from Inv-loop μ-loop
+mul-from c = omega arith
+
+loop-holds : tie.Need-loop-holds Inv-loop μ-loop
+loop-holds c = fill-start
+
+add-work : tie.Need-add-work Inv-loop μ-loop
+add-work c = omega arith
+
+slice-write-work : tie.Need-slice-write-work Inv-loop μ-loop
+slice-write-work c = omega arith
+
+add-j : tie.Need-add-j Inv-loop μ-loop
+add-j c = omega arith
+
+loop-less : tie.Need-loop-less Inv-loop μ-loop
+loop-less c = omega arith
+
+loop-again : tie.Need-loop-again Inv-loop μ-loop
+unfolding member
+loop-again c = fill-more (c .before .before .pre) (c .loop-test .taken) (c .before .loop .inv) empty-byte
+  where
+    empty-byte : {j : ℕ} → ByteOf [] j 0
+    empty-byte = record { below = omega arith; bit = λ k h. ap odd (zero-div (2 ^ k)) }
+
+same-length : tie.Need-same-length Inv-loop μ-loop
+same-length c = c .before .loop .inv .size
+
+returns : tie.Need-returns Inv-loop μ-loop
+returns c = fill-end (c .before .before .pre) (c .loop-test .left) (c .before .loop .inv)
+
+pub clear-spec : {M : Type 1} → statement M
+clear-spec = tie.close (tie.spec Inv-loop μ-loop mul-from loop-holds add-work slice-write-work add-j loop-less loop-again same-length returns)
