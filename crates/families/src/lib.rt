@@ -47,10 +47,10 @@ pub fn clear(work: &mut [u8], part: usize)
     ensures { λ _. ⌜ now (work .exit) ≡ withFamily (now (work .entry)) part [] ⌝ }
 {
     let from = 128 * part;
-    let mut j = 0;
-    while j < 128 {
-        work[from + j] = 0;
-        j += 1;
+    let mut cleared = 0;
+    while cleared < 128 {
+        work[from + cleared] = 0;
+        cleared += 1;
     }
 }
 

@@ -1,5 +1,5 @@
 -- The forms of a file that is being read, as values of this crate's types. Assumes nothing.
-use Prim.Native.Nat.{ℕ, _+_, _-_, _^_, _<_}
+use Prim.Native.Nat.{ℕ, _+_, _*_, _-_, _^_, _≤_, _<_}
 use mathlib.Core.Path.{_≡_}
 use mathlib.Core.Bool.{false}
 use mathlib.Core.List.{List, _++_, map}
@@ -39,6 +39,17 @@ tableOf n = record {
   classes = padded 10 0 (map classByte (n .variables));
   nodes = padded 200 blank (map entry (n .nodes));
 }
+
+-- a netlist by value is that of a netlist that obeys the record rules
+pub record Formed (value : Netlist) : Type 0 where
+  pub netlist : R.Netlist
+  pub is : value ≡ tableOf netlist
+  pub obeys : R.WellFormed netlist
+
+-- and so many work bytes have room for its nodes
+pub record Ready (value : Netlist) (work : ℕ) : Type 0 where
+  pub formed : Formed value
+  pub room : 256 * value .count ≤ work
 
 -- there is room for a record behind those of a reading
 pub record RoomFor (progress : Progress) (r : Record) : Type 0 where
