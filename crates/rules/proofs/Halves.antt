@@ -111,7 +111,7 @@ lowest-says first (some A ∷ rest) = (0, omega arith, refl, λ j h. absurd (not
 
 -- ---- what a node reports
 
-marks-at : (variables : List Class) (cells : List Cell) (Fs : List Family) (F : Family) (k : ℕ) → length cells ≡ length Fs
+pub marks-at : (variables : List Class) (cells : List Cell) (Fs : List Family) (F : Family) (k : ℕ) → length cells ≡ length Fs
     → getD (marks variables cells Fs) k none ≡ mark variables (getD cells k (input 0)) (getD Fs k F)
 unfolding marks
 marks-at variables [] Fs F k e = unfold mark tested in refl

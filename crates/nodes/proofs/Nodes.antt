@@ -1,0 +1,293 @@
+-- The families of all nodes in the work bytes. Once the first k nodes are done the bytes are those of their families and, behind them, what
+-- stood there. The rules see of their operands' families only which sets are in them, so the families of node k as worked out from the bytes
+-- have the bytes that the rules say. Assumes nothing.
+use Prim.Native.Nat.{ℕ, _+_, _*_, _/_, _%_, _^_, _≤_, _<_}
+use mathlib.Core.Path.{_≡_, refl, sym, ap, ap₂, _∙_}
+use mathlib.Core.Logic.{_⊎_, inl, inr}
+use mathlib.Core.Bool.{Bool}
+use mathlib.Core.List.{List, [], _∷_, _++_, append-assoc, append-nil}
+use native.Mathlib.Nat.{zero-add, le-refl, lt-of-lt-of-le}
+use native.Mathlib.Numerals.{add-one}
+use native.Mathlib.Omega.{arith}
+use lib.Dec.{T}
+use lib.ListN.{length, getD, take, drop, length-append, length-drop, List·getD-append}
+use lib.Pow.{pow-mono}
+use lib.Seq.{take-suc, take-all, take-at, drop-append-add, drop-drop, getD-take, length-take-le}
+use Rattle.rules.specs.Lists.{member, insert, union}
+use Rattle.rules.specs.Tables.{table}
+use Rattle.rules.specs.Records.{Cell, input, NOT, XOR, AND, OR, register, Netlist, WellFormed, operands, setOf, odd}
+use Rattle.rules.specs.Families.{Family, product, spread, Families, constant, settledRule, glitchRule, familiesRule, families, familiesAt}
+use Rattle.rules.specs.Slices.{entry, familyBytes, nodeBytes, workBytes}
+use Rattle.rules.proofs.Tests.{same-test, lt-or-le}
+use Rattle.rules.proofs.Lists.{member-head, member-tail, member-insert, member-union, product-holds}
+use Rattle.rules.proofs.Bounds.{product-cases, sets-below}
+use Rattle.rules.proofs.Tables.{table-length, table-snoc, table-take}
+use Rattle.rules.proofs.Packing.{tabulate-at, tabulate-same, family-length, work-length, settled-bit, glitch-bit}
+use Rattle.records.specs.declared.Netlist as Value
+use Rattle.records.specs.Netlists.{blank, tableOf, Formed}
+use Rattle.records.proofs.Netlists.{table-entry-at}
+use Rattle.families.specs.Parts.{HasPart, holdsAt, familyAt, withFamily}
+use Rattle.families.proofs.Parts.{member-at, below-at, with-same, with-there}
+use Rattle.nodes.specs.Work.{familiesIn, soFar, withFamilies, Placed}
+
+-- ---- families with the same sets
+
+pub record Alike (F G : Family) : Type 0 where
+  pub same : (A : ℕ) → member A F ≡ member A G
+
+alike-insert : {F G : Family} → Alike F G → Alike (insert 0 F) (insert 0 G)
+alike-insert {F} {G} h = record { same = λ A. rw (member-insert A 0 F, member-insert A 0 G, h .same A) }
+
+alike-union : {F G F′ G′ : Family} → Alike F F′ → Alike G G′ → Alike (union F G) (union F′ G′)
+alike-union {F} {G} {F′} {G′} p q = record { same = λ A. rw (member-union A F G, member-union A F′ G′, p .same A, q .same A) }
+
+alike-product : {F G F′ G′ : Family} → Alike F F′ → Alike G G′ → Alike (product F G) (product F′ G′)
+alike-product {F} {G} {F′} {G′} p q = record {
+  same = λ C.
+      same-test (member C (product F G)) (member C (product F′ G′))
+      (through F G F′ G′ (p .same) (q .same) C) (through F′ G′ F G (λ A. sym (p .same A)) (λ A. sym (q .same A)) C);
+}
+  where
+    through : (F G F′ G′ : Family) → ((A : ℕ) → member A F ≡ member A F′) → ((A : ℕ) → member A G ≡ member A G′) → (C : ℕ)
+        → T (member C (product F G)) → T (member C (product F′ G′))
+    through F G F′ G′ p q C t =
+        let (A, B, a, b, e) = product-cases F G C t in
+        rw e (product-holds F′ G′ A B (rw (p A) at a) (rw (q B) at b))
+
+alike-spread : {F G F′ G′ : Family} → Alike F F′ → Alike G G′ → Alike (spread F G) (spread F′ G′)
+unfolding spread
+alike-spread p q = alike-insert (alike-union p (alike-union q (alike-product p q)))
+
+-- both families of a node
+pub record BothAlike (F G : Families) : Type 0 where
+  pub settled : Alike (F .settled) (G .settled)
+  pub glitch : Alike (F .glitch) (G .glitch)
+
+-- those of some nodes, in two tables
+abbrev AlikeAt : (done other : List Families) → (nodes : List ℕ) → Type 0
+AlikeAt done other nodes = (a : ℕ) → T (member a nodes) → BothAlike (getD done a constant) (getD other a constant)
+
+pair : (done other : List Families) (a b : ℕ) → AlikeAt done other (a ∷ b ∷ [])
+    → BothAlike (getD done a constant) (getD other a constant) × BothAlike (getD done b constant) (getD other b constant)
+pair done other a b h = (h a (member-head a (b ∷ [])), h b (member-tail b a (b ∷ []) (member-head b [])))
+
+-- the rules see no more of the operands' families
+rules-alike : (done other : List Families) (cell : Cell) → AlikeAt done other (operands cell)
+    → BothAlike (familiesRule done cell) (familiesRule other cell)
+unfolding familiesRule settledRule glitchRule operands
+rules-alike done other (input s) h = record { settled = record { same = λ A. refl }; glitch = record { same = λ A. refl } }
+rules-alike done other (NOT a) h =
+    let p = h a (member-head a []) in
+    record { settled = p .settled; glitch = alike-insert (p .glitch) }
+rules-alike done other (XOR a b) h =
+    let (p, q) = pair done other a b h in
+    record { settled = alike-product (p .settled) (q .settled); glitch = alike-spread (p .glitch) (q .glitch) }
+rules-alike done other (AND a b) h =
+    let (p, q) = pair done other a b h in
+    record { settled = alike-spread (p .settled) (q .settled); glitch = alike-spread (p .glitch) (q .glitch) }
+rules-alike done other (OR a b) h =
+    let (p, q) = pair done other a b h in
+    record { settled = alike-spread (p .settled) (q .settled); glitch = alike-spread (p .glitch) (q .glitch) }
+rules-alike done other (register a) h =
+    let p = h a (member-head a []) in
+    record { settled = p .settled; glitch = p .settled }
+
+-- ---- the families of the nodes below i
+
+pub so-far-at : (bytes : List ℕ) (i a : ℕ) → a < i → getD (soFar bytes i) a constant ≡ familiesIn bytes a
+unfolding soFar
+so-far-at bytes i a h = tabulate-at (familiesIn bytes) i a constant h
+
+-- the settled family of node i is none of them
+pub so-far-with : (bytes : List ℕ) (i : ℕ) (F : Family) → HasPart bytes (2 * i) → soFar (withFamily bytes (2 * i) F) i ≡ soFar bytes i
+unfolding soFar
+so-far-with bytes i F has =
+    tabulate-same (familiesIn (withFamily bytes (2 * i) F)) (familiesIn bytes) i
+    (λ a l.
+    rw
+    (with-there bytes (2 * i) (2 * a) F has (λ e. omega arith), with-there bytes (2 * i) (2 * a + 1) F has (λ e. omega arith)))
+
+-- ---- what a part of the work bytes holds
+
+-- a part whose bits are those of a family of sets below 1024
+part-alike : (bytes : List ℕ) (part : ℕ) (F : Family) → ((A : ℕ) → A < 1024 → holdsAt bytes part A ≡ member A F)
+    → ((A : ℕ) → T (member A F) → A < 1024) → Alike (familyAt bytes part) F
+part-alike bytes part F bit below = record { same = λ A. go A (lt-or-le A 1024) }
+  where
+    go : (A : ℕ) → (A < 1024) ⊎ (1024 ≤ A) → member A (familyAt bytes part) ≡ member A F
+    go A (inl l) = member-at bytes part A l ∙ bit A l
+    go A (inr l) =
+        same-test (member A (familyAt bytes part)) (member A F)
+        (λ t. absurd (omega (arith, below-at bytes part A t))) (λ t. absurd (omega (arith, below A t)))
+
+-- sets of ten variables
+pub record Small (F : Families) : Type 0 where
+  pub settled : (A : ℕ) → T (member A (F .settled)) → A < 1024
+  pub glitch : (A : ℕ) → T (member A (F .glitch)) → A < 1024
+
+-- the bytes of some nodes' families hold them, whatever stands behind
+pub work-alike : (Fs : List Families) (rest : List ℕ) (a : ℕ) → a < length Fs → Small (getD Fs a constant)
+    → BothAlike (familiesIn (workBytes Fs ++ rest) a) (getD Fs a constant)
+unfolding holdsAt
+work-alike Fs rest a h small = record {
+  settled = part-alike (workBytes Fs ++ rest) (2 * a) _
+      (λ A l. ap (bitOf A) (front (128 * (2 * a) + A / 8) (256 * a + A / 8) (omega arith) (omega arith)) ∙ settled-bit Fs a A h l)
+      (small .settled);
+  glitch = part-alike (workBytes Fs ++ rest) (2 * a + 1) _
+      (λ A l. ap (bitOf A) (front (128 * (2 * a + 1) + A / 8) (256 * a + 128 + A / 8) (omega arith) (omega arith)) ∙ glitch-bit Fs a A h l)
+      (small .glitch);
+}
+  where
+    bitOf : ℕ → ℕ → Bool
+    bitOf A b = odd (b / 2 ^ (A % 8))
+
+    front : (i j : ℕ) → i ≡ j → j < 256 * length Fs → getD (workBytes Fs ++ rest) i 0 ≡ getD (workBytes Fs) j 0
+    front i j e l = rw e (List·getD-append (workBytes Fs) rest 0 j (omega (arith, work-length Fs)))
+
+-- ---- one node more
+
+-- a family written behind the parts that are done
+behind : (front before : List ℕ) (part : ℕ) (F : Family) → length front ≡ 128 * part
+    → withFamily (front ++ drop (128 * part) before) part F ≡ (front ++ familyBytes F) ++ drop (128 * (part + 1)) before
+unfolding withFamily
+behind front before part F e =
+    let next : 128 * part + 128 ≡ 128 * (part + 1) = omega arith in
+    ap₂ {C = List ℕ} (λ head tail. (head ++ familyBytes F) ++ tail) (take-at front (drop (128 * part) before) (128 * part) e)
+    (ap {B = List ℕ} (λ k. drop (k + 128) (front ++ drop (128 * part) before)) (sym e)
+    ∙ drop-append-add front (drop (128 * part) before) 128
+    ∙ drop-drop 128 (128 * part) before ∙ ap {B = List ℕ} (λ k. drop k before) next)
+
+work-append : (Fs Gs : List Families) → workBytes (Fs ++ Gs) ≡ workBytes Fs ++ workBytes Gs
+unfolding workBytes
+work-append [] Gs = refl
+work-append (F ∷ Fs) Gs = rw (work-append Fs Gs) (sym (append-assoc (nodeBytes F) (workBytes Fs) (workBytes Gs)))
+
+one-node : (F : Families) → workBytes (F ∷ []) ≡ familyBytes (F .settled) ++ familyBytes (F .glitch)
+unfolding workBytes nodeBytes
+one-node F = append-nil (familyBytes (F .settled) ++ familyBytes (F .glitch))
+
+-- the families of the next node, written behind those that are done
+node-behind : (Fs : List Families) (before : List ℕ) (k : ℕ) (F : Families) → length Fs ≡ k
+    → withFamilies (workBytes Fs ++ drop (256 * k) before) k F ≡ workBytes (Fs ++ (F ∷ [])) ++ drop (256 * (k + 1)) before
+unfolding withFamilies
+node-behind Fs before k F e =
+    rw (first, second, work-append Fs (F ∷ []), one-node F)
+    (rw (
+      behind front before (2 * k) (F .settled) (omega (arith, work-length Fs)),
+      behind (front ++ familyBytes (F .settled)) before (2 * k + 1) (F .glitch)
+          (omega (arith, work-length Fs, length-append front (familyBytes (F .settled)), family-length (F .settled))),
+    )
+    (ap {B = List ℕ} (λ l. l ++ drop (128 * (2 * k + 1 + 1)) before)
+    (append-assoc front (familyBytes (F .settled)) (familyBytes (F .glitch)))))
+  where
+    front : List ℕ
+    front = workBytes Fs
+
+    first : 256 * k ≡ 128 * (2 * k)
+    first = omega arith
+
+    second : 256 * (k + 1) ≡ 128 * (2 * k + 1 + 1)
+    second = omega arith
+
+-- only the sets of the families count
+with-alike : (bytes : List ℕ) (i : ℕ) {F G : Families} → BothAlike F G → withFamilies bytes i F ≡ withFamilies bytes i G
+unfolding withFamilies
+with-alike bytes i {F} {G} h =
+    rw (with-same bytes (2 * i) (F .settled) (G .settled) (λ A l. h .settled .same A))
+    (with-same (withFamily bytes (2 * i) (G .settled)) (2 * i + 1) (F .glitch) (G .glitch) (λ A l. h .glitch .same A))
+
+-- ---- all nodes
+
+-- the families of the first k nodes, and the work bytes that held `before` once these are done
+abbrev firstFamilies : Netlist → (k : ℕ) → List Families
+firstFamilies n k = table familiesRule [] (take k (n .nodes))
+
+unfoldable pub nodesDone : Netlist → (before : List ℕ) → (k : ℕ) → List ℕ
+nodesDone n before k = workBytes (firstFamilies n k) ++ drop (256 * k) before
+
+first-length : (n : Netlist) (k : ℕ) → k ≤ length (n .nodes) → length (firstFamilies n k) ≡ k
+first-length n k h = omega (arith, table-length familiesRule [] (take k (n .nodes)), length-take-le k (n .nodes) h)
+
+pub none-done : (n : Netlist) (before : List ℕ) → nodesDone n before 0 ≡ before
+unfolding nodesDone table workBytes
+none-done n before = refl
+
+pub done-length : (n : Netlist) (before : List ℕ) (k : ℕ) → k ≤ length (n .nodes) → 256 * k ≤ length before
+    → length (nodesDone n before k) ≡ length before
+unfolding nodesDone
+done-length n before k h room =
+    omega (
+      arith,
+      length-append (workBytes (firstFamilies n k)) (drop (256 * k) before),
+      length-drop (256 * k) before,
+      work-length (firstFamilies n k),
+      first-length n k h,
+    )
+
+module _ (n : Netlist) (formed : WellFormed n) where
+  -- every set is one of ten variables
+  set-small : (i : ℕ) → i < length (n .nodes) → setOf (getD (n .nodes) i (input 0)) < 2 ^ 10
+  set-small i h = lt-of-lt-of-le (formed .declared i h) (pow-mono (formed .few-variables))
+
+  pub families-small : (i : ℕ) → Small (familiesAt n i)
+  families-small i = let (s, g) = sets-below n 10 set-small i in record { settled = s; glitch = g }
+
+  -- each node can stand at its number
+  pub placed : (i : ℕ) → i < length (n .nodes) → Placed i (entry (getD (n .nodes) i (input 0)))
+  placed i h = record { cell = getD (n .nodes) i (input 0); is = refl; lower = formed .lower i h; small = set-small i h }
+
+  first-at : (k a : ℕ) → a < k → getD (firstFamilies n k) a constant ≡ familiesAt n a
+  unfolding familiesAt families
+  first-at k a h = rw (← table-take familiesRule (n .nodes) k) (getD-take k (table familiesRule [] (n .nodes)) a constant h)
+
+  -- node k, done from the bytes
+  pub next-done : (before : List ℕ) (k : ℕ) → k < length (n .nodes)
+      → withFamilies (nodesDone n before k) k (familiesRule (soFar (nodesDone n before k) k) (getD (n .nodes) k (input 0)))
+      ≡ nodesDone n before (k + 1)
+  unfolding nodesDone
+  next-done before k h =
+      with-alike bytes k
+      (rules-alike (soFar bytes k) first cell
+      (λ a t.
+      let l : a < k = formed .lower k h a t in
+      rw (so-far-at bytes k a l)
+      (work-alike first (drop (256 * k) before) a (omega (arith, there)) (rw (first-at k a l) (families-small a)))))
+      ∙ node-behind first before k (familiesRule first cell) there
+      ∙ ap {B = List ℕ} (λ Fs. workBytes Fs ++ drop (256 * (k + 1)) before)
+      (rw (add-one k, take-suc (n .nodes) k (input 0) h) (sym (table-snoc familiesRule (take k (n .nodes)) cell)))
+    where
+      first : List Families
+      first = firstFamilies n k
+
+      bytes : List ℕ
+      bytes = nodesDone n before k
+
+      cell : Cell
+      cell = getD (n .nodes) k (input 0)
+
+      there : length first ≡ k
+      there = first-length n k (omega arith)
+
+pub all-done : (n : Netlist) (before : List ℕ)
+    → nodesDone n before (length (n .nodes)) ≡ workBytes (families n) ++ drop (length (workBytes (families n))) before
+unfolding nodesDone families
+all-done n before =
+    rw (
+      work-length (table familiesRule [] (n .nodes)),
+      table-length familiesRule [] (n .nodes),
+      zero-add (length (n .nodes)),
+      take-all (length (n .nodes)) (n .nodes) (le-refl (length (n .nodes))),
+    )
+
+-- ---- a netlist by value
+
+module _ {value : Value.Netlist} (f : Formed value) where
+  pub counted : value .count ≡ length (f .netlist .nodes)
+  unfolding tableOf
+  counted = ap (λ (v : Value.Netlist). v .count) (f .is)
+
+  pub few : value .count ≤ 200
+  few = omega (arith, counted, f .obeys .few-nodes)
+
+  pub entry-of : (i : ℕ) → i < value .count → getD (value .nodes) i blank ≡ entry (getD (f .netlist .nodes) i (input 0))
+  entry-of i h = ap (λ (v : Value.Netlist). getD (v .nodes) i blank) (f .is) ∙ table-entry-at (f .netlist) i (omega (arith, counted))

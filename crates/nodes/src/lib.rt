@@ -1,0 +1,88 @@
+// The families of every node in the work bytes, in file order: part 2 × i is the settled family of node i, and the part
+// after it its glitch family.
+ghost use mathlib.Core.Path.{_≡_};
+ghost use Prim.Native.Nat.{_+_, _*_, _<_, _≤_};
+ghost use mathlib.Core.List.{_++_};
+ghost use lib.ListN.{length, drop};
+ghost use Rattle.rules.specs.Records as Rules;
+ghost use Rattle.rules.specs.Records.{Cell};
+ghost use Rattle.rules.specs.Families.{settledRule, glitchRule, familiesRule, families};
+ghost use Rattle.rules.specs.Slices.{entry, workBytes};
+ghost use Rattle.records.specs.Netlists.{tableOf, Ready};
+ghost use Rattle.families.specs.Parts.{HasPart, familyAt, withFamily};
+ghost use Rattle.nodes.specs.Work.{soFar, withFamilies, gateRule, Placed};
+use records::Netlist;
+use rules::Node;
+
+// The family of a gate of this kind with two operands, from those in two lower parts: for XOR the product, for AND and
+// OR the empty set, both families and their product.
+fn gate_family(work: &mut [u8], into: usize, kind: u8, first: usize, second: usize)
+    requires { ⌜ HasPart (now work) into × (first < into) × (second < into) ⌝ }
+    ensures { λ _. ⌜ now (work .exit) ≡ withFamily (now (work .entry)) into (gateRule kind (familyAt (now (work .entry)) first) (familyAt (now (work .entry)) second)) ⌝ }
+{
+    if kind == 4 {
+        families::multiply(work, into, first, second);
+    } else {
+        families::spread(work, into, first, second);
+    }
+}
+
+// The settled family of node `i`, from those of its operands.
+fn settled_family(work: &mut [u8], i: usize, node: Node)
+    requires { ⌜ HasPart (now work) (2 * i) × Placed i node ⌝ }
+    ensures { λ _. ⌜ ((cell : Cell) → node ≡ entry cell → now (work .exit) ≡ withFamily (now (work .entry)) (2 * i) (settledRule (soFar (now (work .entry)) i) cell)) ⌝ }
+{
+    let into = 2 * i;
+    let kind = node.kind;
+    let first = 2 * (node.first as usize);
+    let second = 2 * (node.second as usize);
+    match kind {
+        2 => families::single(work, into, node.set as usize),
+        3 | 7 => families::copy(work, into, first),
+        _ => gate_family(work, into, kind, first, second),
+    }
+}
+
+// The glitch family of node `i`, from those of its operands; for XOR it is as for AND, and for a register the operand's
+// settled family.
+fn glitch_family(work: &mut [u8], i: usize, node: Node)
+    requires { ⌜ HasPart (now work) (2 * i + 1) × Placed i node ⌝ }
+    ensures { λ _. ⌜ ((cell : Cell) → node ≡ entry cell → now (work .exit) ≡ withFamily (now (work .entry)) (2 * i + 1) (glitchRule (soFar (now (work .entry)) i) cell)) ⌝ }
+{
+    let into = 2 * i + 1;
+    let kind = node.kind;
+    let settled = 2 * (node.first as usize);
+    let first = settled + 1;
+    let second = 2 * (node.second as usize) + 1;
+    match kind {
+        2 => families::single(work, into, node.set as usize),
+        3 => {
+            families::copy(work, into, first);
+            families::insert(work, into, 0);
+        }
+        7 => families::copy(work, into, settled),
+        _ => gate_family(work, into, 5, first, second),
+    }
+}
+
+// Both families of node `i`.
+fn node_families(work: &mut [u8], i: usize, node: Node)
+    requires { ⌜ (256 * i + 256 ≤ length (now work)) × Placed i node ⌝ }
+    ensures { λ _. ⌜ ((cell : Cell) → node ≡ entry cell → now (work .exit) ≡ withFamilies (now (work .entry)) i (familiesRule (soFar (now (work .entry)) i) cell)) ⌝ }
+{
+    settled_family(work, i, node);
+    glitch_family(work, i, node);
+}
+
+// The families of all nodes, in file order.
+pub fn all_families(netlist: Netlist, work: &mut [u8])
+    requires { ⌜ Ready netlist (length (now work)) ⌝ }
+    ensures { λ _. ⌜ ((n : Rules.Netlist) → netlist ≡ tableOf n → now (work .exit) ≡ workBytes (families n) ++ drop (length (workBytes (families n))) (now (work .entry))) ⌝ }
+{
+    let count = netlist.count;
+    let mut i = 0;
+    while i < count {
+        node_families(work, i, netlist.nodes[i]);
+        i += 1;
+    }
+}

@@ -1,0 +1,216 @@
+-- The scan of one layer of the work bytes: a node is passed or reports by the sets looked at so far, and the first node that reports is what
+-- the scan finds; over the bytes of a netlist's families that is the rules' half of the answer. Assumes nothing.
+use Prim.Native.Nat.{ℕ, zero, suc, _+_, _*_, _/_, _%_, _^_, _<_, _≤_}
+use mathlib.Core.Path.{_≡_, refl, sym, ap, ap₂, _∙_, subst}
+use mathlib.Core.Logic.{⊎-elim}
+use mathlib.Core.Bool.{Bool, true, false, not, _&&_, cond}
+use mathlib.Core.List.{List, [], _∷_, _++_, map}
+use mathlib.Core.Option.{Option, none, some}
+use native.Mathlib.Nat.{suc-add, add-suc, add-zero, zero-add, lt-of-lt-of-le}
+use native.Mathlib.Omega.{arith}
+use borrow.Author.Count.{below-more}
+use borrow.Author.Tests.{eqb-true, eqb-false}
+use lib.Dec.{T, eqb}
+use lib.ListN.{length, getD, length-map, List·getD-append, List·getD-map, List·getD-eq-default}
+use lib.Pow.{pow-mono}
+use Rattle.rules.specs.Lists.{member, tabulate}
+use Rattle.rules.specs.Records.{Class, Cell, input, NOT, XOR, AND, OR, register, kindOf, Netlist, WellFormed, odd}
+use Rattle.rules.specs.Families.{Family, Families, constant, familiesRule, families, familiesAt, suspect, tested, reported, clear, suspectAt, mark, marks, lowest, half}
+use Rattle.rules.specs.Slices.{workBytes}
+use Rattle.rules.proofs.Tests.{pass, same-test, lt-or-le}
+use Rattle.rules.proofs.Halves.{marks-at}
+use Rattle.rules.proofs.Tables.{table-length}
+use Rattle.rules.proofs.Packing.{tabulate-length, tabulate-at, work-length, settled-bit, glitch-bit}
+use Rattle.rules.proofs.Bounds.{sets-below}
+use Rattle.families.specs.Parts.{holdsAt, familyAt}
+use Rattle.families.proofs.Parts.{member-at, below-at}
+use Rattle.scan.specs.Suspects.{found}
+use Rattle.scan.proofs.Suspects.{reported-same, reported-nothing, reported-first}
+
+-- ---- the lowest node that reports
+
+lowest-clear : (first : ℕ) (reports : List (Option ℕ)) → ((j : ℕ) → getD reports j none ≡ none) → lowest first reports ≡ clear
+unfolding lowest
+lowest-clear first [] h = refl
+lowest-clear first (none ∷ rest) h = lowest-clear (suc first) rest (λ j. h (suc j))
+lowest-clear first (some A ∷ rest) h = let z : _≡_ {A = ℕ} 0 1 = cc (h 0) in absurd (omega arith)
+
+lowest-suspect : (first i A : ℕ) (reports : List (Option ℕ)) → getD reports i none ≡ some A → ((j : ℕ) → j < i → getD reports j none ≡ none)
+    → lowest first reports ≡ suspectAt (first + i) A
+unfolding lowest
+lowest-suspect first i A [] e h = let z : _≡_ {A = ℕ} 0 1 = cc in absurd (omega arith)
+lowest-suspect first zero A (none ∷ rest) e h = let z : _≡_ {A = ℕ} 0 1 = cc in absurd (omega arith)
+lowest-suspect first (suc i) A (none ∷ rest) e h =
+    lowest-suspect (suc first) i A rest e (λ j l. h (suc j) (omega arith)) ∙ rw (suc-add first i, add-suc first i)
+lowest-suspect first zero A (some B ∷ rest) e h = let same : B ≡ A = cc in rw (same, add-zero first)
+lowest-suspect first (suc i) A (some B ∷ rest) e h = let z : _≡_ {A = ℕ} 0 1 = cc (h 0 (omega arith)) in absurd (omega arith)
+
+-- ---- one node
+
+-- what node i reports of a layer of the work bytes
+unfoldable pub reports : Netlist → (layer : ℕ) → List ℕ → (i : ℕ) → Option ℕ
+reports n layer bytes i = mark (n .variables) (getD (n .nodes) i (input 0)) (familyAt bytes (2 * i + layer))
+
+-- whether a set is suspect and in the family there
+abbrev pub suspectIn : Netlist → (layer : ℕ) → List ℕ → (i A : ℕ) → Bool
+suspectIn n layer bytes i A = suspect (n .variables) A && member A (familyAt bytes (2 * i + layer))
+
+-- the sets below A are looked at, and none is suspect; all of them, where the node is not tested
+pub record Searched (n : Netlist) (layer : ℕ) (bytes : List ℕ) (i A : ℕ) : Type 0 where
+  pub isTested : A < 1024 → T (tested (getD (n .nodes) i (input 0)))
+  pub before : (B : ℕ) → B < A → T (tested (getD (n .nodes) i (input 0))) → suspectIn n layer bytes i B ≡ false
+
+-- kind 2 is not tested, and every other is
+tested-kind : (cell : Cell) → eqb (kindOf cell) 2 ≡ not (tested cell)
+unfolding kindOf tested
+tested-kind (input s) = refl
+tested-kind (NOT a) = refl
+tested-kind (XOR a b) = refl
+tested-kind (AND a b) = refl
+tested-kind (OR a b) = refl
+tested-kind (register a) = refl
+
+module _ (n : Netlist) (layer : ℕ) (bytes : List ℕ) (i : ℕ) where
+  cell : Cell
+  cell = getD (n .nodes) i (input 0)
+
+  pub search-start : (A : ℕ) → (kindOf (getD (n .nodes) i (input 0)) ≡ 2 → A ≡ 1024) → ((kindOf (getD (n .nodes) i (input 0)) ≡ 2 → ⊥) → A ≡ 0)
+      → Searched n layer bytes i A
+  unfolding cell
+  search-start A last first = go (tested cell) refl
+    where
+      go : (b : Bool) → tested cell ≡ b → Searched n layer bytes i A
+      go true e =
+          let start : A ≡ 0 = first (eqb-false (kindOf cell) 2 (tested-kind cell ∙ ap not e)) in
+          record { isTested = λ l. pass e; before = λ B l t. absurd (omega arith) }
+      go false e =
+          let end : A ≡ 1024 = last (eqb-true (kindOf cell) 2 (tested-kind cell ∙ ap not e)) in
+          record { isTested = λ l. absurd (omega arith); before = λ B l t. absurd (rw e at t) }
+
+  pub search-more : (A : ℕ) → Searched n layer bytes i A → suspectIn n layer bytes i A ≡ false → Searched n layer bytes i (A + 1)
+  search-more A s here = record {
+    isTested = λ l. s .isTested (omega arith);
+    before = λ B l t. below-more (λ B. suspectIn n layer bytes i B ≡ false) A (λ C m. s .before C m t) here B l;
+  }
+
+  pub search-none : (A : ℕ) → 1024 ≤ A → Searched n layer bytes i A → reports n layer bytes i ≡ none
+  unfolding reports mark cell
+  search-none A h s = go (tested cell) refl
+    where
+      go : (b : Bool) → tested cell ≡ b → cond b (reported (n .variables) (familyAt bytes (2 * i + layer))) none ≡ none
+      go true e =
+          reported-nothing (n .variables) (familyAt bytes (2 * i + layer))
+          (λ B m. s .before B (lt-of-lt-of-le (below-at bytes (2 * i + layer) B m) h) (pass e))
+      go false e = refl
+
+  pub search-some : (A : ℕ) → A < 1024 → Searched n layer bytes i A → suspectIn n layer bytes i A ≡ true → reports n layer bytes i ≡ some A
+  unfolding reports mark cell
+  search-some A h s here = go (tested cell) refl
+    where
+      go : (b : Bool) → tested cell ≡ b → cond b (reported (n .variables) (familyAt bytes (2 * i + layer))) none ≡ some A
+      go true e = reported-first (n .variables) (familyAt bytes (2 * i + layer)) A here (λ B l. s .before B l (pass e))
+      go false e = absurd (rw e at (s .isTested h))
+
+-- ---- all nodes
+
+-- the nodes below i report nothing
+abbrev pub Passed : Netlist → (layer : ℕ) → List ℕ → (i : ℕ) → Type 0
+Passed n layer bytes i = (j : ℕ) → j < i → reports n layer bytes j ≡ none
+
+module _ (n : Netlist) (layer : ℕ) (bytes : List ℕ) where
+  -- the families, and the reports of the nodes one by one
+  layerFamilies : List Family
+  layerFamilies = tabulate (λ i. familyAt bytes (2 * i + layer)) (length (n .nodes))
+
+  report-at : (j : ℕ)
+      → getD (marks (n .variables) (n .nodes) layerFamilies) j none ≡ mark (n .variables) (getD (n .nodes) j (input 0)) (getD layerFamilies j [])
+  unfolding layerFamilies
+  report-at j =
+      marks-at (n .variables) (n .nodes) layerFamilies [] j (sym (tabulate-length (λ i. familyAt bytes (2 * i + layer)) (length (n .nodes))))
+
+  report-there : (j : ℕ) → j < length (n .nodes) → getD (marks (n .variables) (n .nodes) layerFamilies) j none ≡ reports n layer bytes j
+  unfolding reports layerFamilies
+  report-there j h = report-at j ∙ rw (tabulate-at (λ i. familyAt bytes (2 * i + layer)) (length (n .nodes)) j [] h)
+
+  report-beyond : (j : ℕ) → length (n .nodes) ≤ j → getD (marks (n .variables) (n .nodes) layerFamilies) j none ≡ none
+  unfolding mark tested
+  report-beyond j h = report-at j ∙ rw (List·getD-eq-default (n .nodes) (input 0) {n = j} h)
+
+  pub found-suspect : (i A : ℕ) → i < length (n .nodes) → Passed n layer bytes i → reports n layer bytes i ≡ some A
+      → found n layer bytes ≡ suspectAt i A
+  unfolding found layerFamilies
+  found-suspect i A h passed here =
+      lowest-suspect 0 i A _ (report-there i h ∙ here) (λ j l. report-there j (omega arith) ∙ passed j l) ∙ rw (zero-add i)
+
+  pub found-clear : Passed n layer bytes (length (n .nodes)) → found n layer bytes ≡ clear
+  unfolding found layerFamilies
+  found-clear passed =
+      lowest-clear 0 _ (λ j. ⊎-elim (λ l. report-there j l ∙ passed j l) (report-beyond j) (lt-or-le j (length (n .nodes))))
+
+-- ---- over the bytes of a netlist's families
+
+marks-same : (variables : List Class) (cells : List Cell) (Fs Gs : List Family) (d : Family) → length Fs ≡ length cells → length Gs ≡ length cells
+    → ((i : ℕ) → i < length cells → (A : ℕ) → member A (getD Fs i d) ≡ member A (getD Gs i d))
+    → marks variables cells Fs ≡ marks variables cells Gs
+unfolding marks mark
+marks-same variables [] Fs Gs d p q h = refl
+marks-same variables (c ∷ cells) [] Gs d p q h = absurd (omega arith)
+marks-same variables (c ∷ cells) (F ∷ Fs) [] d p q h = absurd (omega arith)
+marks-same variables (c ∷ cells) (F ∷ Fs) (G ∷ Gs) d p q h =
+    ap₂ {C = List (Option ℕ)} _∷_ (rw (reported-same variables F G (h 0 (omega arith))))
+    (marks-same variables cells Fs Gs d (omega arith) (omega arith) (λ i l. h (suc i) (omega arith)))
+
+-- the bit of a set stands at byte k of the bytes in front
+front-bit : (bytes rest : List ℕ) (part A k : ℕ) → 128 * part + A / 8 ≡ k → k < length bytes
+    → holdsAt (bytes ++ rest) part A ≡ odd (getD bytes k 0 / 2 ^ (A % 8))
+unfolding holdsAt
+front-bit bytes rest part A k e h = rw (e, List·getD-append bytes rest 0 k h)
+
+module _ (n : Netlist) (obeys : WellFormed n) (rest : List ℕ) where
+  work : List ℕ
+  work = workBytes (families n) ++ rest
+
+  entries : length (families n) ≡ length (n .nodes)
+  unfolding families
+  entries = table-length familiesRule [] (n .nodes) ∙ zero-add (length (n .nodes))
+
+  -- if the bits of a layer are those of one of the two families of each node, so are the reports
+  layer-half : (layer : ℕ) (pick : Families → Family)
+      → ((i : ℕ) → i < length (families n) → (A : ℕ) → A < 1024 → holdsAt work (2 * i + layer) A ≡ member A (pick (getD (families n) i constant)))
+      → ((i A : ℕ) → T (member A (pick (familiesAt n i))) → A < 2 ^ length (n .variables))
+      → found n layer work ≡ half pick n
+  unfolding found half familiesAt
+  layer-half layer pick bit below =
+      ap (lowest 0)
+      (marks-same (n .variables) (n .nodes) (tabulate at (length (n .nodes))) (map pick (families n)) (pick constant)
+      (tabulate-length at (length (n .nodes)))
+      (length-map (families n) pick ∙ entries)
+      (λ i h A. rw (tabulate-at at (length (n .nodes)) i (pick constant) h, List·getD-map pick (families n) i constant) (same i h A)))
+    where
+      at : ℕ → Family
+      at i = familyAt work (2 * i + layer)
+
+      same : (i : ℕ) → i < length (n .nodes) → (A : ℕ) → member A (at i) ≡ member A (pick (getD (families n) i constant))
+      same i h A =
+          same-test (member A (at i)) (member A (pick (getD (families n) i constant))) (λ t. subst T (small (below-at work (2 * i + layer) A t)) t)
+          (λ t. subst T (sym (small (lt-of-lt-of-le (below i A t) (pow-mono (obeys .few-variables))))) t)
+        where
+          small : A < 1024 → member A (at i) ≡ member A (pick (getD (families n) i constant))
+          small l = member-at work (2 * i + layer) A l ∙ bit i (omega (arith, entries)) A l
+
+  -- both layers of the bytes of the families are the two halves
+  pub found-half : (found n 0 (workBytes (families n) ++ rest) ≡ half (λ F. F .settled) n)
+      × (found n 1 (workBytes (families n) ++ rest) ≡ half (λ F. F .glitch) n)
+  unfolding work
+  found-half = (
+    layer-half 0 (λ F. F .settled)
+        (λ i h A l.
+        front-bit (workBytes (families n)) rest (2 * i + 0) A (256 * i + A / 8) (omega arith) (omega (arith, work-length (families n)))
+        ∙ settled-bit (families n) i A h l)
+        (λ i. sets-below n (length (n .variables)) (obeys .declared) i .0),
+    layer-half 1 (λ F. F .glitch)
+        (λ i h A l.
+        front-bit (workBytes (families n)) rest (2 * i + 1) A (256 * i + 128 + A / 8) (omega arith) (omega (arith, work-length (families n)))
+        ∙ glitch-bit (families n) i A h l)
+        (λ i. sets-below n (length (n .variables)) (obeys .declared) i .1),
+  )

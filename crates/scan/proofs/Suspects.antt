@@ -1,0 +1,141 @@
+-- Suspect sets by bit masks: a set holds a variable of a class if it meets the mask of the class, by induction on the variables; that mask by
+-- one variable more; and what a family reports, by which of its sets are suspect. Assumes nothing.
+use Prim.Native.Nat.{ℕ, zero, suc, min, _+_, _*_, _/_, _%_, _^_, _<_, _≤_}
+use mathlib.Core.Path.{_≡_, refl, sym, ap, _∙_, subst}
+use mathlib.Core.Bool.{Bool, true, false, not, _&&_, _||_, Bool·not-not}
+use mathlib.Core.List.{List, [], _∷_, _++_, map, map-append}
+use mathlib.Core.Option.{Option, none, some}
+use native.Mathlib.Nat.{two-pow-succ}
+use native.Mathlib.Numerals.{add-one}
+use native.Mathlib.Omega.{arith}
+use borrow.Author.Tests.{ne-eqb}
+use lib.Bits.{bitAnd, and-step, and-zero-r}
+use lib.Dec.{T, eqb, T-not, not-T, eqb·suc-zero}
+use lib.ListN.{length, getD, take, length-map}
+use lib.Seq.{take-suc, length-take-le}
+use Rattle.rules.specs.Lists.{digit, member}
+use Rattle.rules.specs.Records.{Class, secret, mask, public, classByte, number}
+use Rattle.rules.specs.Values.{same}
+use Rattle.rules.specs.Families.{Family, holds, suspect, reported}
+use Rattle.rules.proofs.Tests.{pass, and-left, and-right}
+use Rattle.rules.proofs.Halves.{reported-none, reported-clear, reported-some}
+use Rattle.scan.specs.Suspects.{variablesOf}
+
+-- ---- the mask of a class
+
+-- the last bit of both numbers, and their other bits
+and-digit : (b : Bool) (s m : ℕ) → bitAnd s (digit b + 2 * m) ≡ bitAnd (s / 2) m * 2 + min (s % 2) (digit b)
+and-digit b s m =
+    let small : digit b < 2 = digit-small b in
+    let half : (digit b + 2 * m) / 2 ≡ m = omega arith in
+    let last : (digit b + 2 * m) % 2 ≡ digit b = omega arith in
+    rw (and-step s (digit b + 2 * m), half, last)
+  where
+    digit-small : (b : Bool) → digit b < 2
+    digit-small true = omega arith
+    digit-small false = omega arith
+
+doubled : (x : ℕ) → eqb x 0 ≡ eqb (x * 2 + 0) 0
+doubled zero = refl
+doubled (suc x) = eqb·suc-zero x ∙ sym (ne-eqb (suc x * 2 + 0) 0 (λ e. omega arith))
+
+one-bit : (b : Bool) (r x : ℕ) → r < 2 → (eqb r 1 && b || not (eqb x 0)) ≡ not (eqb (x * 2 + min r (digit b)) 0)
+one-bit true zero x h = ap not (doubled x)
+one-bit false zero x h = ap not (doubled x)
+one-bit true (suc zero) x h = sym (ap not (ne-eqb (x * 2 + 1) 0 (λ e. omega arith)))
+one-bit false (suc zero) x h = ap not (doubled x)
+one-bit b (suc (suc r)) x h = absurd (omega arith)
+
+pub holds-mask : (class : Class) (variables : List Class) (s : ℕ)
+    → holds class variables s ≡ not (eqb (bitAnd s (variablesOf class variables)) 0)
+unfolding holds variablesOf number
+holds-mask class [] s = rw (and-zero-r s)
+holds-mask class (c ∷ variables) s =
+    rw (holds-mask class variables (s / 2), and-digit (same class c) s (number (map (same class) variables)))
+    (one-bit (same class c) (s % 2) (bitAnd (s / 2) (number (map (same class) variables))) (omega arith))
+
+-- a set is suspect if it meets the mask of the secrets, and not that of the masks
+pub suspect-masks : (variables : List Class) (s : ℕ)
+    → suspect variables s ≡ (not (eqb (bitAnd s (variablesOf secret variables)) 0) && eqb (bitAnd s (variablesOf mask variables)) 0)
+unfolding suspect
+suspect-masks variables s = rw (holds-mask secret variables s, holds-mask mask variables s, Bool·not-not)
+
+-- ---- the mask by one variable more
+
+number-more : (bs : List Bool) (b : Bool) → number (bs ++ (b ∷ [])) ≡ number bs + digit b * 2 ^ length bs
+unfolding number
+number-more [] b = omega arith
+number-more (a ∷ bs) true = omega (arith, number-more bs true, two-pow-succ (length bs))
+number-more (a ∷ bs) false = omega (arith, number-more bs false)
+
+pub variables-more : (class : Class) (variables : List Class) (v : ℕ) → v < length variables
+    → variablesOf class (take (v + 1) variables) ≡ variablesOf class (take v variables) + digit (same class (getD variables v public)) * 2 ^ v
+unfolding variablesOf
+variables-more class variables v h =
+    let first = take v variables in
+    let here = getD variables v public in
+    let len : length (map (same class) first) ≡ v = length-map first (same class) ∙ length-take-le v variables (omega arith) in
+    rw (add-one v, take-suc variables v public h, map-append (same class) first (here ∷ []), number-more (map (same class) first) (same class here), len)
+
+pub digit-times : (b : Bool) (x : ℕ) → digit b * x ≤ x
+digit-times true x = omega arith
+digit-times false x = omega arith
+
+-- the bytes of two classes are equal if they are the same
+pub same-byte : (class other : Class) → eqb (classByte other) (classByte class) ≡ same class other
+unfolding classByte same
+same-byte secret secret = refl
+same-byte secret mask = refl
+same-byte secret public = refl
+same-byte mask secret = refl
+same-byte mask mask = refl
+same-byte mask public = refl
+same-byte public secret = refl
+same-byte public mask = refl
+same-byte public public = refl
+
+-- ---- what a family reports
+
+-- both tests cannot pass
+refuted : (a b : Bool) → (a && b) ≡ false → T a → T b → ⊥
+refuted true true e s t = subst T e tt
+refuted true false e s t = t
+refuted false b e s t = s
+
+module _ (variables : List Class) where
+  -- the suspect set of a family that no other is below
+  reported-least : (F : Family) (A : ℕ) → T (member A F) → T (suspect variables A)
+      → ((B : ℕ) → T (member B F) → T (suspect variables B) → A ≤ B) → reported variables F ≡ some A
+  reported-least F A m s least = go (reported variables F) refl
+    where
+      go : (o : Option ℕ) → reported variables F ≡ o → o ≡ some A
+      go none e = absurd (T-not (suspect variables A) (reported-none variables F e A m) s)
+      go (some C) e =
+          let (n, t, lowest) = reported-some variables F C e in
+          let below : C ≤ A = lowest A m s in
+          let above : A ≤ C = least C n t in
+          ap some (omega arith)
+
+  -- only membership counts
+  pub reported-same : (F G : Family) → ((A : ℕ) → member A F ≡ member A G) → reported variables F ≡ reported variables G
+  reported-same F G h = go (reported variables G) refl
+    where
+      go : (o : Option ℕ) → reported variables G ≡ o → reported variables F ≡ o
+      go none e = reported-clear variables F (λ A t. reported-none variables G e A (rw h at t))
+      go (some A) e =
+          let (m, s, least) = reported-some variables G A e in
+          reported-least F A (rw h m) s (λ B t u. least B (rw h at t) u)
+
+  -- what an ascending search meets: nothing, or the lowest set that is suspect and in the family
+  pub reported-nothing : (F : Family) → ((A : ℕ) → T (member A F) → (suspect variables A && member A F) ≡ false)
+      → reported variables F ≡ none
+  reported-nothing F h =
+      reported-clear variables F (λ A m. not-T (suspect variables A) (λ s. refuted (suspect variables A) (member A F) (h A m) s m))
+
+  pub reported-first : (F : Family) (A : ℕ) → (suspect variables A && member A F) ≡ true
+      → ((B : ℕ) → B < A → (suspect variables B && member B F) ≡ false) → reported variables F ≡ some A
+  reported-first F A here before =
+      reported-least F A (and-right (suspect variables A) (member A F) (pass here)) (and-left (suspect variables A) (member A F) (pass here))
+      (λ B m s.
+      let passed : B < A → ⊥ = λ l. refuted (suspect variables B) (member B F) (before B l) s m in
+      omega arith)

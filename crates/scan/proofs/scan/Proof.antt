@@ -1,0 +1,192 @@
+-- `scan::scan` meets its contract. The nodes' loop: the nodes passed report nothing. The loop in it: of the node's sets, those passed are
+-- not suspect members. Each measure is what is left to pass. Assumes nothing.
+use Prim.Native.Nat.{_-_, _≤_, _<_}
+use mathlib.Core.Path.{_≡_, refl, sym, _∙_}
+use mathlib.Core.Logic.{⊎-elim}
+use mathlib.Core.Bool.{true}
+use denote.Ref.{now}
+use native.Mathlib.Omega.{arith}
+use borrow.Author.Count.{below-more}
+use borrow.Author.Needs.{needs}
+use lib.ListN.{length, getD}
+use Rattle.rules.specs.Records as Rules
+use Rattle.rules.specs.Records.{secret, mask, input, kindOf, classByte}
+use Rattle.rules.specs.Families.{suspectAt}
+use Rattle.rules.specs.Slices.{entry}
+use Rattle.records.specs.Netlists.{blank, tableOf}
+use Rattle.records.proofs.Netlists.{table-entry-at}
+use Rattle.scan.specs.Suspects.{found}
+use Rattle.scan.proofs.Search.{suspectIn, Searched, search-start, search-more, search-none, search-some, Passed, found-suspect, found-clear}
+use Rattle.scan.proofs.scan.Statement.{statement}
+use Rattle.scan.proofs.scan.Tie as tie
+
+abbrev Inv-loop : tie.InvT-loop
+Inv-loop layer work netlist secrets masks count i set₀ part set =
+    (n : Rules.Netlist) → netlist ≡ tableOf n → Searched n layer work i set
+
+abbrev μ-loop : tie.MeasureT-loop
+μ-loop layer work netlist secrets masks count i set₀ part set = 1024 - set
+
+abbrev Inv-nodes : tie.InvT-nodes
+Inv-nodes layer work netlist secrets masks count i₀ set₀ i set =
+    (i ≤ count) × ((n : Rules.Netlist) → netlist ≡ tableOf n → Passed n layer work i)
+
+abbrev μ-nodes : tie.MeasureT-nodes
+μ-nodes layer work netlist secrets masks count i₀ set₀ i set = count - i
+
+-- where a turn of the nodes' loop began, and where the function did
+abbrev turn : tie.After-suspect-in Inv-loop μ-loop Inv-nodes μ-nodes → tie.At-nodes Inv-loop μ-loop Inv-nodes μ-nodes
+turn c = c .before .before .before .before .before .before
+
+abbrev start : tie.At-nodes Inv-loop μ-loop Inv-nodes μ-nodes → tie.Start Inv-loop μ-loop Inv-nodes μ-nodes
+start c = c .before .before .before .before
+
+-- the bounds of the netlist
+few : (c : tie.Start Inv-loop μ-loop Inv-nodes μ-nodes) → (c .args .t1 .variables ≤ 10) × (c .args .t1 .count ≤ 200)
+unfolding tableOf
+few c = rw (c .pre .0 .formed .is) (c .pre .0 .formed .obeys .few-variables, c .pre .0 .formed .obeys .few-nodes)
+
+variables-of-requires : tie.Need-variables-of-requires Inv-loop μ-loop Inv-nodes μ-nodes
+variables-of-requires c κs = few (c .before) .0
+
+variables-of-requires-2 : tie.Need-variables-of-requires-2 Inv-loop μ-loop Inv-nodes μ-nodes
+variables-of-requires-2 c κs = few (c .before .before) .0
+
+nodes-holds : tie.Need-nodes-holds Inv-loop μ-loop Inv-nodes μ-nodes
+nodes-holds c = (search needs, λ n e j l. absurd (omega arith))
+
+mul-node : tie.Need-mul-node Inv-loop μ-loop Inv-nodes μ-nodes
+mul-node c = omega (arith, few (start (c .before)))
+
+element-copy-out-node : tie.Need-element-copy-out-node Inv-loop μ-loop Inv-nodes μ-nodes
+element-copy-out-node c = omega (arith, few (start (c .before)))
+
+mul-part : tie.Need-mul-part Inv-loop μ-loop Inv-nodes μ-nodes
+mul-part c = omega (arith, few (start (c .before .before)))
+
+add-part : tie.Need-add-part Inv-loop μ-loop Inv-nodes μ-nodes
+add-part c = omega (arith, few (start (c .before .before)))
+
+first-set-requires : tie.Need-first-set-requires Inv-loop μ-loop Inv-nodes μ-nodes
+first-set-requires c κs = search needs
+
+loop-holds : tie.Need-loop-holds Inv-loop μ-loop Inv-nodes μ-nodes
+unfolding entry tableOf
+loop-holds c =
+    λ n e.
+    let args = start (c .before .before .before) .args in
+    let i = c .before .before .before .nodes .i in
+    let inside : i < length (n .nodes) = rw e at (c .before .before .nodes-test .taken) in
+    let kind : getD (args .t1 .nodes) i blank .kind ≡ kindOf (getD (n .nodes) i (input 0)) = rw (e, table-entry-at n i inside) in
+    search-start n (args .layer) (now (args .work)) i (c .first-set .result) (rw kind at (c .first-set .ensures .0))
+    (rw kind at (c .first-set .ensures .1))
+
+suspect-in-requires : tie.Need-suspect-in-requires Inv-loop μ-loop Inv-nodes μ-nodes
+suspect-in-requires c κs = omega (arith, start (c .before .before .before .before .before) .pre)
+
+add-set : tie.Need-add-set Inv-loop μ-loop Inv-nodes μ-nodes
+add-set c = omega arith
+
+loop-less : tie.Need-loop-less Inv-loop μ-loop Inv-nodes μ-nodes
+loop-less c = omega arith
+
+-- what is tested is whether the set is suspect and in the family
+tested-set : (c : tie.After-suspect-in Inv-loop μ-loop Inv-nodes μ-nodes) (n : Rules.Netlist) → start (turn c) .args .t1 ≡ tableOf n
+    → c .suspect-in .result
+    ≡ suspectIn n (start (turn c) .args .layer) (now (start (turn c) .args .work)) (turn c .nodes .i) (c .before .before .loop .set)
+unfolding classByte
+tested-set c n e =
+    c .suspect-in .ensures (n .variables) (turn c .before .before .variables-of .ensures n secret e refl)
+    (turn c .before .variables-of2 .ensures n mask e refl)
+
+loop-again : tie.Need-loop-again Inv-loop μ-loop Inv-nodes μ-nodes
+loop-again c =
+    λ n e.
+    search-more n _ _ _ _ (c .before .before .before .loop .inv n e) (sym (tested-set (c .before) n e) ∙ c .if1 .left)
+
+add-i : tie.Need-add-i Inv-loop μ-loop Inv-nodes μ-nodes
+add-i c = omega (arith, few (start (c .before .before .before .before .before)))
+
+nodes-less : tie.Need-nodes-less Inv-loop μ-loop Inv-nodes μ-nodes
+nodes-less c = omega arith
+
+nodes-again : tie.Need-nodes-again Inv-loop μ-loop Inv-nodes μ-nodes
+nodes-again c = (
+  omega arith,
+  λ n e.
+      below-more _ _ (c .before .before .before .before .before .nodes .inv .1 n e)
+      (search-none n _ _ _ (c .before .loop .set) (c .loop-test .left) (c .before .loop .inv n e)),
+)
+
+-- where a set breaks both loops off, it is what is found
+broken-off : (c : tie.After-suspect-in Inv-loop μ-loop Inv-nodes μ-nodes) → c .suspect-in .result ≡ true
+    → (n : Rules.Netlist) → start (turn c) .args .t1 ≡ tableOf n
+    → suspectAt (turn c .nodes .i) (c .before .before .loop .set) ≡ found n (start (turn c) .args .layer) (now (start (turn c) .args .work))
+unfolding tableOf
+broken-off c hit n e =
+    sym
+    (found-suspect n _ _ _ _ (rw e at (c .before .before .before .before .before .nodes-test .taken)) (turn c .nodes .inv .1 n e)
+    (search-some n _ _ _ _ (c .before .loop-test .taken) (c .before .before .loop .inv n e) (sym (tested-set c n e) ∙ hit)))
+
+returns : tie.Need-returns Inv-loop μ-loop Inv-nodes μ-nodes
+returns c =
+    λ n e.
+    ⊎-elim (λ w. absurd (omega arith))
+    (λ w.
+    rw (w .7)
+    (broken-off
+    record {
+      before = record {
+        before = record {
+          before = record {
+            before = record { before = record { before = c .before .before; nodes-test = w .0 }; node = w .1 };
+            first-set = w .2;
+          };
+          loop = w .3;
+        };
+        loop-test = w .4;
+      };
+      suspect-in = w .5;
+    }
+    (w .6 .taken) n e))
+    (c .before .nodes-test .came)
+
+returns-2 : tie.Need-returns-2 Inv-loop μ-loop Inv-nodes μ-nodes
+unfolding tableOf
+returns-2 c =
+    λ n e.
+    let i = c .before .before .nodes .i in
+    ⊎-elim
+    (λ w.
+    let within : i ≤ start (c .before .before) .args .t1 .count = c .before .before .nodes .inv .0 in
+    let all : i ≡ length (n .nodes) = omega (arith, rw e at within, rw e at (w .0 .left)) in
+    sym (found-clear n _ _ (rw all at (c .before .before .nodes .inv .1 n e))))
+    (λ w. absurd (omega arith))
+    (c .before .nodes-test .came)
+
+pub scan-spec : {M : Type 1} → statement M
+scan-spec =
+    tie.close
+    (tie.spec
+    Inv-loop
+    μ-loop
+    Inv-nodes
+    μ-nodes
+    variables-of-requires
+    variables-of-requires-2
+    nodes-holds
+    mul-node
+    element-copy-out-node
+    mul-part
+    add-part
+    first-set-requires
+    loop-holds
+    suspect-in-requires
+    add-set
+    loop-less
+    loop-again
+    add-i
+    nodes-less
+    nodes-again
+    returns
+    returns-2)
