@@ -1,20 +1,23 @@
 -- Netlists by value: a store behind the entries is one entry more, each entry stands in the table, and no two netlists have the same one. By laws
 -- of padded lists of any length, so that no array is unfolded. Assumes nothing.
 use Prim.Native.Nat.{ℕ, zero, suc, _-_, _≤_, _<_}
-use mathlib.Core.Path.{_≡_, refl, sym, ap, _∙_}
+use mathlib.Core.Path.{_≡_, refl, sym, ap, subst, _∙_}
 use mathlib.Core.List.{List, [], _∷_, _++_, map, map-append}
 use native.Mathlib.Nat.{sub-zero}
 use native.Mathlib.Omega.{arith}
 use lib.ListN.{length, getD, take, set, replicate, length-append, length-map, length-replicate, List·getD-append}
 use lib.Seq.{append-snoc, set-append-seam, take-at}
 use Rattle.rules.specs.declared.Node.{Node}
+use Rattle.rules.specs.declared.Refusal.{Refusal}
 use Rattle.rules.specs.Records.{Class, secret, mask, public, Cell, input, NOT, XOR, AND, OR, register, Netlist, classOf, classByte, kindOf, operands, setOf}
 use Rattle.rules.specs.Slices.{entry}
-use Rattle.rules.specs.Checks.{reading}
+use Rattle.rules.specs.Checks.{Outcome, answered, refused, reading, finished}
+use Rattle.rules.specs.Paper.{numberOf, placeOf}
 use Rattle.records.specs.declared.Netlist.{Netlist as Table}
+use Rattle.records.specs.declared.Stage.{Stage}
 use Rattle.records.specs.declared.Stage.the-variants as Stage
 use Rattle.records.specs.declared.Progress.{Progress}
-use Rattle.records.specs.Netlists.{padded, blank, tableOf, Reached}
+use Rattle.records.specs.Netlists.{padded, blank, tableOf, RefusedAs, Reached}
 
 -- ---- padded lists
 
@@ -133,3 +136,35 @@ module _ (s : Progress) (n : Netlist) (here : ℕ) (e : Reached s (reading n her
   pub reading-netlist : s .netlist ≡ tableOf n
   unfolding Reached
   reading-netlist = ap (λ (p : Progress). p .netlist) e
+
+-- ---- a file that is read
+
+-- the reading of a file has ended with its netlist
+pub record Ends (s : Progress) (outcome : Outcome Netlist) : Type 0 where
+  pub netlist : Netlist
+  pub is : outcome ≡ answered netlist
+  pub value : s .netlist ≡ tableOf netlist
+
+module _ (s : Progress) where
+  pub read-ended : (o : Outcome Netlist) → Reached s (finished o) → s .stage ≡ Stage.Ended → Ends s o
+  unfolding RefusedAs Reached
+  read-ended (answered n) e t = record { netlist = n; is = refl; value = ap (λ (p : Progress). p .netlist) e }
+  read-ended (refused k p) e t = absurd (subst (λ (x : Stage). RefusedAs x k p) t (e .stage))
+
+  pub read-refused : (o : Outcome Netlist) (r : Refusal) → Reached s (finished o) → s .stage ≡ Stage.Refused r → o ≡ refused (numberOf r) (placeOf r)
+  unfolding RefusedAs Reached
+  read-refused (answered n) r e t =
+      let over : _≡_ {A = Stage} Stage.Ended (Stage.Refused r) = sym (ap (λ (p : Progress). p .stage) e) ∙ t in
+      let no : _≡_ {A = ℕ} 0 1 = cc in
+      absurd (omega arith)
+  read-refused (refused k p) r e t =
+      let is : (numberOf r ≡ k) × (placeOf r ≡ p) = subst (λ (x : Stage). RefusedAs x k p) t (e .stage) in rw (is .0, is .1)
+
+  -- no file is still being read
+  pub read-over : (o : Outcome Netlist) → Reached s (finished o) → s .stage ≡ Stage.Reading → ⊥
+  unfolding RefusedAs Reached
+  read-over (answered n) e t =
+      let over : _≡_ {A = Stage} Stage.Ended Stage.Reading = sym (ap (λ (p : Progress). p .stage) e) ∙ t in
+      let no : _≡_ {A = ℕ} 0 1 = cc in
+      omega arith
+  read-over (refused k p) e t = subst (λ (x : Stage). RefusedAs x k p) t (e .stage)

@@ -1,0 +1,113 @@
+-- What the core's functions cite: each way through reading and the slices examines the outcome that the rules give, and from that follow the
+-- promises of `examine`. Assumes nothing.
+use mathlib.Core.Path.{_≡_, refl, sym, ap, subst, _∙_}
+use mathlib.Core.Logic.{_↔_}
+use mathlib.Core.List.{List, _++_}
+use Prim.Native.Nat.{ℕ, _*_, _<_, _≤_}
+use native.Mathlib.Omega.{arith}
+use lib.ListN.{length, drop}
+use borrow.Author.Tests.{lt-ltb, le-ltb}
+use Rattle.rules.specs.Records.{Netlist, empty, WellFormed}
+use Rattle.rules.specs.Families.{families, findings}
+use Rattle.rules.specs.Slices.{workBytes, filled, workAfter, reply}
+use Rattle.rules.specs.Checks.{Outcome, answered, refused, andThen, judged, read, slicesFit, admitted}
+use Rattle.rules.specs.Demands.{Clear, NothingSuspect, OneProbe}
+use Rattle.rules.specs.Paper.{numberOf, placeOf, findingOf, replyOf}
+use Rattle.rules.specs.declared.Half.{Half}
+use Rattle.rules.specs.declared.Refusal.{Refusal}
+use Rattle.rules.specs.declared.Refusal.the-variants.{FewEntries, ShortWork}
+use Rattle.rules.specs.declared.Reply.the-variants.{Refused, Answered}
+use Rattle.rules.proofs.Halves.{exactly-when}
+use Rattle.rules.proofs.Probe.{one-probe}
+use Rattle.records.specs.declared.Netlist as Value
+use Rattle.records.specs.Netlists.{tableOf, Formed, Ready}
+use Rattle.records.proofs.Netlists.{table-injective}
+use Rattle.scan.specs.Suspects.{found}
+use Rattle.scan.proofs.Search.{found-half}
+use Rattle.checker.specs.declared.Examined.{Examined}
+use Rattle.checker.specs.Work.{kept, Examines}
+
+-- a refusal, with nothing kept and nothing written
+pub refusal : (r : Refusal) (k p : ℕ) (examined : Examined) (work : List ℕ) → numberOf r ≡ k → placeOf r ≡ p
+    → examined .reply ≡ Refused r → examined .netlist ≡ tableOf empty → Examines (refused k p) examined work work
+unfolding andThen kept filled
+refusal r k p examined work n w e t =
+    record { reply = subst (λ x. replyOf x ≡ refused k p) (sym e) (rw (n, w)); netlist = t; work = refl }
+
+-- the counts of a netlist by value
+pub counts : {value : Value.Netlist} (n : Netlist) → value ≡ tableOf n → value .count ≡ length (n .nodes)
+unfolding tableOf
+counts n e = ap (λ (v : Value.Netlist). v .count) e
+
+pub few : {value : Value.Netlist} → Formed value → value .count ≤ 200
+few f = omega (arith, counts (f .netlist) (f .is), f .obeys .few-nodes)
+
+-- the answer of a netlist whose families stand in the work slice
+pub answers : (value : Value.Netlist) (work : ℕ) → Ready value work → (n : Netlist) → value ≡ tableOf n → (settled glitch : Half) (before : List ℕ) {after : List ℕ}
+    → after ≡ workBytes (families n) ++ drop (length (workBytes (families n))) before → findingOf settled ≡ found n 0 after → findingOf glitch ≡ found n 1 after
+    → Examines (answered n) (record {
+      reply = Answered (record { variables = value .variables; nodes = value .count; settled = settled; glitch = glitch });
+      netlist = value;
+    }) before after
+unfolding andThen findings kept filled tableOf
+answers value work ready n e settled glitch before w s g =
+    let f = ready .formed in
+    let formed : WellFormed n = subst (λ (m : Netlist). WellFormed m) (table-injective (f .netlist) n (sym (f .is) ∙ e)) (f .obeys) in
+    let halves = found-half n formed (drop (length (workBytes (families n))) before) in
+    let first = s ∙ ap (found n 0) w ∙ halves .0 in
+    let second = g ∙ ap (found n 1) w ∙ halves .1 in
+    let variables = ap (λ (v : Value.Netlist). v .variables) e in
+    let nodes = counts n e in
+    record { reply = rw (first, second, variables, nodes); netlist = e; work = w }
+
+-- the slices are too short, or hold a netlist of so many nodes
+module _ (entries count : ℕ) (n : Netlist) (examined : Examined) (before : List ℕ) (same : count ≡ length (n .nodes)) where
+  pub few-entries : entries < count → examined .reply ≡ Refused (FewEntries count) → examined .netlist ≡ tableOf empty
+      → Examines (slicesFit entries (length before) n) examined before before
+  unfolding slicesFit judged
+  few-entries h r t = rw (← same, lt-ltb _ _ h) (refusal _ _ _ examined before refl refl r t)
+
+  pub short-work : count ≤ entries → length before < 256 * count → examined .reply ≡ Refused (ShortWork (256 * count)) → examined .netlist ≡ tableOf empty
+      → Examines (slicesFit entries (length before) n) examined before before
+  unfolding slicesFit judged
+  short-work h l r t = rw (← same, le-ltb _ _ h, lt-ltb _ _ l) (refusal _ _ _ examined before refl refl r t)
+
+  pub both-fit : count ≤ entries → 256 * count ≤ length before → (after : List ℕ) → Examines (answered n) examined before after
+      → Examines (slicesFit entries (length before) n) examined before after
+  unfolding slicesFit judged
+  both-fit h l after e = rw (← same, le-ltb _ _ h, le-ltb _ _ l) e
+
+module _ (bytes : List ℕ) (entries : ℕ) where
+  -- a file that is read, and one that is refused
+  pub of-read : (n : Netlist) (examined : Examined) (before after : List ℕ) → read bytes ≡ answered n
+      → Examines (slicesFit entries (length before) n) examined before after → Examines (admitted bytes entries (length before)) examined before after
+  unfolding admitted andThen
+  of-read n examined before after e x = rw e x
+
+  pub of-refused : (r : Refusal) (examined : Examined) (before : List ℕ) → read bytes ≡ refused (numberOf r) (placeOf r)
+      → examined .reply ≡ Refused r → examined .netlist ≡ tableOf empty → Examines (admitted bytes entries (length before)) examined before before
+  unfolding admitted andThen
+  of-refused r examined before e q t = rw e (refusal r _ _ examined before refl refl q t)
+
+  -- the promises of `examine`, in their order
+  pub promises : (examined : Examined) (before after : List ℕ) → Examines (admitted bytes entries (length before)) examined before after
+      → (replyOf (examined .reply) ≡ reply bytes entries (length before))
+      × ((examined .netlist ≡ tableOf (kept (admitted bytes entries (length before))))
+      × ((after ≡ workAfter bytes entries before)
+      × ((Clear (replyOf (examined .reply)) ↔ NothingSuspect bytes entries (length before))
+      × (Clear (replyOf (examined .reply)) → OneProbe bytes))))
+  unfolding reply workAfter
+  promises examined before after e =
+      let is : replyOf (examined .reply) ≡ reply bytes entries (length before) = e .reply in (
+        is,
+        (
+          e .netlist,
+          (
+            e .work,
+            (
+              subst (λ r. Clear r ↔ NothingSuspect bytes entries (length before)) (sym is) (exactly-when bytes entries (length before)),
+              subst (λ r. Clear r → OneProbe bytes) (sym is) (one-probe bytes entries (length before)),
+            ),
+          ),
+        ),
+      )

@@ -1,0 +1,86 @@
+-- The records that are stored at the front of a slice: those of a netlist by value are the entries of its nodes, and so the slice holds
+-- what the rules say it holds at exit. By recursion on the number of records. Assumes nothing.
+use Prim.Native.Nat.{ℕ, zero, suc, _+_, _<_, _≤_, zero-le}
+use mathlib.Core.Path.{_≡_, refl, sym, _∙_, ap, subst}
+use mathlib.Core.List.{List, [], _∷_, _++_, map}
+use native.Mathlib.Nat.{not-suc-le-zero, le-of-suc-le-suc, le-of-lt, le-add-right}
+use native.Mathlib.Numerals.{add-one}
+use lib.ListN.{length, getD, take, drop, set, length-set, length-append, length-map}
+use lib.Seq.{take-append-seam}
+use Rattle.rules.specs.declared.Node.{Node}
+use Rattle.rules.specs.Records.{Netlist, empty}
+use Rattle.rules.specs.Slices.{entry, filled, nodesAfter}
+use Rattle.rules.specs.Checks.{Outcome, answered, refused, admitted}
+use Rattle.rules.proofs.Reading.{read-well-formed}
+use Rattle.rules.proofs.Room.{admitted-says}
+use Rattle.records.specs.Netlists.{padded, blank, tableOf}
+use Rattle.checker.specs.Work.{kept, stored}
+
+-- an element behind those that stand at the front
+one-more {ℓ} : {A : Type ℓ} (d : A) (k : ℕ) (xs ys : List A) → k < length xs → k < length ys
+    → set (take k xs ++ drop k ys) k (getD xs k d) ≡ take (suc k) xs ++ drop (suc k) ys
+one-more d k [] ys h h′ = absurd (not-suc-le-zero h)
+one-more d k (x ∷ xs) [] h h′ = absurd (not-suc-le-zero h′)
+one-more d zero (x ∷ xs) (y ∷ ys) h h′ = refl
+one-more {A = A} d (suc k) (x ∷ xs) (y ∷ ys) h h′ = ap {B = List A} (λ zs. x ∷ zs) (one-more d k xs ys (le-of-suc-le-suc h) (le-of-suc-le-suc h′))
+
+module _ (records before : List Node) where
+  pub stored-none : stored records before 0 ≡ before
+  unfolding stored
+  stored-none = refl
+
+  pub stored-more : (k : ℕ) → stored records before (k + 1) ≡ set (stored records before k) k (getD records k blank)
+  unfolding stored
+  stored-more k = rw (add-one k)
+
+  pub stored-length : (k : ℕ) → length (stored records before k) ≡ length before
+  unfolding stored
+  stored-length zero = refl
+  stored-length (suc k) = length-set (stored records before k) k (getD records k blank) ∙ stored-length k
+
+  stored-front : (k : ℕ) → k ≤ length records → k ≤ length before → stored records before k ≡ take k records ++ drop k before
+  unfolding stored
+  stored-front zero h h′ = refl
+  stored-front (suc k) h h′ =
+      ap (λ (zs : List Node). set zs k (getD records k blank)) (stored-front k (le-of-lt h) (le-of-lt h′)) ∙ one-more blank k records before h h′
+
+-- all records of a netlist by value
+table-stored : (n : Netlist) (before : List Node) → length (n .nodes) ≤ length before
+    → stored (tableOf n .nodes) before (tableOf n .count) ≡ map entry (n .nodes) ++ drop (length (map entry (n .nodes))) before
+unfolding tableOf padded
+table-stored n before enough =
+    subst (λ (k : ℕ). stored (tableOf n .nodes) before k ≡ entries ++ drop (length entries) before) count
+    (stored-front (tableOf n .nodes) before (length entries) within (subst (λ (k : ℕ). k ≤ length before) (sym count) enough)
+    ∙ ap (λ (zs : List Node). zs ++ drop (length entries) before) (take-append-seam entries _))
+  where
+    entries : List Node
+    entries = map entry (n .nodes)
+
+    count : length entries ≡ length (n .nodes)
+    count = length-map (n .nodes) entry
+
+    within : length entries ≤ length (tableOf n .nodes)
+    within = subst (λ (k : ℕ). length entries ≤ k) (sym (length-append entries _)) (le-add-right _ _)
+
+-- the count of what is kept
+pub kept-fits : (bytes : List ℕ) (entries work : ℕ)
+    → (tableOf (kept (admitted bytes entries work)) .count ≤ entries) × (tableOf (kept (admitted bytes entries work)) .count ≤ 200)
+unfolding tableOf kept
+kept-fits bytes entries work = go (admitted bytes entries work) refl
+  where
+    go : (o : Outcome Netlist) → admitted bytes entries work ≡ o → (tableOf (kept o) .count ≤ entries) × (tableOf (kept o) .count ≤ 200)
+    go (answered n) e =
+        let says = admitted-says bytes entries work n e in
+        (says .room .enough-entries, read-well-formed bytes n (says .is-read) .few-nodes)
+    go (refused number place) e = (zero-le, zero-le)
+
+-- the slice at exit, where what is kept is stored
+pub kept-stored : (bytes : List ℕ) (before : List Node) (work : ℕ)
+    → stored (tableOf (kept (admitted bytes (length before) work)) .nodes) before (tableOf (kept (admitted bytes (length before) work)) .count) ≡ nodesAfter bytes before work
+unfolding kept filled nodesAfter
+kept-stored bytes before work = go (admitted bytes (length before) work) refl
+  where
+    go : (o : Outcome Netlist) → admitted bytes (length before) work ≡ o
+        → stored (tableOf (kept o) .nodes) before (tableOf (kept o) .count) ≡ filled (λ n. map entry (n .nodes)) o before
+    go (answered n) e = table-stored n before (admitted-says bytes (length before) work n e .room .enough-entries)
+    go (refused number place) e = table-stored empty before zero-le

@@ -1,0 +1,147 @@
+// The checker: `check` over netlist bytes and both lent slices. `examine` is the same over flat forms: it takes the number
+// of entries, and answers the node records by value.
+ghost use mathlib.Core.Path.{_≡_};
+ghost use mathlib.Core.Logic.{_↔_};
+ghost use Prim.Native.Nat.{_<_, _≤_};
+ghost use lib.ListN.{length, getD};
+ghost use Rattle.rules.specs.Records as Rules;
+ghost use Rattle.rules.specs.Slices.{nodesAfter, workAfter, reply};
+ghost use Rattle.rules.specs.Checks.{answered, slicesFit, admitted};
+ghost use Rattle.rules.specs.Demands.{Clear, NothingSuspect, OneProbe};
+ghost use Rattle.rules.specs.Paper.{replyOf};
+ghost use Rattle.records.specs.Netlists.{blank, tableOf, Formed, Ready};
+ghost use Rattle.checker.specs.Work.{kept, Examines, stored};
+use records::Netlist;
+use records::Stage;
+use rules::Answer;
+use rules::Node;
+use rules::Refusal;
+use rules::Reply;
+
+// What is examined: the reply, and the netlist by value, which is empty on a refusal.
+pub struct Examined {
+    pub reply: Reply,
+    pub netlist: Netlist,
+}
+
+// A refusal, with nothing kept.
+fn refused(refusal: Refusal) -> Examined
+    ensures { λ r. ⌜ (r .reply ≡ Reply.Refused refusal) × (r .netlist ≡ tableOf Rules.empty) ⌝ }
+{
+    Examined {
+        reply: Reply::Refused(refusal),
+        netlist: records::no_records(),
+    }
+}
+
+// The answer for a netlist that both slices have room for.
+fn answer(netlist: Netlist, work: &mut [u8]) -> Examined
+    requires { ⌜ Ready netlist (length (now work)) ⌝ }
+    ensures { λ r. ⌜ ((n : Rules.Netlist) → netlist ≡ tableOf n → Examines (answered n) r (now (work .entry)) (now (work .exit))) ⌝ }
+{
+    nodes::all_families(netlist, work);
+    let settled = scan::scan(netlist, 0, work);
+    let glitch = scan::scan(netlist, 1, work);
+    let answer = Answer {
+        variables: netlist.variables,
+        nodes: netlist.count,
+        settled,
+        glitch,
+    };
+    Examined {
+        reply: Reply::Answered(answer),
+        netlist,
+    }
+}
+
+// The answer for a netlist that was read, or the refusal of slices that are too short for it.
+fn admit(netlist: Netlist, entries: usize, work: &mut [u8]) -> Examined
+    requires { ⌜ Formed netlist ⌝ }
+    ensures { λ r. ⌜ ((n : Rules.Netlist) → netlist ≡ tableOf n → Examines (slicesFit entries (length (now (work .entry))) n) r (now (work .entry)) (now (work .exit))) ⌝ }
+{
+    let count = netlist.count;
+    let bytes = 256 * count;
+    if entries < count {
+        return refused(Refusal::FewEntries(count));
+    }
+    if work.len() < bytes {
+        return refused(Refusal::ShortWork(bytes));
+    }
+    answer(netlist, work)
+}
+
+// Checks netlist bytes for a slice of so many entries and a work slice.
+pub fn examine(bytes: &[u8], entries: usize, work: &mut [u8]) -> Examined
+    ensures reply { λ r. ⌜ replyOf (r .reply) ≡ reply (now (bytes .entry)) entries (length (now (work .entry))) ⌝ }
+    ensures netlist { λ r. ⌜ r .netlist ≡ tableOf (kept (admitted (now (bytes .entry)) entries (length (now (work .entry))))) ⌝ }
+    ensures work { λ _. ⌜ now (work .exit) ≡ workAfter (now (bytes .entry)) entries (now (work .entry)) ⌝ }
+    ensures clear { λ r. ⌜ Clear (replyOf (r .reply)) ↔ NothingSuspect (now (bytes .entry)) entries (length (now (work .entry))) ⌝ }
+    ensures probe { λ r. ⌜ (Clear (replyOf (r .reply)) → OneProbe (now (bytes .entry))) ⌝ }
+{
+    let progress = records::read(bytes);
+    let stage = progress.stage;
+    let netlist = progress.netlist;
+    match stage {
+        Stage::Refused(refusal) => refused(refusal),
+        Stage::Reading => refused(Refusal::NoEnd(bytes.len())),
+        Stage::Ended => admit(netlist, entries, work),
+    }
+}
+
+// ---- the entry point, over the lent slice of node records
+
+// How many node records were examined, one of them, and the reply.
+fn count_of(examined: Examined) -> usize
+    ensures { λ r. ⌜ r ≡ examined .netlist .count ⌝ }
+{
+    let netlist = examined.netlist;
+    netlist.count
+}
+
+fn record_of(examined: Examined, i: usize) -> Node
+    requires { ⌜ i < 200 ⌝ }
+    ensures { λ r. ⌜ r ≡ getD (examined .netlist .nodes) i blank ⌝ }
+{
+    let netlist = examined.netlist;
+    netlist.nodes[i]
+}
+
+fn reply_of(examined: Examined) -> Reply
+    ensures { λ r. ⌜ r ≡ examined .reply ⌝ }
+{
+    examined.reply
+}
+
+// Writes the node records that were examined to the front of the slice.
+fn store(nodes: &mut [Node], examined: Examined)
+    requires { ⌜ (examined .netlist .count ≤ length (now nodes)) × (examined .netlist .count ≤ 200) ⌝ }
+    ensures { λ _. ⌜ now (nodes .exit) ≡ stored (examined .netlist .nodes) (now (nodes .entry)) (examined .netlist .count) ⌝ }
+{
+    let count = count_of(examined);
+    let mut i = 0;
+    while i < count {
+        nodes[i] = record_of(examined, i);
+        i += 1;
+    }
+}
+
+// The node record at an entry.
+pub fn node_at(nodes: &[Node], i: usize) -> Node
+    requires { ⌜ i < length (now nodes) ⌝ }
+    ensures { λ r. ⌜ r ≡ getD (now (nodes .entry)) i blank ⌝ }
+{
+    nodes[i]
+}
+
+// Checks netlist bytes: the reply, the node records at the front of `nodes` and the families at the front of `work`.
+pub fn check(bytes: &[u8], nodes: &mut [Node], work: &mut [u8]) -> Reply
+    ensures reply { λ r. ⌜ replyOf r ≡ reply (now (bytes .entry)) (length (now (nodes .entry))) (length (now (work .entry))) ⌝ }
+    ensures nodes { λ _. ⌜ now (nodes .exit) ≡ nodesAfter (now (bytes .entry)) (now (nodes .entry)) (length (now (work .entry))) ⌝ }
+    ensures work { λ _. ⌜ now (work .exit) ≡ workAfter (now (bytes .entry)) (length (now (nodes .entry))) (now (work .entry)) ⌝ }
+    ensures clear { λ r. ⌜ Clear (replyOf r) ↔ NothingSuspect (now (bytes .entry)) (length (now (nodes .entry))) (length (now (work .entry))) ⌝ }
+    ensures probe { λ r. ⌜ (Clear (replyOf r) → OneProbe (now (bytes .entry))) ⌝ }
+{
+    let examined = examine(bytes, nodes.len(), work);
+    store(nodes, examined);
+    reply_of(examined)
+}
