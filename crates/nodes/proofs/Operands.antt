@@ -16,7 +16,7 @@ use Rattle.rules.specs.Families.{Family, product, spread, Families, constant, s
 use Rattle.rules.specs.Slices.{entry}
 use Rattle.rules.proofs.Lists.{member-head, member-tail}
 use Rattle.families.specs.Parts.{familyAt}
-use Rattle.nodes.specs.Work.{familiesIn, soFar, gateRule, Placed}
+use Rattle.nodes.specs.Work.{familiesIn, soFar, Placed}
 use Rattle.nodes.proofs.Nodes.{so-far-at}
 
 -- ---- the fields that are operands
@@ -77,17 +77,21 @@ module _ {i : ℕ} {node : Node} (p : Placed i node) where
 
 -- ---- the rules, by the record's kind
 
+-- of a gate with two operands
+abbrev gateBy : (kind : ℕ) → Family → Family → Family
+gateBy kind F G = cond (eqb kind 4) (product F G) (spread F G)
+
 -- from the families of its operands, which `F` gives; for the glitch family their settled ones, which `F` gives, and their glitch ones, `G`
 unfoldable settledBy : Node → (F : ℕ → Family) → Family
 settledBy n F =
     cond (eqb (n .kind) 2) (n .set ∷ [])
-    (cond (eqb (n .kind) 3 || eqb (n .kind) 7) (F (n .first)) (gateRule (n .kind) (F (n .first)) (F (n .second))))
+    (cond (eqb (n .kind) 3 || eqb (n .kind) 7) (F (n .first)) (gateBy (n .kind) (F (n .first)) (F (n .second))))
 
 unfoldable glitchBy : Node → (F G : ℕ → Family) → Family
 glitchBy n F G =
     cond (eqb (n .kind) 2) (n .set ∷ [])
     (cond (eqb (n .kind) 3) (insert 0 (G (n .first)))
-    (cond (eqb (n .kind) 7) (F (n .first)) (gateRule 5 (G (n .first)) (G (n .second)))))
+    (cond (eqb (n .kind) 7) (F (n .first)) (gateBy 5 (G (n .first)) (G (n .second)))))
 
 abbrev settledIn : List ℕ → (node : ℕ) → Family
 settledIn bytes a = familyAt bytes (2 * a)
@@ -109,7 +113,7 @@ module _ (bytes : List ℕ) {i : ℕ} where
   at-both f cell p h = ap₂ f (at-first cell p (h .input)) (so-far-at bytes i (secondOf cell) (placed-second p h))
 
   settled-by : (cell : Cell) → Placed i (entry cell) → settledRule (soFar bytes i) cell ≡ settledBy (entry cell) (settledIn bytes)
-  unfolding settledRule settledBy gateRule entry kindOf operands setOf
+  unfolding settledRule settledBy entry kindOf operands setOf
   settled-by (input s) p = refl
   settled-by (NOT a) p = ap (λ F. F .settled) (at-first (NOT a) p (eqb-false 3 2 refl))
   settled-by (XOR a b) p = at-both (λ F G. product (F .settled) (G .settled)) (XOR a b) p (two-operands 4 refl refl refl)
@@ -118,7 +122,7 @@ module _ (bytes : List ℕ) {i : ℕ} where
   settled-by (register a) p = ap (λ F. F .settled) (at-first (register a) p (eqb-false 7 2 refl))
 
   glitch-by : (cell : Cell) → Placed i (entry cell) → glitchRule (soFar bytes i) cell ≡ glitchBy (entry cell) (settledIn bytes) (glitchIn bytes)
-  unfolding glitchRule glitchBy gateRule entry kindOf operands setOf
+  unfolding glitchRule glitchBy entry kindOf operands setOf
   glitch-by (input s) p = refl
   glitch-by (NOT a) p = ap (λ F. insert 0 (F .glitch)) (at-first (NOT a) p (eqb-false 3 2 refl))
   glitch-by (XOR a b) p = at-both (λ F G. spread (F .glitch) (G .glitch)) (XOR a b) p (two-operands 4 refl refl refl)
@@ -144,7 +148,7 @@ module _ (bytes : List ℕ) {i : ℕ} {node : Node} (p : Placed i node) (cell : 
   settled-copy (inr k) = settled-is ∙ rw k
 
   pub settled-gate : TwoOperands (node .kind)
-      → settledRule (soFar bytes i) cell ≡ gateRule (node .kind) (familyAt bytes (2 * node .first)) (familyAt bytes (2 * node .second))
+      → settledRule (soFar bytes i) cell ≡ gateBy (node .kind) (familyAt bytes (2 * node .first)) (familyAt bytes (2 * node .second))
   unfolding settledBy
   settled-gate h = settled-is ∙ rw (ne-eqb (node .kind) 2 (h .input), ne-eqb (node .kind) 3 (h .not), ne-eqb (node .kind) 7 (h .register))
 
@@ -161,6 +165,6 @@ module _ (bytes : List ℕ) {i : ℕ} {node : Node} (p : Placed i node) (cell : 
   glitch-register k = glitch-is ∙ rw k
 
   pub glitch-gate : TwoOperands (node .kind)
-      → glitchRule (soFar bytes i) cell ≡ gateRule 5 (familyAt bytes (2 * node .first + 1)) (familyAt bytes (2 * node .second + 1))
+      → glitchRule (soFar bytes i) cell ≡ gateBy 5 (familyAt bytes (2 * node .first + 1)) (familyAt bytes (2 * node .second + 1))
   unfolding glitchBy
   glitch-gate h = glitch-is ∙ rw (ne-eqb (node .kind) 2 (h .input), ne-eqb (node .kind) 3 (h .not), ne-eqb (node .kind) 7 (h .register))

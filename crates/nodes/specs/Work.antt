@@ -2,13 +2,12 @@
 -- the contracts of this crate. Assumes nothing.
 use Prim.Native.Nat.{ℕ, _+_, _*_, _<_}
 use mathlib.Core.Path.{_≡_}
-use mathlib.Core.Bool.{cond}
 use mathlib.Core.List.{List}
-use lib.Dec.{T, eqb}
+use lib.Dec.{T}
 use Rattle.rules.specs.declared.Node.{Node}
 use Rattle.rules.specs.Lists.{member, tabulate}
 use Rattle.rules.specs.Records.{Cell, operands, setOf}
-use Rattle.rules.specs.Families.{Family, product, spread, Families}
+use Rattle.rules.specs.Families.{Families}
 use Rattle.rules.specs.Slices.{entry}
 use Rattle.families.specs.Parts.{familyAt, withFamily}
 
@@ -23,10 +22,6 @@ soFar bytes i = tabulate (familiesIn bytes) i
 -- the bytes with the families of node i
 unfoldable pub withFamilies : List ℕ → (i : ℕ) → Families → List ℕ
 withFamilies bytes i F = withFamily (withFamily bytes (2 * i) (F .settled)) (2 * i + 1) (F .glitch)
-
--- what a gate of kind k with two operands makes of their families, by the settled column
-unfoldable pub gateRule : (k : ℕ) → Family → Family → Family
-gateRule k F G = cond (eqb k 4) (product F G) (spread F G)
 
 -- a node record that can stand at number i: that of a node whose operands are lower and whose set is one of ten variables
 pub record Placed (i : ℕ) (n : Node) : Type 0 where

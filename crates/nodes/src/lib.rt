@@ -2,15 +2,17 @@
 // after it its glitch family.
 ghost use mathlib.Core.Path.{_≡_};
 ghost use Prim.Native.Nat.{_+_, _*_, _<_, _≤_};
+ghost use mathlib.Core.Bool.{cond};
 ghost use mathlib.Core.List.{_++_};
+ghost use lib.Dec.{eqb};
 ghost use lib.ListN.{length, drop};
 ghost use Rattle.rules.specs.Records as Rules;
 ghost use Rattle.rules.specs.Records.{Cell};
-ghost use Rattle.rules.specs.Families.{settledRule, glitchRule, familiesRule, families};
+ghost use Rattle.rules.specs.Families.{product, spread, settledRule, glitchRule, familiesRule, families};
 ghost use Rattle.rules.specs.Slices.{entry, workBytes};
 ghost use Rattle.records.specs.Netlists.{tableOf, Ready};
 ghost use Rattle.families.specs.Parts.{HasPart, familyAt, withFamily};
-ghost use Rattle.nodes.specs.Work.{soFar, withFamilies, gateRule, Placed};
+ghost use Rattle.nodes.specs.Work.{soFar, withFamilies, Placed};
 use records::Netlist;
 use rules::Node;
 
@@ -18,7 +20,7 @@ use rules::Node;
 // OR the empty set, both families and their product.
 fn gate_family(work: &mut [u8], into: usize, kind: u8, first: usize, second: usize)
     requires { ⌜ HasPart (now work) into × (first < into) × (second < into) ⌝ }
-    ensures { λ _. ⌜ now (work .exit) ≡ withFamily (now (work .entry)) into (gateRule kind (familyAt (now (work .entry)) first) (familyAt (now (work .entry)) second)) ⌝ }
+    ensures { λ _. ⌜ now (work .exit) ≡ withFamily (now (work .entry)) into (cond (eqb kind 4) (product (familyAt (now (work .entry)) first) (familyAt (now (work .entry)) second)) (spread (familyAt (now (work .entry)) first) (familyAt (now (work .entry)) second))) ⌝ }
 {
     if kind == 4 {
         families::multiply(work, into, first, second);

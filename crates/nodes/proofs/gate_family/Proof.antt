@@ -1,7 +1,6 @@
--- `nodes::gate_family` meets its contract: the branch's test is that of `gateRule`. Assumes nothing.
+-- `nodes::gate_family` meets its contract: by its two branches. Assumes nothing.
 use borrow.Author.Tests.{ne-eqb}
 use borrow.Author.Needs.{needs}
-use Rattle.nodes.specs.Work.{gateRule}
 use Rattle.nodes.proofs.gate_family.Statement.{statement}
 use Rattle.nodes.proofs.gate_family.Tie as tie
 
@@ -15,14 +14,12 @@ same-length : tie.Need-same-length
 same-length c = search needs
 
 returns : tie.Need-returns
-unfolding gateRule
 returns c = rw (c .before .before .before .before .if1 .taken) (c .before .before .multiply .ensures)
 
 same-length-2 : tie.Need-same-length-2
 same-length-2 c = search needs
 
 returns-2 : tie.Need-returns-2
-unfolding gateRule
 returns-2 c = rw (ne-eqb _ 4 (c .before .before .before .before .if1 .left)) (c .before .before .spread .ensures)
 
 pub gate-family-spec : {M : Type 1} → statement M
