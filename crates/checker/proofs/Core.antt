@@ -10,7 +10,7 @@ use borrow.Author.Tests.{lt-ltb, le-ltb}
 use Rattle.rules.specs.Records.{Netlist, empty, WellFormed}
 use Rattle.rules.specs.Families.{families, findings}
 use Rattle.rules.specs.Slices.{workBytes, filled, workAfter, reply}
-use Rattle.rules.specs.Checks.{Outcome, answered, refused, andThen, judged, read, slicesFit, admitted}
+use Rattle.rules.specs.Checks.{answered, refused, andThen, judged, read, slicesFit, admitted}
 use Rattle.rules.specs.Demands.{Clear, NothingSuspect, OneProbe}
 use Rattle.rules.specs.Paper.{numberOf, placeOf, findingOf, replyOf}
 use Rattle.rules.specs.declared.Half.{Half}

@@ -1,7 +1,6 @@
 -- `checker::examine` meets its contract: what is examined is what the rules admit, whether reading refuses, the slices are too short, or
 -- neither. Assumes nothing.
 use borrow.Author.Needs.{needs}
-use mathlib.Core.Path.{sym, _∙_}
 use Rattle.rules.proofs.Reading.{read-well-formed}
 use Rattle.records.proofs.Netlists.{read-ended, read-refused, read-over}
 use Rattle.checker.proofs.Core.{of-read, of-refused, promises}
