@@ -1,0 +1,162 @@
+// Checks block A and block B of document 01, and shows of each the reply, two node records and those nodes' families as
+// sets.
+ghost use mathlib.Core.Path.{_≡_};
+ghost use Prim.Native.Nat.{_+_, _*_, _≤_, _<_};
+ghost use lib.ListN.{length, getD, replicate};
+ghost use Rattle.rules.specs.Slices.{nodesAfter, workAfter, reply};
+ghost use Rattle.rules.specs.Paper.{replyOf};
+ghost use Rattle.records.specs.Netlists.{blank};
+ghost use Rattle.families.specs.Parts.{HasPart};
+use libc::STDOUT_FILENO;
+use rules::Answer;
+use rules::Half;
+use rules::Node;
+use rules::Refusal;
+use rules::Reply;
+
+// What a check of a block leaves: the reply and one entry.
+struct Seen {
+    reply: Reply,
+    node: Node,
+}
+
+// Checks a block over eight entries of its own, and reads one of them.
+fn check_block(bytes: &[u8], work: &mut [u8], i: usize) -> Seen
+    requires { ⌜ i < 8 ⌝ }
+    ensures reply { λ r. ⌜ replyOf (r .reply) ≡ reply (now (bytes .entry)) 8 (length (now (work .entry))) ⌝ }
+    ensures node { λ r. ⌜ r .node ≡ getD (nodesAfter (now (bytes .entry)) (replicate 8 blank) (length (now (work .entry)))) i blank ⌝ }
+    ensures work { λ _. ⌜ now (work .exit) ≡ workAfter (now (bytes .entry)) 8 (now (work .entry)) ⌝ }
+{
+    let mut nodes = [Node {
+        kind: 0,
+        first: 0,
+        second: 0,
+        set: 0,
+    }; 8];
+    let reply = checker::check(bytes, &mut nodes, work);
+    let node = checker::node_at(&nodes, i);
+    Seen { reply, node }
+}
+
+fn print_field(x: usize) {
+    io::write_all(STDOUT_FILENO, b" ");
+    io::print_decimal(STDOUT_FILENO, x as u64);
+}
+
+fn end_line() {
+    io::write_all(STDOUT_FILENO, b"\n");
+}
+
+fn print_half(half: Half) {
+    match half {
+        Half::Clear => {
+            io::write_all(STDOUT_FILENO, b" clear");
+        }
+        Half::Suspect(node, set) => {
+            print_field(node);
+            print_field(set);
+        }
+    }
+    end_line();
+}
+
+fn print_refusal(refusal: Refusal) {
+    io::write_all(STDOUT_FILENO, b"refused");
+    print_field(rules::number_of(refusal));
+    print_field(rules::place_of(refusal));
+    end_line();
+}
+
+fn print_answer(answer: Answer) {
+    let settled = answer.settled;
+    let glitch = answer.glitch;
+    io::write_all(STDOUT_FILENO, b"vars");
+    print_field(answer.variables);
+    io::write_all(STDOUT_FILENO, b" nodes");
+    print_field(answer.nodes);
+    end_line();
+    io::write_all(STDOUT_FILENO, b"settled");
+    print_half(settled);
+    io::write_all(STDOUT_FILENO, b"glitch");
+    print_half(glitch);
+}
+
+fn print_reply(reply: Reply) {
+    match reply {
+        Reply::Refused(refusal) => print_refusal(refusal),
+        Reply::Answered(answer) => print_answer(answer),
+    }
+}
+
+fn print_node(i: usize, node: Node) {
+    io::write_all(STDOUT_FILENO, b"node");
+    print_field(i);
+    io::write_all(STDOUT_FILENO, b" kind");
+    print_field(node.kind as usize);
+    io::write_all(STDOUT_FILENO, b" operands");
+    print_field(node.first as usize);
+    print_field(node.second as usize);
+    io::write_all(STDOUT_FILENO, b" set");
+    print_field(node.set as usize);
+    end_line();
+}
+
+fn print_set(work: &[u8], part: usize, set: usize)
+    requires { ⌜ HasPart (now work) part × (set < 1024) ⌝ }
+{
+    if families::holds(work, part, set) {
+        print_field(set);
+    }
+}
+
+fn print_family(work: &[u8], part: usize)
+    requires { ⌜ HasPart (now work) part ⌝ }
+{
+    let mut set = 0;
+    while set < 1024 {
+        print_set(work, part, set);
+        set += 1;
+    }
+    end_line();
+}
+
+// A node's record and its two families.
+fn print_entry(work: &[u8], i: usize, node: Node)
+    requires { ⌜ HasPart (now work) (2 * i + 1) ⌝ }
+{
+    print_node(i, node);
+    io::write_all(STDOUT_FILENO, b"settled family");
+    print_family(work, 2 * i);
+    io::write_all(STDOUT_FILENO, b"glitch family");
+    print_family(work, 2 * i + 1);
+}
+
+// The reply to a block, and two of its nodes.
+fn show(bytes: &[u8], i: usize, j: usize)
+    requires { ⌜ (i < 8) × (j < 8) ⌝ }
+{
+    let mut work = [0u8; 2048];
+    let seen = check_block(bytes, &mut work, i);
+    let reply = seen.reply;
+    let node = seen.node;
+    print_reply(reply);
+    print_entry(&work, i, node);
+    let again = check_block(bytes, &mut work, j);
+    let other = again.node;
+    print_entry(&work, j, other);
+}
+
+fn main() {
+    io::write_all(STDOUT_FILENO, b"block A\n");
+    show(
+        b"\x01\x00\x01\x01\x01\x01\x02\x03\x00\x02\x02\x00\x02\x04\x00\x04\x00\x02\x04\x03\x01\x00",
+        3,
+        4,
+    );
+    io::write_all(STDOUT_FILENO, b"block B\n");
+    show(
+        b"\x01\x00\x01\x01\x01\x01\x02\x03\x00\x02\x02\x00\x02\x04\x00\x04\x00\x02\x07\x03\x04\x04\x01\x00",
+        4,
+        5,
+    );
+}
