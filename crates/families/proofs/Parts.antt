@@ -1,5 +1,5 @@
--- A part of a slice of families: its members are its bits, and `withFamily` writes one part and sees membership alone. By the entries of the
--- slice, outside the part and in it; what a part holds, by induction on the number of sets looked at. Assumes nothing.
+-- A part of a slice of families: its members are its bits, each named once, and `withFamily` writes one part and sees membership alone. By the
+-- entries of the slice, outside the part and in it; what a part holds, by induction on the number of sets looked at. Assumes nothing.
 use Prim.Native.Nat.{ℕ, zero, suc, _+_, _*_, _-_, _/_, _%_, _^_, _≤_, _<_}
 use mathlib.Core.Path.{_≡_, refl, sym, ap, _∙_}
 use mathlib.Core.Logic.{_⊎_, inl, inr, ⊎-elim}
@@ -17,6 +17,7 @@ use Rattle.rules.specs.Slices.{familyBytes}
 use Rattle.rules.proofs.Tests.{same-test, lt-or-le}
 use Rattle.rules.proofs.Lists.{member-head, member-tail, member-cases, member-union}
 use Rattle.rules.proofs.Members.{All, all-none, all-front}
+use Rattle.rules.proofs.Once.{once}
 use Rattle.rules.proofs.Packing.{family-length, family-bit, family-below, family-same}
 use Rattle.rules.proofs.Sets.{same-number}
 use Rattle.families.specs.Parts.{HasPart, holdsAt, setsBelow, familyAt, withFamily}
@@ -35,6 +36,10 @@ module _ (bytes : List ℕ) (part : ℕ) where
       go true rest = all-front (λ A. A < suc k) k (setsBelow bytes part k) (omega arith) rest
       go false rest = rest
 
+  -- so k is none of them
+  not-yet : (k : ℕ) → member k (setsBelow bytes part k) ≡ false
+  not-yet k = same-test (member k (setsBelow bytes part k)) false (λ t. let l : k < k = sets-below k k t in omega arith) absurd
+
   -- and they are those whose bits are set
   member-below : (k A : ℕ) → A < k → member A (setsBelow bytes part k) ≡ holdsAt bytes part A
   unfolding setsBelow
@@ -50,8 +55,18 @@ module _ (bytes : List ℕ) (part : ℕ) where
       go true e (inr l) rest =
           same-test (member A (k ∷ F)) (member A F) (λ t. ⊎-elim (λ p. absurd (omega arith)) (λ m. m) (member-cases A k F t)) (member-tail A k F)
           ∙ rest l
-      go false e (inl p) rest = rw (p, e) (same-test (member k F) false (λ t. let l : k < k = sets-below k k t in omega arith) absurd)
+      go false e (inl p) rest = rw (p, e, not-yet k)
       go false e (inr l) rest = rest l
+
+  -- each is named once
+  once-below : (k : ℕ) → T (once (setsBelow bytes part k))
+  unfolding once setsBelow
+  once-below zero = tt
+  once-below (suc k) = go (holdsAt bytes part k) (once-below k)
+    where
+      go : (b : Bool) → T (once (setsBelow bytes part k)) → T (once (cond b (k ∷ setsBelow bytes part k) (setsBelow bytes part k)))
+      go true rest = rw (not-yet k) rest
+      go false rest = rest
 
   pub member-at : (A : ℕ) → A < 1024 → member A (familyAt bytes part) ≡ holdsAt bytes part A
   unfolding familyAt
@@ -60,6 +75,10 @@ module _ (bytes : List ℕ) (part : ℕ) where
   pub below-at : (A : ℕ) → T (member A (familyAt bytes part)) → A < 1024
   unfolding familyAt
   below-at A t = sets-below 1024 A t
+
+  pub once-at : T (once (familyAt bytes part))
+  unfolding familyAt
+  once-at = once-below 1024
 
 -- parts with the same bits hold the same family
 sets-same : (bytes other : List ℕ) (part k : ℕ) → ((A : ℕ) → A < k → holdsAt bytes part A ≡ holdsAt other part A)

@@ -1,39 +1,34 @@
 -- The families of all nodes in the work bytes. Once the first k nodes are done the bytes are those of their families and, behind them, what
 -- stood there. The rules see of their operands' families only which sets are in them, so the families of node k as worked out from the bytes
 -- have the bytes that the rules say. Assumes nothing.
-use Prim.Native.Nat.{ℕ, _+_, _*_, _/_, _%_, _^_, _≤_, _<_}
+use Prim.Native.Nat.{ℕ, _+_, _*_, _≤_, _<_}
 use mathlib.Core.Path.{_≡_, refl, sym, ap, ap₂, _∙_}
-use mathlib.Core.Logic.{_⊎_, inl, inr}
-use mathlib.Core.Bool.{Bool}
 use mathlib.Core.List.{List, [], _∷_, _++_, append-assoc, append-nil}
-use native.Mathlib.Nat.{zero-add, le-refl, lt-of-lt-of-le}
+use native.Mathlib.Nat.{zero-add, le-refl}
 use native.Mathlib.Numerals.{add-one}
 use native.Mathlib.Omega.{arith}
 use lib.Dec.{T}
-use lib.ListN.{length, getD, take, drop, length-append, length-drop, List·getD-append}
-use lib.Pow.{pow-mono}
+use lib.ListN.{length, getD, take, drop, length-append, length-drop}
 use lib.Seq.{take-suc, take-all, take-at, drop-append-add, drop-drop, getD-take, length-take-le}
 use Rattle.rules.specs.Lists.{member, insert, union}
 use Rattle.rules.specs.Tables.{table}
-use Rattle.rules.specs.Records.{Cell, input, NOT, XOR, AND, OR, register, Netlist, WellFormed, operands, setOf, odd}
+use Rattle.rules.specs.Records.{Cell, input, NOT, XOR, AND, OR, register, Netlist, WellFormed, operands}
 use Rattle.rules.specs.Families.{Family, product, spread, Families, constant, settledRule, glitchRule, familiesRule, families, familiesAt}
 use Rattle.rules.specs.Slices.{entry, familyBytes, nodeBytes, workBytes}
-use Rattle.rules.proofs.Tests.{same-test, lt-or-le}
+use Rattle.rules.proofs.Tests.{same-test}
 use Rattle.rules.proofs.Lists.{member-head, member-tail, member-insert, member-union, product-holds}
-use Rattle.rules.proofs.Bounds.{product-cases, sets-below}
+use Rattle.rules.proofs.Bounds.{product-cases}
 use Rattle.rules.proofs.Tables.{table-length, table-snoc, table-take}
-use Rattle.rules.proofs.Packing.{tabulate-at, tabulate-same, family-length, work-length, settled-bit, glitch-bit}
+use Rattle.rules.proofs.Packing.{tabulate-at, tabulate-same, family-length, work-length}
 use Rattle.records.specs.declared.Netlist as Value
 use Rattle.records.specs.Netlists.{blank, tableOf, Formed}
 use Rattle.records.proofs.Netlists.{table-entry-at}
-use Rattle.families.specs.Parts.{HasPart, holdsAt, familyAt, withFamily}
-use Rattle.families.proofs.Parts.{member-at, below-at, with-same, with-there}
+use Rattle.families.specs.Parts.{HasPart, withFamily}
+use Rattle.families.proofs.Parts.{with-same, with-there}
+use Rattle.families.proofs.Work.{Alike, settled-alike, glitch-alike, set-small, families-small}
 use Rattle.nodes.specs.Work.{familiesIn, soFar, withFamilies, Placed}
 
 -- ---- families with the same sets
-
-pub record Alike (F G : Family) : Type 0 where
-  pub same : (A : ℕ) → member A F ≡ member A G
 
 alike-insert : {F G : Family} → Alike F G → Alike (insert 0 F) (insert 0 G)
 alike-insert {F} {G} h = record { same = λ A. rw (member-insert A 0 F, member-insert A 0 G, h .same A) }
@@ -59,9 +54,9 @@ unfolding spread
 alike-spread p q = alike-insert (alike-union p (alike-union q (alike-product p q)))
 
 -- both families of a node
-pub record BothAlike (F G : Families) : Type 0 where
-  pub settled : Alike (F .settled) (G .settled)
-  pub glitch : Alike (F .glitch) (G .glitch)
+record BothAlike (F G : Families) : Type 0 where
+  settled : Alike (F .settled) (G .settled)
+  glitch : Alike (F .glitch) (G .glitch)
 
 -- those of some nodes, in two tables
 abbrev AlikeAt : (done other : List Families) → (nodes : List ℕ) → Type 0
@@ -106,43 +101,6 @@ so-far-with bytes i F has =
     (λ a l.
     rw
     (with-there bytes (2 * i) (2 * a) F has (λ e. omega arith), with-there bytes (2 * i) (2 * a + 1) F has (λ e. omega arith)))
-
--- ---- what a part of the work bytes holds
-
--- a part whose bits are those of a family of sets below 1024
-part-alike : (bytes : List ℕ) (part : ℕ) (F : Family) → ((A : ℕ) → A < 1024 → holdsAt bytes part A ≡ member A F)
-    → ((A : ℕ) → T (member A F) → A < 1024) → Alike (familyAt bytes part) F
-part-alike bytes part F bit below = record { same = λ A. go A (lt-or-le A 1024) }
-  where
-    go : (A : ℕ) → (A < 1024) ⊎ (1024 ≤ A) → member A (familyAt bytes part) ≡ member A F
-    go A (inl l) = member-at bytes part A l ∙ bit A l
-    go A (inr l) =
-        same-test (member A (familyAt bytes part)) (member A F)
-        (λ t. absurd (omega (arith, below-at bytes part A t))) (λ t. absurd (omega (arith, below A t)))
-
--- sets of ten variables
-pub record Small (F : Families) : Type 0 where
-  pub settled : (A : ℕ) → T (member A (F .settled)) → A < 1024
-  pub glitch : (A : ℕ) → T (member A (F .glitch)) → A < 1024
-
--- the bytes of some nodes' families hold them, whatever stands behind
-pub work-alike : (Fs : List Families) (rest : List ℕ) (a : ℕ) → a < length Fs → Small (getD Fs a constant)
-    → BothAlike (familiesIn (workBytes Fs ++ rest) a) (getD Fs a constant)
-unfolding holdsAt
-work-alike Fs rest a h small = record {
-  settled = part-alike (workBytes Fs ++ rest) (2 * a) _
-      (λ A l. ap (bitOf A) (front (128 * (2 * a) + A / 8) (256 * a + A / 8) (omega arith) (omega arith)) ∙ settled-bit Fs a A h l)
-      (small .settled);
-  glitch = part-alike (workBytes Fs ++ rest) (2 * a + 1) _
-      (λ A l. ap (bitOf A) (front (128 * (2 * a + 1) + A / 8) (256 * a + 128 + A / 8) (omega arith) (omega arith)) ∙ glitch-bit Fs a A h l)
-      (small .glitch);
-}
-  where
-    bitOf : ℕ → ℕ → Bool
-    bitOf A b = odd (b / 2 ^ (A % 8))
-
-    front : (i j : ℕ) → i ≡ j → j < 256 * length Fs → getD (workBytes Fs ++ rest) i 0 ≡ getD (workBytes Fs) j 0
-    front i j e l = rw e (List·getD-append (workBytes Fs) rest 0 j (omega (arith, work-length Fs)))
 
 -- ---- one node more
 
@@ -225,16 +183,9 @@ done-length n before k h room =
     )
 
 module _ (n : Netlist) (formed : WellFormed n) where
-  -- every set is one of ten variables
-  set-small : (i : ℕ) → i < length (n .nodes) → setOf (getD (n .nodes) i (input 0)) < 2 ^ 10
-  set-small i h = lt-of-lt-of-le (formed .declared i h) (pow-mono (formed .few-variables))
-
-  pub families-small : (i : ℕ) → Small (familiesAt n i)
-  families-small i = let (s, g) = sets-below n 10 set-small i in record { settled = s; glitch = g }
-
   -- each node can stand at its number
   pub placed : (i : ℕ) → i < length (n .nodes) → Placed i (entry (getD (n .nodes) i (input 0)))
-  placed i h = record { cell = getD (n .nodes) i (input 0); is = refl; lower = formed .lower i h; small = set-small i h }
+  placed i h = record { cell = getD (n .nodes) i (input 0); is = refl; lower = formed .lower i h; small = set-small n formed i h }
 
   first-at : (k a : ℕ) → a < k → getD (firstFamilies n k) a constant ≡ familiesAt n a
   unfolding familiesAt families
@@ -248,10 +199,7 @@ module _ (n : Netlist) (formed : WellFormed n) where
   next-done before k h =
       with-alike bytes k
       (rules-alike (soFar bytes k) first cell
-      (λ a t.
-      let l : a < k = formed .lower k h a t in
-      rw (so-far-at bytes k a l)
-      (work-alike first (drop (256 * k) before) a (omega (arith, there)) (rw (first-at k a l) (families-small a)))))
+      (λ a t. let l : a < k = formed .lower k h a t in rw (so-far-at bytes k a l) (held a l)))
       ∙ node-behind first before k (familiesRule first cell) there
       ∙ ap {B = List ℕ} (λ Fs. workBytes Fs ++ drop (256 * (k + 1)) before)
       (rw (add-one k, take-suc (n .nodes) k (input 0) h) (sym (table-snoc familiesRule (take k (n .nodes)) cell)))
@@ -267,6 +215,15 @@ module _ (n : Netlist) (formed : WellFormed n) where
 
       there : length first ≡ k
       there = first-length n k (omega arith)
+
+      -- the bytes hold the families of the nodes that are done
+      held : (a : ℕ) → a < k → BothAlike (familiesIn bytes a) (getD first a constant)
+      held a l =
+          let (s, g) = families-small n formed a in
+          record {
+            settled = settled-alike first (drop (256 * k) before) a (omega (arith, there)) (rw (first-at k a l) s);
+            glitch = glitch-alike first (drop (256 * k) before) a (omega (arith, there)) (rw (first-at k a l) g);
+          }
 
 pub all-done : (n : Netlist) (before : List ℕ)
     → nodesDone n before (length (n .nodes)) ≡ workBytes (families n) ++ drop (length (workBytes (families n))) before

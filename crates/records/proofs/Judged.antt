@@ -9,8 +9,9 @@ use native.Mathlib.Omega.{arith}
 use lib.Dec.{leb, ltb}
 use lib.Pow.{pow-pos}
 use borrow.Author.Tests.{lt-ltb, le-ltb, lt-leb, ltb-true, ltb-false}
-use Rattle.rules.specs.Records.{Cell, input, NOT, XOR, AND, OR, register, node, said, size, recordBytes, body, operands, setOf}
-use Rattle.rules.specs.Checks.{Check, check, judged, overLimit, undeclared, undeclaredSet, notBelow, badOperand, judgedRecord}
+use Rattle.rules.specs.Records.{Cell, input, NOT, XOR, AND, OR, register, Record, node, said, size, recordBytes, body, operands, setOf}
+use Rattle.rules.specs.Checks.{andThen, Check, check, judged, overLimit, undeclared, undeclaredSet, notBelow, badOperand, judgedRecord}
+use Rattle.records.specs.Netlists.{foundIf}
 
 -- the second list is what is left of the first without some rows whose condition is false; a row for either of two conditions is two rows
 data Leaves : List Check → List Check → Type 0 where
@@ -19,14 +20,15 @@ data Leaves : List Check → List Check → Type 0 where
   kept : {cs ds : List Check} {k p : ℕ} {x y : Bool} → x ≡ y → Leaves cs ds → Leaves (check k x p ∷ cs) (check k y p ∷ ds)
   either : {cs ds : List Check} {k p : ℕ} {x y : Bool} → Leaves (check k x p ∷ check k y p ∷ cs) ds → Leaves (check k (x || y) p ∷ cs) ds
 
-same : {A : Type 0} {cs ds : List Check} (a : A) → Leaves cs ds → judged cs a ≡ judged ds a
-unfolding judged
-same a none = refl
-same a (dropped e l) = rw e (same a l)
-same a (kept {x = true} e l) = rw (sym e)
-same a (kept {x = false} e l) = rw (sym e) (same a l)
-same a (either {x = true} l) = same a l
-same a (either {x = false} l) = same a l
+-- what is to be found where the first list judges a record, by the second
+same : (k b c : ℕ) {cs ds : List Check} (r : Record) → Leaves cs ds → foundIf (judged cs r) k b c ≡ judged ds (record { kind = k; first = b; second = c })
+unfolding foundIf andThen judged
+same k b c r none = refl
+same k b c r (dropped e l) = rw e (same k b c r l)
+same k b c r (kept {x = true} e l) = rw (sym e)
+same k b c r (kept {x = false} e l) = rw (sym e) (same k b c r l)
+same k b c r (either {x = true} l) = same k b c r l
+same k b c r (either {x = false} l) = same k b c r l
 
 -- a row for each operand that is not below n
 abbrev operandRows : (n here : ℕ) → List ℕ → List Check
@@ -53,7 +55,7 @@ ends-within total here s inside = same-test total (here + s) (total - here) s (�
 module _ (total v n here b c : ℕ) where
   -- for a record of kind k the table leaves these rows
   abbrev Left : (k : ℕ) → List Check → Type 0
-  Left k rows = judgedRecord total v n here k b c ≡ judged rows (said k b c)
+  Left k rows = foundIf (judgedRecord total v n here k b c) k b c ≡ judged rows (record { kind = k; first = b; second = c })
 
   -- the rows that a gate or a register of so many bytes has
   abbrev gateRows : (bytes : ℕ) (operands : List ℕ) → List Check
@@ -64,7 +66,7 @@ module _ (total v n here b c : ℕ) where
     pub end-checks : Left 0 (check 9 (ltb 1 (total - here)) (here + 1) ∷ [])
     unfolding judgedRecord said overLimit size recordBytes undeclaredSet badOperand
     end-checks =
-        same (said 0 b c)
+        same 0 b c (said 0 b c)
         (dropped (lt-leb total here inside)
         (dropped refl
         (dropped refl
@@ -78,7 +80,7 @@ module _ (total v n here b c : ℕ) where
     pub variable-checks : Left 1 (check 2 (ltb 0 n) here ∷ check 3 (leb 10 v) here ∷ check 4 (ltb (total - here) 2) here ∷ check 5 (ltb 2 b) here ∷ [])
     unfolding judgedRecord said overLimit size recordBytes undeclaredSet badOperand
     variable-checks =
-        same (said 1 b c)
+        same 1 b c (said 1 b c)
         (dropped (lt-leb total here inside)
         (dropped refl
         (kept refl
@@ -96,7 +98,7 @@ module _ (total v n here b c : ℕ) where
     unfolding judgedRecord overLimit undeclaredSet badOperand
     node-checks k cell known says rest =
         rw says
-        (same (node cell)
+        (same k b c (node cell)
         (dropped (lt-leb total here inside)
         (dropped (le-ltb 7 k known)
         (dropped refl

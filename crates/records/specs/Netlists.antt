@@ -3,13 +3,13 @@ use Prim.Native.Nat.{ℕ, _+_, _*_, _-_, _^_, _≤_, _<_}
 use mathlib.Core.Path.{_≡_}
 use mathlib.Core.Bool.{false}
 use mathlib.Core.List.{List, _++_, map}
-use lib.ListN.{length, replicate}
+use lib.ListN.{length, getD, replicate}
 use Rattle.rules.specs.declared.Node.{Node}
 use Rattle.rules.specs.Records as R
 use Rattle.rules.specs.Records.{Record, empty, said, classByte}
 use Rattle.rules.specs.Slices.{entry}
 use Rattle.rules.specs.Checks as C
-use Rattle.rules.specs.Checks.{Outcome, answered, refused, overLimit, reading, finished}
+use Rattle.rules.specs.Checks.{Outcome, answered, refused, andThen, overLimit, judgedAt, reading, finished}
 use Rattle.rules.specs.Paper.{numberOf, placeOf}
 use Rattle.records.specs.declared.Found.{Found}
 use Rattle.records.specs.declared.Found.the-variants as Found
@@ -18,10 +18,25 @@ use Rattle.records.specs.declared.Stage.{Stage}
 use Rattle.records.specs.declared.Stage.the-variants as Stage
 use Rattle.records.specs.declared.Progress.{Progress}
 
--- what one record says
-abbrev pub foundOf : Found → Outcome Record
-foundOf (Found.Record k b c) = answered (said k b c)
+-- the bytes of a record: its kind byte and the two behind it
+pub record RecordBytes : Type 0 where
+  pub kind : ℕ
+  pub first : ℕ
+  pub second : ℕ
+
+-- what is found is these bytes, or a refusal
+abbrev pub foundOf : Found → Outcome RecordBytes
+foundOf (Found.Record k b c) = answered (record { kind = k; first = b; second = c })
 foundOf (Found.Refused r) = refused (numberOf r) (placeOf r)
+
+-- what is to be found where the rules judge the record of these bytes so
+unfoldable pub foundIf : Outcome Record → (k b c : ℕ) → Outcome RecordBytes
+foundIf o k b c = andThen o (λ _. answered (record { kind = k; first = b; second = c }))
+
+-- what is to be found in a file, after so many variables and nodes
+abbrev pub foundAt : List ℕ → (v n here : ℕ) → Outcome RecordBytes
+foundAt bytes v n here =
+    foundIf (judgedAt bytes v n here) (getD bytes here 0) (getD bytes (here + 1) 0) (getD bytes (here + 2) 0)
 
 -- a list of k entries that begins with xs and goes on with `rest`
 unfoldable pub padded {ℓ} : {A : Type ℓ} → (k : ℕ) (rest : A) → List A → List A
@@ -51,9 +66,11 @@ pub record Ready (value : Netlist) (work : ℕ) : Type 0 where
   pub formed : Formed value
   pub room : 256 * value .count ≤ work
 
--- there is room for a record behind those of a reading
-pub record RoomFor (progress : Progress) (r : Record) : Type 0 where
-  pub room : overLimit (progress .netlist .variables) (progress .netlist .count) r ≡ false
+-- the record of these bytes has a kind and, where it is a variable, a class; and there is room for it behind those of a reading
+pub record RoomFor (progress : Progress) (k b c : ℕ) : Type 0 where
+  pub kind : k ≤ 7
+  pub class : k ≡ 1 → b ≤ 2
+  pub room : overLimit (progress .netlist .variables) (progress .netlist .count) (said k b c) ≡ false
   pub here : progress .here + 3 < 2 ^ 64
 
 -- a stage is the refusal with this number and place

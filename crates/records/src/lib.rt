@@ -3,13 +3,14 @@
 ghost use mathlib.Core.Path.{_≡_};
 ghost use mathlib.Core.Logic.{_⊎_};
 ghost use Prim.Native.Nat.{ℕ, _+_, _<_, _≤_};
-ghost use lib.ListN.{length, getD};
-ghost use Rattle.rules.specs.Records.{Cell, Class, said, size, node, classOf, classByte, empty, withVariable, withNode};
+ghost use lib.ListN.{getD};
+ghost use Rattle.rules.specs.Records.{Cell, Class, said, size, node, classByte, empty, withVariable, withNode};
 ghost use Rattle.rules.specs.Records as Rules;
 ghost use Rattle.rules.specs.Slices.{entry};
-ghost use Rattle.rules.specs.Checks.{undeclared, judgedRecord, judgedAt, finished, taken, step};
+ghost use Rattle.rules.specs.Checks.{answered, undeclared, judgedRecord, finished, taken, step};
 ghost use Rattle.rules.specs.Checks as Checks;
-ghost use Rattle.records.specs.Netlists.{foundOf, tableOf, RoomFor, Reached};
+ghost use Rattle.rules.specs.Paper.{numberOf, placeOf};
+ghost use Rattle.records.specs.Netlists.{foundOf, foundIf, foundAt, tableOf, RoomFor, Reached};
 use rules::Node;
 use rules::Refusal;
 
@@ -77,7 +78,7 @@ pub fn undeclared_bit(variables: usize, set: usize) -> bool
 // An end record: nothing may follow it.
 fn judge_end(total: usize, variables: usize, nodes: usize, here: usize, b: u8, c: u8) -> Found
     requires { ⌜ here < total ⌝ }
-    ensures { λ r. ⌜ foundOf r ≡ judgedRecord total variables nodes here 0 b c ⌝ }
+    ensures { λ r. ⌜ foundOf r ≡ foundIf (judgedRecord total variables nodes here 0 b c) 0 b c ⌝ }
 {
     if 1 < total - here {
         return Found::Refused(Refusal::BytesAfterEnd(here + 1));
@@ -88,7 +89,7 @@ fn judge_end(total: usize, variables: usize, nodes: usize, here: usize, b: u8, c
 // A variable: before every node, at most ten, and its class one of three.
 fn judge_variable(total: usize, variables: usize, nodes: usize, here: usize, b: u8, c: u8) -> Found
     requires { ⌜ here < total ⌝ }
-    ensures { λ r. ⌜ foundOf r ≡ judgedRecord total variables nodes here 1 b c ⌝ }
+    ensures { λ r. ⌜ foundOf r ≡ foundIf (judgedRecord total variables nodes here 1 b c) 1 b c ⌝ }
 {
     if 0 < nodes {
         return Found::Refused(Refusal::LateVariable(here));
@@ -108,7 +109,7 @@ fn judge_variable(total: usize, variables: usize, nodes: usize, here: usize, b: 
 // An input: its set has declared variables only.
 fn judge_input(total: usize, variables: usize, nodes: usize, here: usize, b: u8, c: u8) -> Found
     requires { ⌜ here < total ⌝ }
-    ensures { λ r. ⌜ foundOf r ≡ judgedRecord total variables nodes here 2 b c ⌝ }
+    ensures { λ r. ⌜ foundOf r ≡ foundIf (judgedRecord total variables nodes here 2 b c) 2 b c ⌝ }
 {
     if 200 <= nodes {
         return Found::Refused(Refusal::OverLimit(here));
@@ -133,7 +134,7 @@ fn judge_unary(
     c: u8,
 ) -> Found
     requires { ⌜ (here < total) × ((k ≡ 3) ⊎ (k ≡ 7)) ⌝ }
-    ensures { λ r. ⌜ foundOf r ≡ judgedRecord total variables nodes here k b c ⌝ }
+    ensures { λ r. ⌜ foundOf r ≡ foundIf (judgedRecord total variables nodes here k b c) k b c ⌝ }
 {
     if 200 <= nodes {
         return Found::Refused(Refusal::OverLimit(here));
@@ -158,7 +159,7 @@ fn judge_binary(
     c: u8,
 ) -> Found
     requires { ⌜ (here < total) × (3 < k) × (k < 7) ⌝ }
-    ensures { λ r. ⌜ foundOf r ≡ judgedRecord total variables nodes here k b c ⌝ }
+    ensures { λ r. ⌜ foundOf r ≡ foundIf (judgedRecord total variables nodes here k b c) k b c ⌝ }
 {
     if 200 <= nodes {
         return Found::Refused(Refusal::OverLimit(here));
@@ -177,7 +178,7 @@ fn judge_binary(
 
 // The record of kind `k` with the body `b`, `c` whose kind byte stands at `here`, in a file of `total` bytes.
 fn judge(total: usize, variables: usize, nodes: usize, here: usize, k: u8, b: u8, c: u8) -> Found
-    ensures { λ r. ⌜ foundOf r ≡ judgedRecord total variables nodes here k b c ⌝ }
+    ensures { λ r. ⌜ foundOf r ≡ foundIf (judgedRecord total variables nodes here k b c) k b c ⌝ }
 {
     if total <= here {
         return Found::Refused(Refusal::NoEnd(total));
@@ -205,7 +206,7 @@ fn judge(total: usize, variables: usize, nodes: usize, here: usize, k: u8, b: u8
 
 // The record at an offset, after so many variables and nodes.
 pub fn record_at(bytes: &[u8], here: usize, variables: usize, nodes: usize) -> Found
-    ensures { λ r. ⌜ foundOf r ≡ judgedAt (now (bytes .entry)) variables nodes here ⌝ }
+    ensures { λ r. ⌜ foundOf r ≡ foundAt (now (bytes .entry)) variables nodes here ⌝ }
 {
     let k = byte_behind(bytes, here, 0);
     let b = byte_behind(bytes, here, 1);
@@ -224,14 +225,14 @@ fn reader_at<'a>(bytes: &'a [u8], here: usize) -> Reader<'a>
 
 // The reader's next record, after so many variables and nodes.
 pub fn next<'a>(reader: Reader<'a>, variables: usize, nodes: usize) -> Found
-    ensures { λ r. ⌜ foundOf r ≡ judgedAt (now (reader .entry .bytes)) variables nodes (reader .entry .here) ⌝ }
+    ensures { λ r. ⌜ foundOf r ≡ foundAt (now (reader .entry .bytes)) variables nodes (reader .entry .here) ⌝ }
 {
     record_at(reader.bytes, reader.here, variables, nodes)
 }
 
 // The same for whoever has the bytes and an offset.
 pub fn next_record(bytes: &[u8], here: usize, variables: usize, nodes: usize) -> Found
-    ensures { λ r. ⌜ foundOf r ≡ judgedAt (now (bytes .entry)) variables nodes here ⌝ }
+    ensures { λ r. ⌜ foundOf r ≡ foundAt (now (bytes .entry)) variables nodes here ⌝ }
 {
     next(reader_at(bytes, here), variables, nodes)
 }
@@ -277,16 +278,6 @@ fn with_node(netlist: Netlist, last: Node) -> Netlist
     longer.nodes[at] = last;
     longer.count = at + 1;
     longer
-}
-
-// The class byte of the class that `b` says.
-fn class_of(b: u8) -> u8
-    ensures { λ r. ⌜ r ≡ classByte (classOf b) ⌝ }
-{
-    if b < 2 {
-        return b;
-    }
-    2
 }
 
 // The node record of a node of kind `k` with the body `b`, `c`.
@@ -344,7 +335,7 @@ fn size_of(k: u8) -> usize
 
 // A refusal ends the reading.
 fn refused(refusal: Refusal) -> Progress
-    ensures { λ r. ⌜ ((n : Rules.Netlist) (here : ℕ) → Reached r (taken n here (foundOf (Found.Refused refusal)))) ⌝ }
+    ensures { λ r. ⌜ ((n : Rules.Netlist) (here : ℕ) → Reached r (taken n here (Checks.refused (numberOf refusal) (placeOf refusal)))) ⌝ }
 {
     Progress {
         stage: Stage::Refused(refusal),
@@ -353,30 +344,32 @@ fn refused(refusal: Refusal) -> Progress
     }
 }
 
-// A record of kind `k` with the body `b`, `c` is taken: a variable or a node goes behind those before it, and any other
-// is the end record.
+// A record of kind `k` with the body `b`, `c` is taken: the end record ends the reading, and a variable or a node goes
+// behind those before it.
 fn with_record(progress: Progress, k: u8, b: u8, c: u8) -> Progress
-    requires { ⌜ RoomFor progress (said k b c) ⌝ }
-    ensures { λ r. ⌜ ((n : Rules.Netlist) (here : ℕ) → Reached progress (Checks.reading n here) → Reached r (taken n here (foundOf (Found.Record k b c)))) ⌝ }
+    requires { ⌜ RoomFor progress k b c ⌝ }
+    ensures { λ r. ⌜ ((n : Rules.Netlist) (here : ℕ) → Reached progress (Checks.reading n here) → Reached r (taken n here (answered (said k b c)))) ⌝ }
 {
     let netlist = progress.netlist;
-    let here = progress.here;
-    match k {
-        1 => Progress {
-            stage: Stage::Reading,
-            here: here + 2,
-            netlist: with_variable(netlist, class_of(b)),
-        },
-        2..=7 => Progress {
-            stage: Stage::Reading,
-            here: here + size_of(k),
-            netlist: with_node(netlist, entry_of(k, b, c)),
-        },
-        _ => Progress {
+    if k == 0 {
+        return Progress {
             stage: Stage::Ended,
             here: 0,
             netlist,
-        },
+        };
+    }
+    let here = progress.here + size_of(k);
+    if k == 1 {
+        return Progress {
+            stage: Stage::Reading,
+            here,
+            netlist: with_variable(netlist, b),
+        };
+    }
+    Progress {
+        stage: Stage::Reading,
+        here,
+        netlist: with_node(netlist, entry_of(k, b, c)),
     }
 }
 

@@ -69,7 +69,7 @@ module _ (bytes : List ℕ) (before : List Node) (work : ℕ) where
 
 -- ---- the work slice
 
-families-length : (n : Netlist) → length (families n) ≡ length (n .nodes)
+pub families-length : (n : Netlist) → length (families n) ≡ length (n .nodes)
 unfolding families
 families-length n = omega (arith, table-length familiesRule [] (n .nodes))
 

@@ -1,16 +1,22 @@
 -- Each is named once: no feeding point of a node is listed twice, and no set in either of its families. `insert` and `union` keep that, and
--- a product has it whatever its factors. Assumes nothing.
-use Prim.Native.Nat.{ℕ}
-use mathlib.Core.Path.{_≡_, refl}
+-- a product has it whatever its factors. Such lists of the same numbers are equally long. Assumes nothing.
+use Prim.Native.Nat.{ℕ, suc, _≤_}
+use mathlib.Core.Path.{_≡_, refl, sym, subst}
+use mathlib.Core.Logic.{_⊎_, inl, inr, ⊎-elim}
 use mathlib.Core.Bool.{Bool, true, false, cond, not, _&&_}
 use mathlib.Core.List.{List, [], _∷_, map}
+use native.Mathlib.Nat.{le-antisymm}
+use native.Mathlib.Omega.{arith}
 use lib.Bits.{bitXor}
-use lib.Dec.{T}
-use lib.ListN.{getD}
+use lib.Dec.{T, T-not}
+use lib.ListN.{length, getD}
 use Rattle.rules.specs.Lists.{member, insert, union}
 use Rattle.rules.specs.Records.{input, Netlist, setOf}
 use Rattle.rules.specs.Values.{feeding}
 use Rattle.rules.specs.Families.{Family, product, familiesAt}
+use Rattle.rules.proofs.Tests.{and-left, and-right}
+use Rattle.rules.proofs.Lists.{member-head, member-tail, member-cases}
+use Rattle.rules.proofs.Members.{All, all-front}
 use Rattle.rules.proofs.Entries.{each-feeding, each-family}
 
 -- no number is in the list twice
@@ -39,6 +45,42 @@ pub product-once : (F G : Family) → T (once (product F G))
 unfolding product
 product-once [] G = unfold once in tt
 product-once (A ∷ F) G = union-once (map (bitXor A) G) (product F G) (product-once F G)
+
+-- ---- how long such lists are
+
+-- what is in a list is x or in the rest, once x is out of it
+take-out : (x : ℕ) (ys : List ℕ) → T (member x ys)
+    → (rest : List ℕ) × (length ys ≡ suc (length rest)) × All (λ y. (y ≡ x) ⊎ T (member y rest)) ys
+take-out x [] t = absurd (unfold member in t)
+take-out x (y ∷ ys) t =
+    ⊎-elim (λ e. (ys, refl, all-front (λ z. (z ≡ x) ⊎ T (member z ys)) y ys (inl (sym e)) (λ z m. inr m)))
+    (λ m.
+    let (rest, shorter, others) = take-out x ys m in (
+      y ∷ rest,
+      omega arith,
+      all-front (λ z. (z ≡ x) ⊎ T (member z (y ∷ rest))) y ys (inr (member-head y rest))
+          (λ z u. ⊎-elim inl (λ r. inr (member-tail z y rest r)) (others z u)),
+    ))
+    (member-cases x y ys t)
+
+-- a list that names each once is no longer than any that names all of them
+no-longer : (xs ys : List ℕ) → T (once xs) → All (λ x. T (member x ys)) xs → length xs ≤ length ys
+unfolding once
+no-longer [] ys t h = omega arith
+no-longer (x ∷ xs) ys t h =
+    let (rest, shorter, others) = take-out x ys (h x (member-head x xs)) in
+    let new = T-not (member x xs) (and-left (not (member x xs)) (once xs) t) in
+    omega (
+      arith,
+      no-longer xs rest (and-right (not (member x xs)) (once xs) t)
+          (λ z m. ⊎-elim (λ e. absurd (new (rw e at m))) (λ r. r) (others z (h z (member-tail z x xs m)))),
+    )
+
+pub same-length : (xs ys : List ℕ) → T (once xs) → T (once ys) → ((x : ℕ) → member x xs ≡ member x ys) → length xs ≡ length ys
+same-length xs ys t u same =
+    le-antisymm (no-longer xs ys t (λ x m. subst T (same x) m)) (no-longer ys xs u (λ x m. subst T (sym (same x)) m))
+
+-- ---- feeding points and families
 
 -- each feeding point of a node is named once
 pub feeding-once : (n : Netlist) (i : ℕ) → T (once (feeding n i))

@@ -1,7 +1,7 @@
 -- The scan of one layer of the work bytes: a node is passed or reports by the sets looked at so far, and the first node that reports is what
 -- the scan finds; over the bytes of a netlist's families that is the rules' half of the answer. Assumes nothing.
-use Prim.Native.Nat.{ℕ, zero, suc, _+_, _*_, _/_, _%_, _^_, _<_, _≤_}
-use mathlib.Core.Path.{_≡_, refl, sym, ap, ap₂, _∙_, subst}
+use Prim.Native.Nat.{ℕ, zero, suc, _+_, _*_, _<_, _≤_}
+use mathlib.Core.Path.{_≡_, refl, sym, ap, ap₂, _∙_}
 use mathlib.Core.Logic.{⊎-elim}
 use mathlib.Core.Bool.{Bool, true, false, not, _&&_, cond}
 use mathlib.Core.List.{List, [], _∷_, _++_, map}
@@ -11,19 +11,18 @@ use native.Mathlib.Omega.{arith}
 use borrow.Author.Count.{below-more}
 use borrow.Author.Tests.{eqb-true, eqb-false}
 use lib.Dec.{T, eqb}
-use lib.ListN.{length, getD, length-map, List·getD-append, List·getD-map, List·getD-eq-default}
-use lib.Pow.{pow-mono}
+use lib.ListN.{length, getD, length-map, List·getD-map, List·getD-eq-default}
 use Rattle.rules.specs.Lists.{member, tabulate}
-use Rattle.rules.specs.Records.{Class, Cell, input, NOT, XOR, AND, OR, register, kindOf, Netlist, WellFormed, odd}
-use Rattle.rules.specs.Families.{Family, Families, constant, familiesRule, families, familiesAt, suspect, tested, reported, clear, suspectAt, mark, marks, lowest, half}
+use Rattle.rules.specs.Records.{Class, Cell, input, NOT, XOR, AND, OR, register, kindOf, Netlist, WellFormed}
+use Rattle.rules.specs.Families.{Family, Families, constant, families, familiesAt, suspect, tested, reported, clear, suspectAt, mark, marks, lowest, half}
 use Rattle.rules.specs.Slices.{workBytes}
-use Rattle.rules.proofs.Tests.{pass, same-test, lt-or-le}
+use Rattle.rules.proofs.Tests.{pass, lt-or-le}
 use Rattle.rules.proofs.Halves.{marks-at}
-use Rattle.rules.proofs.Tables.{table-length}
-use Rattle.rules.proofs.Packing.{tabulate-length, tabulate-at, work-length, settled-bit, glitch-bit}
-use Rattle.rules.proofs.Bounds.{sets-below}
-use Rattle.families.specs.Parts.{holdsAt, familyAt}
-use Rattle.families.proofs.Parts.{member-at, below-at}
+use Rattle.rules.proofs.Packing.{tabulate-length, tabulate-at}
+use Rattle.rules.proofs.Exit.{families-length}
+use Rattle.families.specs.Parts.{familyAt}
+use Rattle.families.proofs.Parts.{below-at}
+use Rattle.families.proofs.Work.{Alike, settled-there, glitch-there}
 use Rattle.scan.specs.Suspects.{found}
 use Rattle.scan.proofs.Suspects.{reported-same, reported-nothing, reported-first}
 
@@ -150,67 +149,36 @@ module _ (n : Netlist) (layer : ℕ) (bytes : List ℕ) where
 -- ---- over the bytes of a netlist's families
 
 marks-same : (variables : List Class) (cells : List Cell) (Fs Gs : List Family) (d : Family) → length Fs ≡ length cells → length Gs ≡ length cells
-    → ((i : ℕ) → i < length cells → (A : ℕ) → member A (getD Fs i d) ≡ member A (getD Gs i d))
+    → ((i : ℕ) → i < length cells → Alike (getD Fs i d) (getD Gs i d))
     → marks variables cells Fs ≡ marks variables cells Gs
 unfolding marks mark
 marks-same variables [] Fs Gs d p q h = refl
 marks-same variables (c ∷ cells) [] Gs d p q h = absurd (omega arith)
 marks-same variables (c ∷ cells) (F ∷ Fs) [] d p q h = absurd (omega arith)
 marks-same variables (c ∷ cells) (F ∷ Fs) (G ∷ Gs) d p q h =
-    ap₂ {C = List (Option ℕ)} _∷_ (rw (reported-same variables F G (h 0 (omega arith))))
+    ap₂ {C = List (Option ℕ)} _∷_ (rw (reported-same variables F G (h 0 (omega arith) .same)))
     (marks-same variables cells Fs Gs d (omega arith) (omega arith) (λ i l. h (suc i) (omega arith)))
 
--- the bit of a set stands at byte k of the bytes in front
-front-bit : (bytes rest : List ℕ) (part A k : ℕ) → 128 * part + A / 8 ≡ k → k < length bytes
-    → holdsAt (bytes ++ rest) part A ≡ odd (getD bytes k 0 / 2 ^ (A % 8))
-unfolding holdsAt
-front-bit bytes rest part A k e h = rw (e, List·getD-append bytes rest 0 k h)
+-- where a layer holds the sets of one of the two families of each node, the scan finds that half
+layer-half : (n : Netlist) (layer : ℕ) (bytes : List ℕ) (pick : Families → Family)
+    → ((i : ℕ) → i < length (n .nodes) → Alike (familyAt bytes (2 * i + layer)) (pick (familiesAt n i)))
+    → found n layer bytes ≡ half pick n
+unfolding found half familiesAt
+layer-half n layer bytes pick held =
+    ap (lowest 0)
+    (marks-same (n .variables) (n .nodes) (tabulate at (length (n .nodes))) (map pick (families n)) (pick constant)
+    (tabulate-length at (length (n .nodes)))
+    (length-map (families n) pick ∙ families-length n)
+    (λ i h. rw (tabulate-at at (length (n .nodes)) i (pick constant) h, List·getD-map pick (families n) i constant) (held i h)))
+  where
+    at : ℕ → Family
+    at i = familyAt bytes (2 * i + layer)
 
-module _ (n : Netlist) (obeys : WellFormed n) (rest : List ℕ) where
-  work : List ℕ
-  work = workBytes (families n) ++ rest
-
-  entries : length (families n) ≡ length (n .nodes)
-  unfolding families
-  entries = table-length familiesRule [] (n .nodes) ∙ zero-add (length (n .nodes))
-
-  -- if the bits of a layer are those of one of the two families of each node, so are the reports
-  layer-half : (layer : ℕ) (pick : Families → Family)
-      → ((i : ℕ) → i < length (families n) → (A : ℕ) → A < 1024 → holdsAt work (2 * i + layer) A ≡ member A (pick (getD (families n) i constant)))
-      → ((i A : ℕ) → T (member A (pick (familiesAt n i))) → A < 2 ^ length (n .variables))
-      → found n layer work ≡ half pick n
-  unfolding found half familiesAt
-  layer-half layer pick bit below =
-      ap (lowest 0)
-      (marks-same (n .variables) (n .nodes) (tabulate at (length (n .nodes))) (map pick (families n)) (pick constant)
-      (tabulate-length at (length (n .nodes)))
-      (length-map (families n) pick ∙ entries)
-      (λ i h A. rw (tabulate-at at (length (n .nodes)) i (pick constant) h, List·getD-map pick (families n) i constant) (same i h A)))
-    where
-      at : ℕ → Family
-      at i = familyAt work (2 * i + layer)
-
-      same : (i : ℕ) → i < length (n .nodes) → (A : ℕ) → member A (at i) ≡ member A (pick (getD (families n) i constant))
-      same i h A =
-          same-test (member A (at i)) (member A (pick (getD (families n) i constant))) (λ t. subst T (small (below-at work (2 * i + layer) A t)) t)
-          (λ t. subst T (sym (small (lt-of-lt-of-le (below i A t) (pow-mono (obeys .few-variables))))) t)
-        where
-          small : A < 1024 → member A (at i) ≡ member A (pick (getD (families n) i constant))
-          small l = member-at work (2 * i + layer) A l ∙ bit i (omega (arith, entries)) A l
-
-  -- both layers of the bytes of the families are the two halves
-  pub found-half : (found n 0 (workBytes (families n) ++ rest) ≡ half (λ F. F .settled) n)
-      × (found n 1 (workBytes (families n) ++ rest) ≡ half (λ F. F .glitch) n)
-  unfolding work
-  found-half = (
-    layer-half 0 (λ F. F .settled)
-        (λ i h A l.
-        front-bit (workBytes (families n)) rest (2 * i + 0) A (256 * i + A / 8) (omega arith) (omega (arith, work-length (families n)))
-        ∙ settled-bit (families n) i A h l)
-        (λ i. sets-below n (length (n .variables)) (obeys .declared) i .0),
-    layer-half 1 (λ F. F .glitch)
-        (λ i h A l.
-        front-bit (workBytes (families n)) rest (2 * i + 1) A (256 * i + 128 + A / 8) (omega arith) (omega (arith, work-length (families n)))
-        ∙ glitch-bit (families n) i A h l)
-        (λ i. sets-below n (length (n .variables)) (obeys .declared) i .1),
-  )
+-- both layers of the bytes of the families are the two halves
+pub found-half : (n : Netlist) → WellFormed n → (rest : List ℕ)
+    → (found n 0 (workBytes (families n) ++ rest) ≡ half (λ F. F .settled) n)
+    × (found n 1 (workBytes (families n) ++ rest) ≡ half (λ F. F .glitch) n)
+found-half n formed rest = (
+  layer-half n 0 _ (λ F. F .settled) (λ i h. rw (add-zero (2 * i)) (settled-there n formed rest i h)),
+  layer-half n 1 _ (λ F. F .glitch) (glitch-there n formed rest),
+)

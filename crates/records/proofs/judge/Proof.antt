@@ -3,12 +3,13 @@
 use borrow.Author.Needs.{needs}
 use borrow.Author.Tests.{lt-ltb, le-leb, lt-leb}
 use mathlib.Core.Logic.{inl, inr}
-use Rattle.rules.specs.Checks.{judged, judgedRecord}
+use Rattle.rules.specs.Checks.{andThen, judged, judgedRecord}
+use Rattle.records.specs.Netlists.{foundIf}
 use Rattle.records.proofs.judge.Statement.{statement}
 use Rattle.records.proofs.judge.Tie as tie
 
 returns : tie.Need-returns
-unfolding judgedRecord judged
+unfolding foundIf andThen judgedRecord judged
 returns c = rw (le-leb _ _ (c .if1 .taken))
 
 judge-end-requires : tie.Need-judge-end-requires
@@ -42,7 +43,7 @@ returns-6 : tie.Need-returns-6
 returns-6 c = search needs
 
 returns-7 : tie.Need-returns-7
-unfolding judgedRecord judged
+unfolding foundIf andThen judgedRecord judged
 returns-7 c = rw (lt-leb _ _ (c .before .before .before .before .before .before .if1 .left), lt-ltb _ _ (c .if7 .taken))
 
 judge-binary-requires : tie.Need-judge-binary-requires

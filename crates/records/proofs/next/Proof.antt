@@ -43,9 +43,8 @@ use denote.Triple.Table.{entered, cited}
 use denote.Triple.Walked.{says, Stays, stay-none, walkOf, goes-none, Walks, ends-at, walked, walk-meets}
 use denote.Exit.{yes}
 use denote.Triple.Clauses.{ensured, lasts}
-use Rattle.rules.specs.Records.{Record}
-use Rattle.rules.specs.Checks.{Outcome, judgedAt}
-use Rattle.records.specs.Netlists.{foundOf}
+use Rattle.rules.specs.Checks.{Outcome}
+use Rattle.records.specs.Netlists.{RecordBytes, foundOf, foundAt}
 use Rattle.records.specs.declared.Reader.{Reader}
 use Rattle.records.specs.declared.Found.{Found}
 use Rattle.records.proofs.Reader as T
@@ -81,8 +80,8 @@ module _ {M : Type 1} (𝓤 : URA M) (H : Heap 𝓤) (A : Atoms 𝓤) (W : Given
   abbrev v : Val
   v = sliceVal (d .bytes .ptr) (length (d .bytes .now))
 
-  abbrev found : Outcome Record
-  found = judgedAt (now (d .bytes)) variables nodes (d .here)
+  abbrev found : Outcome RecordBytes
+  found = foundAt (now (d .bytes)) variables nodes (d .here)
 
   abbrev args : Args next.signature (κ, tt)
   args = (d, (variables, (nodes, tt)))

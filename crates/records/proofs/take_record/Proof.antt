@@ -1,36 +1,64 @@
 -- `records::take_record` meets its contract: what is over stays, and what is read takes the record that the rules take there. Assumes nothing.
 use Prim.Native.Nat.{ℕ, _^_, _<_}
-use mathlib.Core.Path.{_≡_, sym, ap, subst, _∙_}
-use mathlib.Core.Bool.{false}
+use mathlib.Core.Path.{_≡_, refl, sym, ap, subst, _∙_}
 use mathlib.Core.List.{List}
 use mathlib.Core.Logic.{⊎-elim}
 use native.Mathlib.Omega.{arith}
 use lib.ListN.{length}
 use borrow.Author.Needs.{needs}
-use borrow.Author.Tests.{leb-false}
-use Rattle.rules.specs.Records.{Record, Netlist}
+use borrow.Author.Tests.{leb-false, ltb-false}
+use Rattle.rules.specs.Records.{Record, Netlist, said}
 use Rattle.rules.specs.Checks as C
-use Rattle.rules.specs.Checks.{Outcome, answered, refused, overLimit, judgedRecord, judgedAt, recordAt, reading, finished, taken, step}
+use Rattle.rules.specs.Checks.{Outcome, answered, refused, andThen, judgedRecord, judgedAt, recordAt, reading, finished, taken, step}
 use Rattle.rules.proofs.Records.{passes, answer}
+use Rattle.records.specs.declared.Found.the-variants as Found
 use Rattle.records.specs.declared.Stage.{Stage}
 use Rattle.records.specs.declared.Stage.the-variants as Stage
 use Rattle.records.specs.declared.Progress.{Progress}
-use Rattle.records.specs.Netlists.{foundOf, tableOf, RoomFor, RefusedAs, Reached}
+use Rattle.records.specs.Netlists.{RecordBytes, foundOf, foundIf, foundAt, tableOf, RoomFor, RefusedAs, Reached}
 use Rattle.records.proofs.Netlists.{reading-stage, reading-here, reading-netlist}
 use Rattle.records.proofs.take_record.Statement.{statement}
 use Rattle.records.proofs.take_record.Tie as tie
 
--- a record that is found in a file has room
-found-room : (bytes : List ℕ) (s : Progress) (r : Record) → length bytes < 2 ^ 63
-    → answered r ≡ judgedAt bytes (s .netlist .variables) (s .netlist .count) (s .here) → RoomFor s r
-unfolding judgedRecord
-found-room bytes s r short e =
-    let p = passes _ _ _ (sym e) in
-    let inside = leb-false (length bytes) (s .here) (p 0) in
+-- where a record is found, the rules accept one, and the bytes found are those that they judge
+found-record : (total v n here k b c : ℕ) (found : RecordBytes) (o : Outcome Record) → judgedRecord total v n here k b c ≡ o
+    → answered found ≡ foundIf o k b c → (o ≡ answered (said k b c)) × (found ≡ record { kind = k; first = b; second = c })
+unfolding foundIf andThen judgedRecord
+found-record total v n here k b c found (answered r) e f = (ap answered (sym (answer _ _ _ e)), cc)
+found-record total v n here k b c found (refused number place) e f = (cc, cc)
+
+-- where a refusal is found, it is theirs
+found-refusal : (o : Outcome Record) (k b c number place : ℕ) → refused number place ≡ foundIf o k b c → refused number place ≡ o
+unfolding foundIf andThen
+found-refusal (answered r) k b c number place e = cc
+found-refusal (refused i p) k b c number place e = cc
+
+-- a record that they accept has a kind, a class and room
+judged-room : (total : ℕ) (s : Progress) (k b c : ℕ) → total < 2 ^ 63
+    → judgedRecord total (s .netlist .variables) (s .netlist .count) (s .here) k b c ≡ answered (said k b c) → RoomFor s k b c
+unfolding judgedRecord said
+judged-room total s k b c short e =
+    let p = passes _ _ _ e in
+    let inside = leb-false total (s .here) (p 0) in
     record {
-      room = subst (λ (q : Record). overLimit (s .netlist .variables) (s .netlist .count) q ≡ false) (answer _ _ _ (sym e)) (p 3);
+      kind = ltb-false 7 k (p 1);
+      class = λ one. ltb-false 2 b (rw one at (p 5));
+      room = p 3;
       here = omega arith;
     }
+
+-- so has one that is found in a file, and what it says is what they judge there
+module _ (bytes : List ℕ) (s : Progress) (k b c : ℕ)
+    (found : foundOf (Found.Record k b c) ≡ foundAt bytes (s .netlist .variables) (s .netlist .count) (s .here)) where
+  found-room : length bytes < 2 ^ 63 → RoomFor s k b c
+  found-room short =
+      let (judged, same) = found-record _ _ _ _ _ _ _ _ _ refl found in
+      subst (λ (x : RecordBytes). RoomFor s (x .kind) (x .first) (x .second)) (sym same) (judged-room _ s _ _ _ short judged)
+
+  found-judged : answered (said k b c) ≡ judgedAt bytes (s .netlist .variables) (s .netlist .count) (s .here)
+  found-judged =
+      let (judged, same) = found-record _ _ _ _ _ _ _ _ _ refl found in
+      ap (λ (x : RecordBytes). answered (said (x .kind) (x .first) (x .second))) same ∙ sym judged
 
 module _ (bytes : List ℕ) (s : Progress) where
   -- a reading that is over stays
@@ -74,20 +102,26 @@ with-record-requires : tie.Need-with-record-requires
 with-record-requires c κs =
     let start = c .before .before .before .before .before .before .before .before in
     let found = ap foundOf (sym (c .before .k .given .1)) ∙ c .before .before .before .next-record .ensures in
-    found-room (start .args .bytes .now) (start .args .progress) _ (omega (arith, start .good)) found
+    found-room (start .args .bytes .now) (start .args .progress) _ _ _ found (omega (arith, start .good))
 
 returns-2 : tie.Need-returns-2
 returns-2 c =
-    let start = c .before .before .before .before .before .before .before .before .before in
+    let args = c .before .before .before .before .before .before .before .before .before .args in
+    let bytes = args .bytes .now in
+    let progress = args .progress in
     let found = ap foundOf (sym (c .before .before .refusal .given .1)) ∙ c .before .before .before .before .next-record .ensures in
-    goes-on (start .args .bytes .now) (start .args .progress) _ _ (c .before .before .before .before .before .before .enum-told .given .1) found
+    goes-on bytes progress _ _ (c .before .before .before .before .before .before .enum-told .given .1)
+    (found-refusal _ _ _ _ _ _ found)
     (λ n here e. c .refused .ensures n here)
 
 returns-3 : tie.Need-returns-3
 returns-3 c =
-    let start = c .before .before .before .before .before .before .before .before .before in
+    let args = c .before .before .before .before .before .before .before .before .before .args in
+    let bytes = args .bytes .now in
+    let progress = args .progress in
     let found = ap foundOf (sym (c .before .before .k .given .1)) ∙ c .before .before .before .before .next-record .ensures in
-    goes-on (start .args .bytes .now) (start .args .progress) _ _ (c .before .before .before .before .before .before .enum-told .given .1) found
+    goes-on bytes progress _ _ (c .before .before .before .before .before .before .enum-told .given .1)
+    (found-judged bytes progress _ _ _ found)
     (c .with-record .ensures)
 
 pub take-record-spec : {M : Type 1} → statement M
