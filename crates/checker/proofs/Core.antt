@@ -4,7 +4,6 @@ use mathlib.Core.Path.{_≡_, refl, sym, ap, subst, _∙_}
 use mathlib.Core.Logic.{_↔_}
 use mathlib.Core.List.{List, _++_}
 use Prim.Native.Nat.{ℕ, _*_, _<_, _≤_}
-use native.Mathlib.Omega.{arith}
 use lib.ListN.{length, drop}
 use borrow.Author.Tests.{lt-ltb, le-ltb}
 use Rattle.rules.specs.Records.{Netlist, empty, WellFormed}
@@ -21,7 +20,7 @@ use Rattle.rules.proofs.Halves.{exactly-when}
 use Rattle.rules.proofs.Probe.{one-probe}
 use Rattle.records.specs.declared.Netlist as Value
 use Rattle.records.specs.Netlists.{tableOf, Formed, Ready}
-use Rattle.records.proofs.Netlists.{table-injective}
+use Rattle.records.proofs.Netlists.{table-injective, value-variables, value-count}
 use Rattle.scan.specs.Suspects.{found}
 use Rattle.scan.proofs.Search.{found-half}
 use Rattle.checker.specs.declared.Examined.{Examined}
@@ -34,14 +33,6 @@ unfolding andThen kept filled
 refusal r k p examined work n w e t =
     record { reply = subst (λ x. replyOf x ≡ refused k p) (sym e) (rw (n, w)); netlist = t; work = refl }
 
--- the counts of a netlist by value
-pub counts : {value : Value.Netlist} (n : Netlist) → value ≡ tableOf n → value .count ≡ length (n .nodes)
-unfolding tableOf
-counts n e = ap (λ (v : Value.Netlist). v .count) e
-
-pub few : {value : Value.Netlist} → Formed value → value .count ≤ 200
-few f = omega (arith, counts (f .netlist) (f .is), f .obeys .few-nodes)
-
 -- the answer of a netlist whose families stand in the work slice
 pub answers : (value : Value.Netlist) (work : ℕ) → Ready value work → (n : Netlist) → value ≡ tableOf n → (settled glitch : Half) (before : List ℕ) {after : List ℕ}
     → after ≡ workBytes (families n) ++ drop (length (workBytes (families n))) before → findingOf settled ≡ found n 0 after → findingOf glitch ≡ found n 1 after
@@ -49,15 +40,15 @@ pub answers : (value : Value.Netlist) (work : ℕ) → Ready value work → (n :
       reply = Answered (record { variables = value .variables; nodes = value .count; settled = settled; glitch = glitch });
       netlist = value;
     }) before after
-unfolding andThen findings kept filled tableOf
+unfolding andThen findings kept filled
 answers value work ready n e settled glitch before w s g =
     let f = ready .formed in
     let formed : WellFormed n = subst (λ (m : Netlist). WellFormed m) (table-injective (f .netlist) n (sym (f .is) ∙ e)) (f .obeys) in
     let halves = found-half n formed (drop (length (workBytes (families n))) before) in
     let first = s ∙ ap (found n 0) w ∙ halves .0 in
     let second = g ∙ ap (found n 1) w ∙ halves .1 in
-    let variables = ap (λ (v : Value.Netlist). v .variables) e in
-    let nodes = counts n e in
+    let variables = value-variables n e in
+    let nodes = value-count n e in
     record { reply = rw (first, second, variables, nodes); netlist = e; work = w }
 
 -- the slices are too short, or hold a netlist of so many nodes

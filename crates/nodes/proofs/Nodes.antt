@@ -20,9 +20,6 @@ use Rattle.rules.proofs.Lists.{member-head, member-tail, member-insert, member-
 use Rattle.rules.proofs.Bounds.{product-cases}
 use Rattle.rules.proofs.Tables.{table-length, table-snoc, table-take}
 use Rattle.rules.proofs.Packing.{tabulate-at, tabulate-same, family-length, work-length}
-use Rattle.records.specs.declared.Netlist as Value
-use Rattle.records.specs.Netlists.{blank, tableOf, Formed}
-use Rattle.records.proofs.Netlists.{table-entry-at}
 use Rattle.families.specs.Parts.{HasPart, withFamily}
 use Rattle.families.proofs.Parts.{with-same, with-there}
 use Rattle.families.proofs.Work.{Alike, settled-alike, glitch-alike, set-small, families-small}
@@ -235,16 +232,3 @@ all-done n before =
       zero-add (length (n .nodes)),
       take-all (length (n .nodes)) (n .nodes) (le-refl (length (n .nodes))),
     )
-
--- ---- a netlist by value
-
-module _ {value : Value.Netlist} (f : Formed value) where
-  pub counted : value .count ≡ length (f .netlist .nodes)
-  unfolding tableOf
-  counted = ap (λ (v : Value.Netlist). v .count) (f .is)
-
-  pub few : value .count ≤ 200
-  few = omega (arith, counted, f .obeys .few-nodes)
-
-  pub entry-of : (i : ℕ) → i < value .count → getD (value .nodes) i blank ≡ entry (getD (f .netlist .nodes) i (input 0))
-  entry-of i h = ap (λ (v : Value.Netlist). getD (v .nodes) i blank) (f .is) ∙ table-entry-at (f .netlist) i (omega (arith, counted))

@@ -5,7 +5,7 @@ use mathlib.Core.Path.{_≡_, refl, sym, ap, subst, _∙_}
 use mathlib.Core.List.{List, [], _∷_, _++_, map, map-append}
 use native.Mathlib.Nat.{sub-zero}
 use native.Mathlib.Omega.{arith}
-use lib.ListN.{length, getD, take, set, replicate, length-append, length-map, length-replicate, List·getD-append}
+use lib.ListN.{length, getD, take, set, replicate, length-append, length-map, List·getD-append}
 use lib.Seq.{append-snoc, set-append-seam, take-at}
 use Rattle.rules.specs.declared.Node.{Node}
 use Rattle.rules.specs.declared.Refusal.{Refusal}
@@ -17,7 +17,7 @@ use Rattle.records.specs.declared.Netlist.{Netlist as Table}
 use Rattle.records.specs.declared.Stage.{Stage}
 use Rattle.records.specs.declared.Stage.the-variants as Stage
 use Rattle.records.specs.declared.Progress.{Progress}
-use Rattle.records.specs.Netlists.{padded, blank, tableOf, RefusedAs, Reached}
+use Rattle.records.specs.Netlists.{padded, blank, tableOf, Formed, RefusedAs, Reached}
 
 -- ---- padded lists
 
@@ -34,10 +34,6 @@ module _ {ℓ} {A : Type ℓ} (k : ℕ) (rest : A) where
       let before : k - length xs ≡ suc left = omega arith in
       let after : k - length (xs ++ (v ∷ [])) ≡ left = omega (arith, length-append xs (v ∷ [])) in
       rw (before, after) (set-append-seam xs rest (replicate left rest) v ∙ sym (append-snoc xs v (replicate left rest)))
-
-  pub padded-length : (xs : List A) → length xs ≤ k → length (padded k rest xs) ≡ k
-  unfolding padded
-  padded-length xs h = omega (arith, length-append xs (replicate (k - length xs) rest), length-replicate (k - length xs) rest)
 
   pub padded-at : (xs : List A) (i : ℕ) (d : A) → i < length xs → getD (padded k rest xs) i d ≡ getD xs i d
   unfolding padded
@@ -121,6 +117,28 @@ table-injective n m e =
     let nodes = made-back entry 200 blank cellOf cell-back (n .nodes) (m .nodes) (ap (λ (t : Table). t .count) e) (ap (λ (t : Table). t .nodes) e) in
     let same : _≡_ {A = Netlist} (record { variables = n .variables; nodes = n .nodes }) (record { variables = m .variables; nodes = m .nodes }) = cc in
     same
+
+-- ---- a netlist by value
+
+module _ {value : Table} (n : Netlist) (e : value ≡ tableOf n) where
+  pub value-variables : value .variables ≡ length (n .variables)
+  unfolding tableOf
+  value-variables = ap (λ (t : Table). t .variables) e
+
+  pub value-count : value .count ≡ length (n .nodes)
+  unfolding tableOf
+  value-count = ap (λ (t : Table). t .count) e
+
+  pub value-entry : (i : ℕ) → i < value .count → getD (value .nodes) i blank ≡ entry (getD (n .nodes) i (input 0))
+  value-entry i h = ap (λ (t : Table). getD (t .nodes) i blank) e ∙ table-entry-at n i (omega (arith, value-count))
+
+-- of one that obeys the record rules
+module _ {value : Table} (f : Formed value) where
+  pub few-variables : value .variables ≤ 10
+  few-variables = omega (arith, value-variables (f .netlist) (f .is), f .obeys .few-variables)
+
+  pub few-nodes : value .count ≤ 200
+  few-nodes = omega (arith, value-count (f .netlist) (f .is), f .obeys .few-nodes)
 
 -- ---- a file that is being read
 

@@ -10,31 +10,31 @@ use Rattle.rules.specs.Families.{familiesRule, families}
 use Rattle.rules.specs.Slices.{entry, workBytes}
 use Rattle.records.specs.declared.Netlist as Value
 use Rattle.records.specs.Netlists.{blank, tableOf, Formed}
-use Rattle.records.proofs.Netlists.{table-injective}
+use Rattle.records.proofs.Netlists.{table-injective, value-count, value-entry, few-nodes}
 use Rattle.nodes.specs.Work.{soFar, withFamilies, Placed}
-use Rattle.nodes.proofs.Nodes.{nodesDone, none-done, next-done, all-done, done-length, placed, counted, few, entry-of}
+use Rattle.nodes.proofs.Nodes.{nodesDone, none-done, next-done, all-done, done-length, placed}
 use Rattle.nodes.proofs.all_families.Statement.{statement}
 use Rattle.nodes.proofs.all_families.Tie as tie
 
 module _ {value : Value.Netlist} (f : Formed value) where
   placed-at : (i : ℕ) → i < value .count → Placed i (getD (value .nodes) i blank)
-  placed-at i h = rw (entry-of f i h) (placed (f .netlist) (f .obeys) i (omega (arith, counted f)))
+  placed-at i h = rw (value-entry (f .netlist) (f .is) i h) (placed (f .netlist) (f .obeys) i (omega (arith, value-count (f .netlist) (f .is))))
 
   next : (before work after : List ℕ) (i : ℕ) → i < value .count → work ≡ nodesDone (f .netlist) before i
       → ((cell : Cell) → getD (value .nodes) i blank ≡ entry cell → after ≡ withFamilies work i (familiesRule (soFar work i) cell))
       → after ≡ nodesDone (f .netlist) before (i + 1)
   next before work after i h e written =
-      written (getD (f .netlist .nodes) i (input 0)) (entry-of f i h)
-      ∙ rw e (next-done (f .netlist) (f .obeys) before i (omega (arith, counted f)))
+      written (getD (f .netlist .nodes) i (input 0)) (value-entry (f .netlist) (f .is) i h)
+      ∙ rw e (next-done (f .netlist) (f .obeys) before i (omega (arith, value-count (f .netlist) (f .is))))
 
   size : (before work : List ℕ) (i : ℕ) → i ≤ value .count → 256 * value .count ≤ length before → work ≡ nodesDone (f .netlist) before i
       → length work ≡ length before
-  size before work i h room e = ap length e ∙ done-length (f .netlist) before i (omega (arith, counted f)) (omega arith)
+  size before work i h room e = ap length e ∙ done-length (f .netlist) before i (omega (arith, value-count (f .netlist) (f .is))) (omega arith)
 
   finished : (before work : List ℕ) (i : ℕ) → i ≤ value .count → value .count ≤ i → work ≡ nodesDone (f .netlist) before i
       → (n : Netlist) → value ≡ tableOf n → work ≡ workBytes (families n) ++ drop (length (workBytes (families n))) before
   finished before work i h l e n same =
-      let there : i ≡ length (f .netlist .nodes) = omega (arith, counted f) in
+      let there : i ≡ length (f .netlist .nodes) = omega (arith, value-count (f .netlist) (f .is)) in
       rw (← table-injective (f .netlist) n (sym (f .is) ∙ same)) (e ∙ rw there (all-done (f .netlist) before))
 
 abbrev Inv-loop : tie.InvT-loop
@@ -47,10 +47,10 @@ loop-holds : tie.Need-loop-holds Inv-loop μ-loop
 loop-holds c = (omega arith, λ f. sym (none-done (f .netlist) _))
 
 mul-node-families : tie.Need-mul-node-families Inv-loop μ-loop
-mul-node-families c = omega (arith, few (c .before .before .before .before .pre .formed))
+mul-node-families c = omega (arith, few-nodes (c .before .before .before .before .pre .formed))
 
 element-copy-out-node-families : tie.Need-element-copy-out-node-families Inv-loop μ-loop
-element-copy-out-node-families c = omega (arith, few (c .before .before .before .before .pre .formed))
+element-copy-out-node-families c = omega (arith, few-nodes (c .before .before .before .before .pre .formed))
 
 node-families-requires : tie.Need-node-families-requires Inv-loop μ-loop
 node-families-requires c κs =
@@ -61,7 +61,7 @@ node-families-requires c κs =
     )
 
 add-i : tie.Need-add-i Inv-loop μ-loop
-add-i c = omega (arith, few (c .before .before .before .before .before .before .before .before .pre .formed))
+add-i c = omega (arith, few-nodes (c .before .before .before .before .before .before .before .before .pre .formed))
 
 loop-less : tie.Need-loop-less Inv-loop μ-loop
 loop-less c = omega arith

@@ -14,7 +14,7 @@ use Rattle.rules.specs.Records.{secret, mask, input, kindOf, classByte}
 use Rattle.rules.specs.Families.{suspectAt}
 use Rattle.rules.specs.Slices.{entry}
 use Rattle.records.specs.Netlists.{blank, tableOf}
-use Rattle.records.proofs.Netlists.{table-entry-at}
+use Rattle.records.proofs.Netlists.{table-entry-at, few-variables, few-nodes}
 use Rattle.scan.specs.Suspects.{found}
 use Rattle.scan.proofs.Search.{suspectIn, Searched, search-start, search-more, search-none, search-some, Passed, found-suspect, found-clear}
 use Rattle.scan.proofs.scan.Statement.{statement}
@@ -43,8 +43,7 @@ start c = c .before .before .before .before
 
 -- the bounds of the netlist
 few : (c : tie.Start Inv-loop μ-loop Inv-nodes μ-nodes) → (c .args .t1 .variables ≤ 10) × (c .args .t1 .count ≤ 200)
-unfolding tableOf
-few c = rw (c .pre .0 .formed .is) (c .pre .0 .formed .obeys .few-variables, c .pre .0 .formed .obeys .few-nodes)
+few c = (few-variables (c .pre .0 .formed), few-nodes (c .pre .0 .formed))
 
 variables-of-requires : tie.Need-variables-of-requires Inv-loop μ-loop Inv-nodes μ-nodes
 variables-of-requires c κs = few (c .before) .0
