@@ -64,15 +64,14 @@ fn byte_behind(bytes: &[u8], here: usize, k: usize) -> u8
     bytes[here + k]
 }
 
-// Whether a set has a bit of a variable that is not declared.
-pub fn undeclared_bit(variables: usize, set: usize) -> bool
-    requires { ⌜ set < 65536 ⌝ }
-    ensures { λ r. ⌜ r ≡ undeclared variables set ⌝ }
+// Whether a number has a bit of a variable that is not declared.
+pub fn undeclared_bit(variables: usize, number: usize) -> bool
+    ensures { λ r. ⌜ r ≡ undeclared variables number ⌝ }
 {
-    if 16 <= variables {
+    if 64 <= variables {
         return false;
     }
-    (1usize << variables) <= set
+    (1usize << variables) <= number
 }
 
 // An end record: nothing may follow it.

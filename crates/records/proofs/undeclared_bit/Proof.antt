@@ -1,5 +1,5 @@
--- `records::undeclared_bit` meets its contract. Below 16 variables the shift is 2 to the power of their number and does not wrap; from 16 on
--- that power is above every set. Assumes nothing.
+-- `records::undeclared_bit` meets its contract. Below 64 variables the shift is 2 to the power of their number and does not wrap; from 64 on
+-- that power is above every number. Assumes nothing.
 use borrow.Author.Needs.{needs}
 use borrow.Author.Tests.{lt-leb}
 use native.Mathlib.Omega.{arith}
@@ -14,7 +14,7 @@ returns : tie.Need-returns
 unfolding undeclared
 returns c =
     let a = c .before .args in
-    rw (lt-leb (2 ^ a .variables) (a .set) (omega (arith, pow-mono (c .if1 .taken))))
+    rw (lt-leb (2 ^ a .variables) (a .number) (omega (arith, pow-mono (c .if1 .taken), c .before .fits .number)))
 
 shl-result : tie.Need-shl-result
 shl-result c = search needs
