@@ -35,6 +35,7 @@ pub fn size(work: &[u8], part: usize) -> usize
     sets
 }
 
+// 1 for yes and 0 for no.
 fn one_if(yes: bool) -> usize
     ensures { λ r. ⌜ r ≡ digit yes ⌝ }
 {

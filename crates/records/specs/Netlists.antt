@@ -6,7 +6,7 @@ use mathlib.Core.List.{List, _++_, map}
 use lib.ListN.{length, getD, replicate}
 use Rattle.rules.specs.declared.Node.{Node}
 use Rattle.rules.specs.Records as R
-use Rattle.rules.specs.Records.{Record, empty, said, classByte}
+use Rattle.rules.specs.Records.{Record, empty, most-variables, most-nodes, said, classByte}
 use Rattle.rules.specs.Slices.{entry}
 use Rattle.rules.specs.Checks as C
 use Rattle.rules.specs.Checks.{Outcome, answered, refused, andThen, overLimit, judgedAt, reading, finished}
@@ -46,13 +46,13 @@ padded k rest xs = xs ++ replicate (k - length xs) rest
 abbrev pub blank : Node
 blank = record { kind = 0; first = 0; second = 0; set = 0 }
 
--- a netlist by value
+-- a netlist by value: beyond the counts all is 0
 unfoldable pub tableOf : R.Netlist → Netlist
 tableOf n = record {
   variables = length (n .variables);
   count = length (n .nodes);
-  classes = padded 10 0 (map classByte (n .variables));
-  nodes = padded 200 blank (map entry (n .nodes));
+  classes = padded most-variables 0 (map classByte (n .variables));
+  nodes = padded most-nodes blank (map entry (n .nodes));
 }
 
 -- a netlist by value is that of a netlist that obeys the record rules
@@ -79,12 +79,13 @@ RefusedAs Stage.Reading k p = ⊥
 RefusedAs Stage.Ended k p = ⊥
 RefusedAs (Stage.Refused r) k p = (numberOf r ≡ k) × (placeOf r ≡ p)
 
--- how far the reading of a file has come
+-- a reading that ended so keeps nothing
 pub record RefusedWith (s : Progress) (number place : ℕ) : Type 0 where
   pub stage : RefusedAs (s .stage) number place
   pub here : s .here ≡ 0
   pub netlist : s .netlist ≡ tableOf empty
 
+-- how far the reading of a file has come
 unfoldable pub Reached : Progress → C.Progress → Type 0
 Reached s (reading n here) = s ≡ record { stage = Stage.Reading; here = here; netlist = tableOf n }
 Reached s (finished (answered n)) = s ≡ record { stage = Stage.Ended; here = 0; netlist = tableOf n }

@@ -132,14 +132,3 @@ family-byte F = tabulate-each Byte (λ j. packed F (8 * j) 8) 128 (λ j. packed-
 
 pub family-below : (F : Family) (j : ℕ) → getD (familyBytes F) j 0 < 256
 family-below F = each-at Byte (familyBytes F) 0 (family-byte F) (omega arith)
-
-work-each : (Fs : List Families) → Each Byte (workBytes Fs)
-unfolding workBytes nodeBytes
-work-each [] = tt
-work-each (F ∷ Fs) =
-    each-append Byte (nodeBytes F) (workBytes Fs)
-    (each-append Byte (familyBytes (F .settled)) (familyBytes (F .glitch)) (family-byte (F .settled)) (family-byte (F .glitch)))
-    (work-each Fs)
-
-pub work-byte : (Fs : List Families) (j : ℕ) → getD (workBytes Fs) j 0 < 256
-work-byte Fs = each-at Byte (workBytes Fs) 0 (work-each Fs) (omega arith)
