@@ -13,12 +13,17 @@ ghost use Rattle.rules.specs.Records.{odd};
 ghost use Rattle.rules.specs.Families.{product, spread};
 ghost use Rattle.families.specs.Parts.{HasPart, familyAt, withFamily};
 
+// How many sets ten variables have, and how many bytes hold a bit for each.
+pub const SETS: usize = 1024;
+
+const PART: usize = 128;
+
 // Whether a part holds a set.
 pub fn holds(work: &[u8], part: usize, set: usize) -> bool
     requires { ⌜ HasPart (now work) part × (set < 1024) ⌝ }
     ensures { λ r. ⌜ r ≡ member set (familyAt (now (work .entry)) part) ⌝ }
 {
-    (work[128 * part + set / 8] >> (set % 8)) % 2 == 1
+    (work[PART * part + set / 8] >> (set % 8)) % 2 == 1
 }
 
 // The number of sets in a part.
@@ -28,7 +33,7 @@ pub fn size(work: &[u8], part: usize) -> usize
 {
     let mut sets = 0;
     let mut set = 0;
-    while set < 1024 {
+    while set < SETS {
         sets += one_if(holds(work, part, set));
         set += 1;
     }
@@ -47,9 +52,9 @@ pub fn clear(work: &mut [u8], part: usize)
     requires { ⌜ HasPart (now work) part ⌝ }
     ensures { λ _. ⌜ now (work .exit) ≡ withFamily (now (work .entry)) part [] ⌝ }
 {
-    let from = 128 * part;
+    let from = PART * part;
     let mut cleared = 0;
-    while cleared < 128 {
+    while cleared < PART {
         work[from + cleared] = 0;
         cleared += 1;
     }
@@ -68,7 +73,7 @@ pub fn insert(work: &mut [u8], part: usize, set: usize)
     requires { ⌜ HasPart (now work) part × (set < 1024) ⌝ }
     ensures { λ _. ⌜ now (work .exit) ≡ withFamily (now (work .entry)) part (insert set (familyAt (now (work .entry)) part)) ⌝ }
 {
-    let at = 128 * part + set / 8;
+    let at = PART * part + set / 8;
     work[at] = with_bit(work[at], set % 8);
 }
 
@@ -77,10 +82,10 @@ pub fn unite(work: &mut [u8], into: usize, from: usize)
     requires { ⌜ HasPart (now work) into × (from < into) ⌝ }
     ensures { λ _. ⌜ now (work .exit) ≡ withFamily (now (work .entry)) into (union (familyAt (now (work .entry)) from) (familyAt (now (work .entry)) into)) ⌝ }
 {
-    let a = 128 * into;
-    let b = 128 * from;
+    let a = PART * into;
+    let b = PART * from;
     let mut j = 0;
-    while j < 128 {
+    while j < PART {
         work[a + j] = work[a + j] | work[b + j];
         j += 1;
     }
@@ -146,12 +151,12 @@ fn differences(work: &mut [u8], into: usize, from: usize, set: usize)
     requires { ⌜ HasPart (now work) into × (from < into) × (set < 1024) ⌝ }
     ensures { λ _. ⌜ now (work .exit) ≡ withFamily (now (work .entry)) into (union (map (bitXor set) (familyAt (now (work .entry)) from)) (familyAt (now (work .entry)) into)) ⌝ }
 {
-    let a = 128 * into;
-    let b = 128 * from;
+    let a = PART * into;
+    let b = PART * from;
     let high = set / 8;
     let low = set % 8;
     let mut j = 0;
-    while j < 128 {
+    while j < PART {
         work[a + j] = work[a + j] | turned(work[b + (j ^ high)], low);
         j += 1;
     }
@@ -174,7 +179,7 @@ pub fn multiply(work: &mut [u8], into: usize, first: usize, second: usize)
 {
     clear(work, into);
     let mut set = 0;
-    while set < 1024 {
+    while set < SETS {
         multiply_by(work, into, first, second, set);
         set += 1;
     }

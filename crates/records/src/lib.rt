@@ -14,6 +14,13 @@ ghost use Rattle.records.specs.Netlists.{foundOf, foundIf, foundAt, tabl
 use rules::Node;
 use rules::Refusal;
 
+// At most 10 variables and 200 nodes, so no more than 211 records with the end.
+pub const MOST_VARIABLES: usize = 10;
+
+pub const MOST_NODES: usize = 200;
+
+const MOST_RECORDS: usize = 211;
+
 // What taking one record finds: its kind and the two bytes behind it, which a shorter body leaves unused; or a refusal.
 pub enum Found {
     Record(u8, u8, u8),
@@ -24,8 +31,8 @@ pub enum Found {
 pub struct Netlist {
     pub variables: usize,
     pub count: usize,
-    pub classes: [u8; 10],
-    pub nodes: [Node; 200],
+    pub classes: [u8; MOST_VARIABLES],
+    pub nodes: [Node; MOST_NODES],
 }
 
 // How far a file is read: to its next record, to its end record, or to a refusal.
@@ -93,7 +100,7 @@ fn judge_variable(total: usize, variables: usize, nodes: usize, here: usize, b: 
     if 0 < nodes {
         return Found::Refused(Refusal::LateVariable(here));
     }
-    if 10 <= variables {
+    if MOST_VARIABLES <= variables {
         return Found::Refused(Refusal::OverLimit(here));
     }
     if total - here < 2 {
@@ -110,7 +117,7 @@ fn judge_input(total: usize, variables: usize, nodes: usize, here: usize, b: u8,
     requires { ⌜ here < total ⌝ }
     ensures { λ r. ⌜ foundOf r ≡ foundIf (judgedRecord total variables nodes here 2 b c) 2 b c ⌝ }
 {
-    if 200 <= nodes {
+    if MOST_NODES <= nodes {
         return Found::Refused(Refusal::OverLimit(here));
     }
     if total - here < 3 {
@@ -135,7 +142,7 @@ fn judge_unary(
     requires { ⌜ (here < total) × ((k ≡ 3) ⊎ (k ≡ 7)) ⌝ }
     ensures { λ r. ⌜ foundOf r ≡ foundIf (judgedRecord total variables nodes here k b c) k b c ⌝ }
 {
-    if 200 <= nodes {
+    if MOST_NODES <= nodes {
         return Found::Refused(Refusal::OverLimit(here));
     }
     if total - here < 2 {
@@ -160,7 +167,7 @@ fn judge_binary(
     requires { ⌜ (here < total) × (3 < k) × (k < 7) ⌝ }
     ensures { λ r. ⌜ foundOf r ≡ foundIf (judgedRecord total variables nodes here k b c) k b c ⌝ }
 {
-    if 200 <= nodes {
+    if MOST_NODES <= nodes {
         return Found::Refused(Refusal::OverLimit(here));
     }
     if total - here < 3 {
@@ -245,13 +252,13 @@ pub fn no_records() -> Netlist
     Netlist {
         variables: 0,
         count: 0,
-        classes: [0u8; 10],
+        classes: [0u8; MOST_VARIABLES],
         nodes: [Node {
             kind: 0,
             first: 0,
             second: 0,
             set: 0,
-        }; 200],
+        }; MOST_NODES],
     }
 }
 
@@ -400,7 +407,7 @@ pub fn read(bytes: &[u8]) -> Progress
         netlist: no_records(),
     };
     let mut records: usize = 0;
-    while records < 211 {
+    while records < MOST_RECORDS {
         progress = take_record(bytes, progress);
         records += 1;
     }

@@ -12,6 +12,7 @@ ghost use Rattle.rules.specs.Paper.{findingOf};
 ghost use Rattle.records.specs.Netlists.{tableOf, Ready};
 ghost use Rattle.families.specs.Parts.{HasPart, familyAt};
 ghost use Rattle.scan.specs.Suspects.{variablesOf, found};
+use families::SETS;
 use records::Netlist;
 use rules::Half;
 
@@ -57,7 +58,7 @@ fn suspect_in(work: &[u8], part: usize, secrets: usize, masks: usize, set: usize
 fn first_set(kind: u8) -> usize
     ensures { λ r. ⌜ (kind ≡ 2 → r ≡ 1024) × ((kind ≡ 2 → ⊥) → r ≡ 0) ⌝ }
 {
-    if kind == 2 { 1024 } else { 0 }
+    if kind == 2 { SETS } else { 0 }
 }
 
 // The lowest suspect node of a layer (settled 0, glitch 1) and its lowest-numbered suspect set.
@@ -74,7 +75,7 @@ pub fn scan(netlist: Netlist, layer: usize, work: &[u8]) -> Half
         let node = netlist.nodes[i];
         let part = 2 * i + layer;
         set = first_set(node.kind);
-        while set < 1024 {
+        while set < SETS {
             if suspect_in(work, part, secrets, masks, set) {
                 break 'nodes;
             }

@@ -7,6 +7,7 @@ ghost use Rattle.rules.specs.Slices.{nodesAfter, workAfter, reply};
 ghost use Rattle.rules.specs.Paper.{replyOf};
 ghost use Rattle.records.specs.Netlists.{blank};
 ghost use Rattle.families.specs.Parts.{HasPart};
+use families::SETS;
 use libc::STDOUT_FILENO;
 use rules::Answer;
 use rules::Half;
@@ -113,7 +114,7 @@ fn print_family(work: &[u8], part: usize)
     requires { ⌜ HasPart (now work) part ⌝ }
 {
     let mut set = 0;
-    while set < 1024 {
+    while set < SETS {
         print_set(work, part, set);
         set += 1;
     }
