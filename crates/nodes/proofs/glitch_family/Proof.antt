@@ -72,7 +72,9 @@ gate-family-requires : tie.Need-gate-family-requires
 gate-family-requires c κs =
     let p = c .before .before .before .before .before .pre .1 in
     let two = gate (c .before .match .rest) in
-    (search needs, omega (arith, placed-first p (two .input)), omega (arith, placed-second p two))
+    let first = placed-first p (two .input) in
+    let second = placed-second p two in
+    (search needs, omega arith, omega arith)
 
 same-length : tie.Need-same-length
 same-length c = search needs

@@ -1,6 +1,8 @@
 -- `records::judge_variable` meets its contract: its tests are the rows that are left for a variable. Assumes nothing.
+use native.Mathlib.Omega.{arith}
 use borrow.Author.Needs.{needs}
 use borrow.Author.Tests.{lt-ltb, le-ltb, le-leb, lt-leb}
+use Rattle.rules.specs.Records.{most-variables}
 use Rattle.rules.specs.Checks.{judged}
 use Rattle.records.proofs.Judged.{variable-checks}
 use Rattle.records.proofs.judge_variable.Statement.{statement}
@@ -14,7 +16,7 @@ returns-2 : tie.Need-returns-2
 unfolding judged
 returns-2 c =
     let inside = c .before .before .pre in
-    rw (variable-checks, le-ltb _ _ (c .before .if1 .left), le-leb _ _ (c .if2 .taken))
+    rw (variable-checks, le-ltb _ _ (c .before .if1 .left), le-leb most-variables (c .before .before .args .variables) (omega arith))
 
 sub-if3 : tie.Need-sub-if3
 sub-if3 c = search needs
@@ -23,7 +25,8 @@ returns-3 : tie.Need-returns-3
 unfolding judged
 returns-3 c =
     let inside = c .before .before .before .pre in
-    rw (variable-checks, le-ltb _ _ (c .before .before .if1 .left), lt-leb _ _ (c .before .if2 .left), lt-ltb _ _ (c .if3 .taken))
+    let few = lt-leb most-variables (c .before .before .before .args .variables) (omega arith) in
+    rw (variable-checks, le-ltb _ _ (c .before .before .if1 .left), few, lt-ltb _ _ (c .if3 .taken))
 
 returns-4 : tie.Need-returns-4
 unfolding judged
