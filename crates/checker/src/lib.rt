@@ -37,7 +37,8 @@ fn refused(refusal: Refusal) -> Examined
 // The answer for a netlist that both slices have room for.
 fn answer(netlist: Netlist, work: &mut [u8]) -> Examined
     requires { ⌜ Ready netlist (length (now work)) ⌝ }
-    ensures { λ r. ⌜ ((n : Rules.Netlist) → netlist ≡ tableOf n → Examines (answered n) r (now (work .entry)) (now (work .exit))) ⌝ }
+    ensures { λ r. ⌜ ((n : Rules.Netlist) → netlist ≡ tableOf n →
+        Examines (answered n) r (now (work .entry)) (now (work .exit))) ⌝ }
 {
     nodes::all_families(netlist, work);
     let settled = scan::scan(netlist, 0, work);
@@ -57,7 +58,8 @@ fn answer(netlist: Netlist, work: &mut [u8]) -> Examined
 // The answer for a netlist that was read, or the refusal of slices that are too short for it.
 fn admit(netlist: Netlist, entries: usize, work: &mut [u8]) -> Examined
     requires { ⌜ Formed netlist ⌝ }
-    ensures { λ r. ⌜ ((n : Rules.Netlist) → netlist ≡ tableOf n → Examines (slicesFit entries (length (now (work .entry))) n) r (now (work .entry)) (now (work .exit))) ⌝ }
+    ensures { λ r. ⌜ ((n : Rules.Netlist) → netlist ≡ tableOf n →
+        Examines (slicesFit entries (length (now (work .entry))) n) r (now (work .entry)) (now (work .exit))) ⌝ }
 {
     let count = netlist.count;
     let bytes = 256 * count;
@@ -70,12 +72,13 @@ fn admit(netlist: Netlist, entries: usize, work: &mut [u8]) -> Examined
     answer(netlist, work)
 }
 
-// Checks netlist bytes for a slice of so many entries and a work slice.
+// The same as `check` for a slice of so many entries, with the node records by value.
 pub fn examine(bytes: &[u8], entries: usize, work: &mut [u8]) -> Examined
     ensures reply { λ r. ⌜ replyOf (r .reply) ≡ reply (now (bytes .entry)) entries (length (now (work .entry))) ⌝ }
     ensures netlist { λ r. ⌜ r .netlist ≡ tableOf (kept (admitted (now (bytes .entry)) entries (length (now (work .entry))))) ⌝ }
     ensures work { λ _. ⌜ now (work .exit) ≡ workAfter (now (bytes .entry)) entries (now (work .entry)) ⌝ }
-    ensures clear { λ r. ⌜ Clear (replyOf (r .reply)) ↔ NothingSuspect (now (bytes .entry)) entries (length (now (work .entry))) ⌝ }
+    ensures clear { λ r. ⌜ Clear (replyOf (r .reply)) ↔
+        NothingSuspect (now (bytes .entry)) entries (length (now (work .entry))) ⌝ }
     ensures probe { λ r. ⌜ (Clear (replyOf (r .reply)) → OneProbe (now (bytes .entry))) ⌝ }
 {
     let progress = records::read(bytes);
@@ -133,12 +136,17 @@ pub fn node_at(nodes: &[Node], i: usize) -> Node
     nodes[i]
 }
 
-// Checks netlist bytes: the reply, the node records at the front of `nodes` and the families at the front of `work`.
+// Checks netlist bytes: the reply, the node records at the front of `nodes` and the families at the front of `work`. A
+// refusal leaves both slices as they were. The glitch half is clear exactly when nothing is refused and no tested node's
+// glitch family holds a suspect set; and then one probe on any gate or register sees each pattern of settled values as
+// often for one setting of the secrets as for another.
 pub fn check(bytes: &[u8], nodes: &mut [Node], work: &mut [u8]) -> Reply
     ensures reply { λ r. ⌜ replyOf r ≡ reply (now (bytes .entry)) (length (now (nodes .entry))) (length (now (work .entry))) ⌝ }
-    ensures nodes { λ _. ⌜ now (nodes .exit) ≡ nodesAfter (now (bytes .entry)) (now (nodes .entry)) (length (now (work .entry))) ⌝ }
+    ensures nodes { λ _. ⌜ now (nodes .exit) ≡
+        nodesAfter (now (bytes .entry)) (now (nodes .entry)) (length (now (work .entry))) ⌝ }
     ensures work { λ _. ⌜ now (work .exit) ≡ workAfter (now (bytes .entry)) (length (now (nodes .entry))) (now (work .entry)) ⌝ }
-    ensures clear { λ r. ⌜ Clear (replyOf r) ↔ NothingSuspect (now (bytes .entry)) (length (now (nodes .entry))) (length (now (work .entry))) ⌝ }
+    ensures clear { λ r. ⌜ Clear (replyOf r) ↔
+        NothingSuspect (now (bytes .entry)) (length (now (nodes .entry))) (length (now (work .entry))) ⌝ }
     ensures probe { λ r. ⌜ (Clear (replyOf r) → OneProbe (now (bytes .entry))) ⌝ }
 {
     let examined = examine(bytes, nodes.len(), work);

@@ -80,7 +80,8 @@ pub fn insert(work: &mut [u8], part: usize, set: usize)
 // Puts all sets of a lower part into a part.
 pub fn unite(work: &mut [u8], into: usize, from: usize)
     requires { ⌜ HasPart (now work) into × (from < into) ⌝ }
-    ensures { λ _. ⌜ now (work .exit) ≡ withFamily (now (work .entry)) into (union (familyAt (now (work .entry)) from) (familyAt (now (work .entry)) into)) ⌝ }
+    ensures { λ _. ⌜ now (work .exit) ≡ withFamily (now (work .entry)) into
+        (union (familyAt (now (work .entry)) from) (familyAt (now (work .entry)) into)) ⌝ }
 {
     let a = PART * into;
     let b = PART * from;
@@ -149,7 +150,8 @@ fn turned(byte: u8, by: usize) -> u8
 // Puts the symmetric differences of one set with all sets of a lower part into a part.
 fn differences(work: &mut [u8], into: usize, from: usize, set: usize)
     requires { ⌜ HasPart (now work) into × (from < into) × (set < 1024) ⌝ }
-    ensures { λ _. ⌜ now (work .exit) ≡ withFamily (now (work .entry)) into (union (map (bitXor set) (familyAt (now (work .entry)) from)) (familyAt (now (work .entry)) into)) ⌝ }
+    ensures { λ _. ⌜ now (work .exit) ≡ withFamily (now (work .entry)) into
+        (union (map (bitXor set) (familyAt (now (work .entry)) from)) (familyAt (now (work .entry)) into)) ⌝ }
 {
     let a = PART * into;
     let b = PART * from;
@@ -165,7 +167,10 @@ fn differences(work: &mut [u8], into: usize, from: usize, set: usize)
 // The turn of `multiply` at one set of the first family, or none where that family lacks it.
 fn multiply_by(work: &mut [u8], into: usize, first: usize, second: usize, set: usize)
     requires { ⌜ HasPart (now work) into × (first < into) × (second < into) × (set < 1024) ⌝ }
-    ensures { λ _. ⌜ now (work .exit) ≡ cond (member set (familyAt (now (work .entry)) first)) (withFamily (now (work .entry)) into (union (map (bitXor set) (familyAt (now (work .entry)) second)) (familyAt (now (work .entry)) into))) (now (work .entry)) ⌝ }
+    ensures { λ _. ⌜ now (work .exit) ≡ cond (member set (familyAt (now (work .entry)) first))
+        (withFamily (now (work .entry)) into
+        (union (map (bitXor set) (familyAt (now (work .entry)) second)) (familyAt (now (work .entry)) into)))
+        (now (work .entry)) ⌝ }
 {
     if holds(work, first, set) {
         differences(work, into, second, set);
@@ -175,7 +180,8 @@ fn multiply_by(work: &mut [u8], into: usize, first: usize, second: usize, set: u
 // A part holds the product of two lower ones. Goes through the sets that the first holds.
 pub fn multiply(work: &mut [u8], into: usize, first: usize, second: usize)
     requires { ⌜ HasPart (now work) into × (first < into) × (second < into) ⌝ }
-    ensures { λ _. ⌜ now (work .exit) ≡ withFamily (now (work .entry)) into (product (familyAt (now (work .entry)) first) (familyAt (now (work .entry)) second)) ⌝ }
+    ensures { λ _. ⌜ now (work .exit) ≡ withFamily (now (work .entry)) into
+        (product (familyAt (now (work .entry)) first) (familyAt (now (work .entry)) second)) ⌝ }
 {
     clear(work, into);
     let mut set = 0;
@@ -188,7 +194,8 @@ pub fn multiply(work: &mut [u8], into: usize, first: usize, second: usize)
 // A part holds the empty set, two lower families and their product.
 pub fn spread(work: &mut [u8], into: usize, first: usize, second: usize)
     requires { ⌜ HasPart (now work) into × (first < into) × (second < into) ⌝ }
-    ensures { λ _. ⌜ now (work .exit) ≡ withFamily (now (work .entry)) into (spread (familyAt (now (work .entry)) first) (familyAt (now (work .entry)) second)) ⌝ }
+    ensures { λ _. ⌜ now (work .exit) ≡ withFamily (now (work .entry)) into
+        (spread (familyAt (now (work .entry)) first) (familyAt (now (work .entry)) second)) ⌝ }
 {
     multiply(work, into, first, second);
     unite(work, into, second);

@@ -20,7 +20,10 @@ use rules::Node;
 // OR the empty set, both families and their product.
 fn gate_family(work: &mut [u8], into: usize, kind: u8, first: usize, second: usize)
     requires { ⌜ HasPart (now work) into × (first < into) × (second < into) ⌝ }
-    ensures { λ _. ⌜ now (work .exit) ≡ withFamily (now (work .entry)) into (cond (eqb kind 4) (product (familyAt (now (work .entry)) first) (familyAt (now (work .entry)) second)) (spread (familyAt (now (work .entry)) first) (familyAt (now (work .entry)) second))) ⌝ }
+    ensures { λ _. ⌜ now (work .exit) ≡ withFamily (now (work .entry)) into
+        (cond (eqb kind 4)
+        (product (familyAt (now (work .entry)) first) (familyAt (now (work .entry)) second))
+        (spread (familyAt (now (work .entry)) first) (familyAt (now (work .entry)) second))) ⌝ }
 {
     if kind == 4 {
         families::multiply(work, into, first, second);
@@ -32,7 +35,8 @@ fn gate_family(work: &mut [u8], into: usize, kind: u8, first: usize, second: usi
 // The settled family of node `i`, from those of its operands.
 fn settled_family(work: &mut [u8], i: usize, node: Node)
     requires { ⌜ HasPart (now work) (2 * i) × Placed i node ⌝ }
-    ensures { λ _. ⌜ ((cell : Cell) → node ≡ entry cell → now (work .exit) ≡ withFamily (now (work .entry)) (2 * i) (settledRule (soFar (now (work .entry)) i) cell)) ⌝ }
+    ensures { λ _. ⌜ ((cell : Cell) → node ≡ entry cell →
+        now (work .exit) ≡ withFamily (now (work .entry)) (2 * i) (settledRule (soFar (now (work .entry)) i) cell)) ⌝ }
 {
     let into = 2 * i;
     let kind = node.kind;
@@ -49,7 +53,8 @@ fn settled_family(work: &mut [u8], i: usize, node: Node)
 // settled family.
 fn glitch_family(work: &mut [u8], i: usize, node: Node)
     requires { ⌜ HasPart (now work) (2 * i + 1) × Placed i node ⌝ }
-    ensures { λ _. ⌜ ((cell : Cell) → node ≡ entry cell → now (work .exit) ≡ withFamily (now (work .entry)) (2 * i + 1) (glitchRule (soFar (now (work .entry)) i) cell)) ⌝ }
+    ensures { λ _. ⌜ ((cell : Cell) → node ≡ entry cell →
+        now (work .exit) ≡ withFamily (now (work .entry)) (2 * i + 1) (glitchRule (soFar (now (work .entry)) i) cell)) ⌝ }
 {
     let into = 2 * i + 1;
     let kind = node.kind;
@@ -70,7 +75,8 @@ fn glitch_family(work: &mut [u8], i: usize, node: Node)
 // Both families of node `i`.
 fn node_families(work: &mut [u8], i: usize, node: Node)
     requires { ⌜ (256 * i + 256 ≤ length (now work)) × Placed i node ⌝ }
-    ensures { λ _. ⌜ ((cell : Cell) → node ≡ entry cell → now (work .exit) ≡ withFamilies (now (work .entry)) i (familiesRule (soFar (now (work .entry)) i) cell)) ⌝ }
+    ensures { λ _. ⌜ ((cell : Cell) → node ≡ entry cell →
+        now (work .exit) ≡ withFamilies (now (work .entry)) i (familiesRule (soFar (now (work .entry)) i) cell)) ⌝ }
 {
     settled_family(work, i, node);
     glitch_family(work, i, node);
@@ -79,7 +85,8 @@ fn node_families(work: &mut [u8], i: usize, node: Node)
 // The families of all nodes, in file order.
 pub fn all_families(netlist: Netlist, work: &mut [u8])
     requires { ⌜ Ready netlist (length (now work)) ⌝ }
-    ensures { λ _. ⌜ ((n : Rules.Netlist) → netlist ≡ tableOf n → now (work .exit) ≡ workBytes (families n) ++ drop (length (workBytes (families n))) (now (work .entry))) ⌝ }
+    ensures { λ _. ⌜ ((n : Rules.Netlist) → netlist ≡ tableOf n →
+        now (work .exit) ≡ workBytes (families n) ++ drop (length (workBytes (families n))) (now (work .entry))) ⌝ }
 {
     let count = netlist.count;
     let mut i = 0;

@@ -265,7 +265,8 @@ pub fn no_records() -> Netlist
 // The netlist with one variable more.
 fn with_variable(netlist: Netlist, class: u8) -> Netlist
     requires { ⌜ netlist .variables < 10 ⌝ }
-    ensures { λ r. ⌜ ((n : Rules.Netlist) (c : Class) → netlist ≡ tableOf n → class ≡ classByte c → r ≡ tableOf (withVariable n c)) ⌝ }
+    ensures { λ r. ⌜ ((n : Rules.Netlist) (c : Class) → netlist ≡ tableOf n → class ≡ classByte c →
+        r ≡ tableOf (withVariable n c)) ⌝ }
 {
     let mut longer = netlist;
     let at = longer.variables;
@@ -277,7 +278,8 @@ fn with_variable(netlist: Netlist, class: u8) -> Netlist
 // The netlist with one node more.
 fn with_node(netlist: Netlist, last: Node) -> Netlist
     requires { ⌜ netlist .count < 200 ⌝ }
-    ensures { λ r. ⌜ ((n : Rules.Netlist) (cell : Cell) → netlist ≡ tableOf n → last ≡ entry cell → r ≡ tableOf (withNode n cell)) ⌝ }
+    ensures { λ r. ⌜ ((n : Rules.Netlist) (cell : Cell) → netlist ≡ tableOf n → last ≡ entry cell →
+        r ≡ tableOf (withNode n cell)) ⌝ }
 {
     let mut longer = netlist;
     let at = longer.count;
@@ -341,7 +343,8 @@ fn size_of(k: u8) -> usize
 
 // A refusal ends the reading.
 fn refused(refusal: Refusal) -> Progress
-    ensures { λ r. ⌜ ((n : Rules.Netlist) (here : ℕ) → Reached r (taken n here (Checks.refused (numberOf refusal) (placeOf refusal)))) ⌝ }
+    ensures { λ r. ⌜ ((n : Rules.Netlist) (here : ℕ) →
+        Reached r (taken n here (Checks.refused (numberOf refusal) (placeOf refusal)))) ⌝ }
 {
     Progress {
         stage: Stage::Refused(refusal),
@@ -354,7 +357,8 @@ fn refused(refusal: Refusal) -> Progress
 // behind those before it.
 fn with_record(progress: Progress, k: u8, b: u8, c: u8) -> Progress
     requires { ⌜ RoomFor progress k b c ⌝ }
-    ensures { λ r. ⌜ ((n : Rules.Netlist) (here : ℕ) → Reached progress (Checks.reading n here) → Reached r (taken n here (answered (said k b c)))) ⌝ }
+    ensures { λ r. ⌜ ((n : Rules.Netlist) (here : ℕ) → Reached progress (Checks.reading n here) →
+        Reached r (taken n here (answered (said k b c)))) ⌝ }
 {
     let netlist = progress.netlist;
     if k == 0 {

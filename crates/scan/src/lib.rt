@@ -27,7 +27,8 @@ fn bit_if(yes: bool, v: usize) -> usize
 // The variables of a class, as a set.
 fn variables_of(netlist: Netlist, class: u8) -> usize
     requires { ⌜ netlist .variables ≤ 10 ⌝ }
-    ensures { λ r. ⌜ ((n : Rules.Netlist) (c : Class) → netlist ≡ tableOf n → class ≡ classByte c → r ≡ variablesOf c (n .variables)) ⌝ }
+    ensures { λ r. ⌜ ((n : Rules.Netlist) (c : Class) → netlist ≡ tableOf n → class ≡ classByte c →
+        r ≡ variablesOf c (n .variables)) ⌝ }
 {
     let count = netlist.variables;
     let mut set = 0;
@@ -43,7 +44,8 @@ fn variables_of(netlist: Netlist, class: u8) -> usize
 // Whether a part of the work bytes holds a set that has a secret and no mask.
 fn suspect_in(work: &[u8], part: usize, secrets: usize, masks: usize, set: usize) -> bool
     requires { ⌜ HasPart (now work) part × (set < 1024) ⌝ }
-    ensures { λ r. ⌜ ((variables : List Class) → secrets ≡ variablesOf secret variables → masks ≡ variablesOf mask variables → r ≡ (suspect variables set && member set (familyAt (now (work .entry)) part))) ⌝ }
+    ensures { λ r. ⌜ ((variables : List Class) → secrets ≡ variablesOf secret variables → masks ≡ variablesOf mask variables →
+        r ≡ (suspect variables set && member set (familyAt (now (work .entry)) part))) ⌝ }
 {
     if set & secrets == 0 {
         return false;

@@ -25,7 +25,8 @@ struct Seen {
 fn check_block(bytes: &[u8], work: &mut [u8], i: usize) -> Seen
     requires { ⌜ i < 8 ⌝ }
     ensures reply { λ r. ⌜ replyOf (r .reply) ≡ reply (now (bytes .entry)) 8 (length (now (work .entry))) ⌝ }
-    ensures node { λ r. ⌜ r .node ≡ getD (nodesAfter (now (bytes .entry)) (replicate 8 blank) (length (now (work .entry)))) i blank ⌝ }
+    ensures node { λ r. ⌜ r .node ≡
+        getD (nodesAfter (now (bytes .entry)) (replicate 8 blank) (length (now (work .entry)))) i blank ⌝ }
     ensures work { λ _. ⌜ now (work .exit) ≡ workAfter (now (bytes .entry)) 8 (now (work .entry)) ⌝ }
 {
     let mut nodes = [Node {
