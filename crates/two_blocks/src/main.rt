@@ -114,6 +114,8 @@ fn print_set(work: &[u8], part: usize, set: usize)
 fn print_family(work: &[u8], part: usize)
     requires { ⌜ HasPart (now work) part ⌝ }
 {
+    print_field(families::size(work, part));
+    io::write_all(STDOUT_FILENO, b" in all:");
     let mut set = 0;
     while set < SETS {
         print_set(work, part, set);

@@ -10,6 +10,18 @@ Inv-loop work part set₀ set = set ≤ 1024
 abbrev μ-loop : tie.MeasureT-loop
 μ-loop work part set₀ set = 1024 - set
 
+size-requires : tie.Need-size-requires Inv-loop μ-loop
+size-requires c κs = search needs
+
+print-field-requires : tie.Need-print-field-requires Inv-loop μ-loop
+print-field-requires c κs = search needs
+
+slice-aggregate-write-all : tie.Need-slice-aggregate-write-all Inv-loop μ-loop
+slice-aggregate-write-all c = search needs
+
+write-all-requires : tie.Need-write-all-requires Inv-loop μ-loop
+write-all-requires c κs = search needs
+
 loop-holds : tie.Need-loop-holds Inv-loop μ-loop
 loop-holds c = search needs
 
@@ -32,4 +44,4 @@ returns : tie.Need-returns Inv-loop μ-loop
 returns c = search needs
 
 pub print-family-spec : {M : Type 1} → statement M
-print-family-spec = tie.close (tie.spec Inv-loop μ-loop loop-holds print-set-requires add-set loop-less loop-again end-line-requires returns)
+print-family-spec = tie.close (tie.spec Inv-loop μ-loop size-requires print-field-requires slice-aggregate-write-all write-all-requires loop-holds print-set-requires add-set loop-less loop-again end-line-requires returns)
