@@ -72,7 +72,7 @@ fn byte_behind(bytes: &[u8], here: usize, k: usize) -> u8
 }
 
 // Whether a number has a bit of a variable that is not declared.
-pub fn undeclared_bit(variables: usize, number: usize) -> bool
+fn undeclared_bit(variables: usize, number: usize) -> bool
     ensures { λ r. ⌜ r ≡ undeclared variables number ⌝ }
 {
     if 64 <= variables {
