@@ -48,7 +48,7 @@ fn one_if(yes: bool) -> usize
 }
 
 // Takes every set out of a part.
-pub fn clear(work: &mut [u8], part: usize)
+fn clear(work: &mut [u8], part: usize)
     requires { ⌜ HasPart (now work) part ⌝ }
     ensures { λ _. ⌜ now (work .exit) ≡ withFamily (now (work .entry)) part [] ⌝ }
 {
@@ -78,7 +78,7 @@ pub fn insert(work: &mut [u8], part: usize, set: usize)
 }
 
 // Puts all sets of a lower part into a part.
-pub fn unite(work: &mut [u8], into: usize, from: usize)
+fn unite(work: &mut [u8], into: usize, from: usize)
     requires { ⌜ HasPart (now work) into × (from < into) ⌝ }
     ensures { λ _. ⌜ now (work .exit) ≡ withFamily (now (work .entry)) into
         (union (familyAt (now (work .entry)) from) (familyAt (now (work .entry)) into)) ⌝ }
