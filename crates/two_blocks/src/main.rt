@@ -1,7 +1,7 @@
 // Checks block A and block B of document 01, and shows of each the reply, two node records and those nodes' families as
 // sets.
 ghost use mathlib.Core.Path.{_≡_};
-ghost use Prim.Native.Nat.{_+_, _*_, _≤_, _<_};
+ghost use Prim.Native.Nat.{_+_, _*_, _<_};
 ghost use lib.ListN.{length, getD, replicate};
 ghost use Rattle.rules.specs.Slices.{nodesAfter, workAfter, reply};
 ghost use Rattle.rules.specs.Paper.{replyOf};
