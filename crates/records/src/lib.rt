@@ -11,14 +11,12 @@ ghost use Rattle.rules.specs.Checks.{answered, undeclared, judgedRecord, finish
 ghost use Rattle.rules.specs.Checks as Checks;
 ghost use Rattle.rules.specs.Paper.{numberOf, placeOf};
 ghost use Rattle.records.specs.Netlists.{foundOf, foundIf, foundAt, tableOf, RoomFor, Reached};
+use rules::MOST_NODES;
+use rules::MOST_VARIABLES;
 use rules::Node;
 use rules::Refusal;
 
-// At most 10 variables and 200 nodes, so no more than 211 records with the end.
-pub const MOST_VARIABLES: usize = 10;
-
-pub const MOST_NODES: usize = 200;
-
+// No more records than the variables and nodes there may be, and the end.
 const MOST_RECORDS: usize = 211;
 
 // What taking one record finds: its kind and the two bytes behind it, which a shorter body leaves unused; or a refusal.
@@ -72,7 +70,7 @@ fn byte_behind(bytes: &[u8], here: usize, k: usize) -> u8
 }
 
 // Whether a number has a bit of a variable that is not declared.
-fn undeclared_bit(variables: usize, number: usize) -> bool
+pub fn undeclared_bit(variables: usize, number: usize) -> bool
     ensures { λ r. ⌜ r ≡ undeclared variables number ⌝ }
 {
     if 64 <= variables {

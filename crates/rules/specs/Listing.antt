@@ -2,10 +2,10 @@
 use Prim.Native.Nat.{ℕ, zero, suc, _+_, _/_, _%_}
 use Prim.Native.Char.{code}
 use Prim.Native.String.{String, [] as no-text, _∷_ as _followed-by_}
-use mathlib.Core.Bool.{true, false}
+use mathlib.Core.Bool.{true, false, cond}
 use mathlib.Core.List.{List, [], _∷_, _++_}
-use lib.Dec.{ltb}
-use lib.ListN.{length}
+use lib.Dec.{leb, ltb}
+use lib.ListN.{length, drop}
 use Rattle.rules.specs.Records.{Cell, input, NOT, XOR, AND, OR, register, Netlist}
 use Rattle.rules.specs.Families.{Families, families, Finding, clear, suspectAt, findings}
 use Rattle.rules.specs.Checks.{Outcome, answered, refused, read}
@@ -64,3 +64,8 @@ textOf (answered n) = netlistText n
 -- the listing of the netlist bytes
 unfoldable pub listing : List ℕ → List ℕ
 listing bytes = textOf (read bytes)
+
+-- what a slice that the text is written to holds at exit, which held `before`: the text at its front, and beyond that what stood there; a
+-- slice that is too short for the text keeps its contents
+unfoldable pub shown : (text before : List ℕ) → List ℕ
+shown text before = cond (leb (length text) (length before)) (text ++ drop (length text) before) before

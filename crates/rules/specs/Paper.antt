@@ -1,5 +1,7 @@
 -- What the enums that are answers mean in document 01: for each case its number and values. Promises use these. Assumes nothing.
 use Prim.Native.Nat.{ℕ}
+use mathlib.Core.Bool.{Bool}
+use mathlib.Core.List.{List}
 use Rattle.rules.specs.declared.Half.{Half}
 use Rattle.rules.specs.declared.Half.the-variants.{Clear, Suspect}
 use Rattle.rules.specs.declared.Answer.{Answer}
@@ -7,8 +9,14 @@ use Rattle.rules.specs.declared.Refusal.{Refusal}
 use Rattle.rules.specs.declared.Refusal.the-variants.{UnknownKind, LateVariable, OverLimit, CutShort, UnknownClass, UndeclaredSet, BadOperand, NoEnd, BytesAfterEnd, FewEntries, ShortWork, NoSuchNode, UndeclaredBit}
 use Rattle.rules.specs.declared.Reply.{Reply}
 use Rattle.rules.specs.declared.Reply.the-variants.{Refused, Answered}
+use Rattle.rules.specs.declared.QueryOutcome.{QueryOutcome}
+use Rattle.rules.specs.declared.QueryOutcome.the-variants as Query
+use Rattle.rules.specs.declared.ValueReply.{ValueReply}
+use Rattle.rules.specs.declared.FeedingReply.{FeedingReply}
+use Rattle.rules.specs.declared.MembershipReply.{MembershipReply}
 use Rattle.rules.specs.Families.{Finding, clear, suspectAt, Findings}
 use Rattle.rules.specs.Checks.{Outcome, answered, refused}
+use Rattle.rules.specs.Queries.{Given, Memberships}
 
 -- a refusal's number and place
 abbrev pub numberOf : Refusal → ℕ
@@ -59,3 +67,18 @@ findingsOf a = record {
 abbrev pub replyOf : Reply → Outcome Findings
 replyOf (Refused r) = refused (numberOf r) (placeOf r)
 replyOf (Answered a) = answered (findingsOf a)
+
+-- whether a query is answered
+abbrev pub queryOf : QueryOutcome → Outcome (Unit {0})
+queryOf Query.Answered = answered tt
+queryOf (Query.Refused r) = refused (numberOf r) (placeOf r)
+
+-- the whole reply to each query
+abbrev pub valueOf : ValueReply → Given Bool
+valueOf r = record { outcome = queryOf (r .outcome); gives = r .value }
+
+abbrev pub feedingOf : FeedingReply → Given (List Bool)
+feedingOf r = record { outcome = queryOf (r .outcome); gives = r .marks }
+
+abbrev pub membershipOf : MembershipReply → Given Memberships
+membershipOf r = record { outcome = queryOf (r .outcome); gives = record { settled = r .settled; glitch = r .glitch } }

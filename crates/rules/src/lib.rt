@@ -3,6 +3,11 @@
 ghost use mathlib.Core.Path.{_≡_};
 ghost use Rattle.rules.specs.Paper.{numberOf, placeOf};
 
+// At most 10 variables and 200 nodes.
+pub const MOST_VARIABLES: usize = 10;
+
+pub const MOST_NODES: usize = 200;
+
 // A node record: the kind, the first and second operand (0 where the kind has none) and an input's
 // set (0 for every other kind).
 pub struct Node {
@@ -61,6 +66,29 @@ pub enum Refusal {
 pub enum Reply {
     Refused(Refusal),
     Answered(Answer),
+}
+
+// Whether a query is answered.
+pub enum QueryOutcome {
+    Answered,
+    Refused(Refusal),
+}
+
+// The reply to each of the three queries. A refused one gives value 0 (`false`), and every mark and membership no.
+pub struct ValueReply {
+    pub outcome: QueryOutcome,
+    pub value: bool,
+}
+
+pub struct FeedingReply {
+    pub outcome: QueryOutcome,
+    pub marks: [bool; MOST_NODES],
+}
+
+pub struct MembershipReply {
+    pub outcome: QueryOutcome,
+    pub settled: bool,
+    pub glitch: bool,
 }
 
 // A refusal's number.

@@ -1,0 +1,2 @@
+-- What the contracts of this crate say of a text that is being written.
+pub mod Text

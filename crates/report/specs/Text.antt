@@ -1,0 +1,29 @@
+-- A text that is being written to a slice, from its front on. Cited by the contracts of this crate. Assumes nothing.
+use Prim.Native.Nat.{ℕ, _+_, _≤_, _<_}
+use mathlib.Core.Path.{_≡_}
+use mathlib.Core.List.{List, [], _∷_, _++_}
+use lib.ListN.{length, take}
+use Rattle.rules.specs.declared.Half.{Half}
+use Rattle.rules.specs.declared.Half.the-variants.{Clear, Suspect}
+use Rattle.rules.specs.Families.{Finding, clear, suspectAt}
+use Rattle.rules.specs.Listing.{word, decimal, line}
+
+-- there is room for a text of at most so many bytes at `at`
+abbrev pub Room : (slice : List ℕ) (at most : ℕ) → Type 0
+Room slice at most = at + most ≤ length slice
+
+-- a text goes behind the first `at` bytes of a slice: they are as they were, and the next text's place is `next`
+pub record Appended (before after : List ℕ) (at next : ℕ) (text : List ℕ) : Type 0 where
+  pub place : next ≡ at + length text
+  pub bytes : take next after ≡ take at before ++ text
+  pub long : length after ≡ length before
+
+-- a half names a node and a set of a netlist that obeys the record rules
+unfoldable pub Short : Half → Type 0
+Short Clear = Unit
+Short (Suspect i A) = (i < 200) × (A < 1024)
+
+-- what a half's line says behind its name
+unfoldable pub foundText : Finding → List ℕ
+foundText clear = 32 ∷ line (word "clear" ∷ [])
+foundText (suspectAt i A) = 32 ∷ line (decimal i ∷ decimal A ∷ [])
