@@ -1,0 +1,350 @@
+// Counts mask settings by force over small random blocks, from the queries alone: the settled values of every node under all
+// assignments, and the feeding points of every tested node. Where the checker's glitch half is clear, the number of mask settings that
+// give a pattern must be the same for all settings of the secrets, at every tested node; where the counts of a node
+// differ, the checker must have named a suspect at that node or a lower one.
+ghost use Prim.Native.Nat.{_≤_};
+use libc::STDOUT_FILENO;
+use rules::Half;
+use rules::Reply;
+use second::Block;
+
+const BLOCKS: usize = 1500;
+
+// The most nodes and assignments of a block here.
+const NODES: usize = 12;
+
+const ASSIGNMENTS: usize = 32;
+
+// What was seen.
+struct Tally {
+    blocks: usize,
+    clear: usize,
+    clear_nodes: usize,
+    suspect: usize,
+    tested: usize,
+    differ: usize,
+    cautious: usize,
+    contradictions: usize,
+}
+
+// A sum that stays where it is at a billion, which no count here comes near.
+fn sum(x: usize, more: usize) -> usize {
+    if x < 1000000000 && more < 1000000000 {
+        x + more
+    } else {
+        x
+    }
+}
+
+fn one_if(yes: bool) -> usize {
+    if yes { 1 } else { 0 }
+}
+
+fn least(a: usize, b: usize) -> usize
+    ensures { λ r. ⌜ r ≤ b ⌝ }
+{
+    if a < b { a } else { b }
+}
+
+fn get(slice: &[u16], i: usize) -> usize {
+    second::get(slice, i)
+}
+
+fn put(slice: &mut [u16], i: usize, x: usize) {
+    if i < slice.len() {
+        slice[i] = (x % 65536) as u16;
+    }
+}
+
+// ---- values and feeding points, by the queries
+
+// The values of one node under all assignments, as numbers 0 and 1 from `values[32 × node]` on.
+fn node_values(values: &mut [u16], bytes: &[u8], node: usize, assignments: usize) {
+    let mut x = 0;
+    while x < assignments {
+        let reply = queries::settled_value(bytes, node, x);
+        put(
+            values,
+            node % NODES * ASSIGNMENTS + x % ASSIGNMENTS,
+            one_if(reply.value),
+        );
+        x += 1;
+    }
+}
+
+fn all_values(values: &mut [u16], bytes: &[u8], count: usize, assignments: usize) {
+    let mut node = 0;
+    while node < count {
+        node_values(values, bytes, node, assignments);
+        node += 1;
+    }
+}
+
+// The values of the marked points under an assignment, as a number with a bit for each node.
+fn pattern(values: &[u16], marks: [bool; 200], x: usize) -> usize {
+    let mut bits = 0;
+    let mut j = 0;
+    while j < NODES {
+        if marks[j] {
+            bits = bits | (get(values, j * ASSIGNMENTS + x % ASSIGNMENTS) << j);
+        }
+        j += 1;
+    }
+    bits
+}
+
+// The pattern of a node's feeding points under each assignment.
+fn node_patterns(
+    patterns: &mut [u16],
+    values: &[u16],
+    bytes: &[u8],
+    node: usize,
+    assignments: usize,
+) {
+    let reply = queries::feeding_points(bytes, node);
+    let marks = reply.marks;
+    let mut x = 0;
+    while x < assignments {
+        put(patterns, x, pattern(values, marks, x));
+        x += 1;
+    }
+}
+
+// ---- counts
+
+fn clear(slice: &mut [u16]) {
+    let end = slice.len();
+    let mut k = 0;
+    while k < end {
+        put(slice, k, 0);
+        k += 1;
+    }
+}
+
+// Whether two assignments have the same pattern and the same publics, which are the variables that are neither secret nor masks.
+fn alike(patterns: &[u16], block: Block, x: usize, y: usize) -> bool {
+    get(patterns, x) == get(patterns, y) && (x ^ y) & (31 ^ (block.secrets | block.masks)) == 0
+}
+
+// For each setting of the secrets the number of mask settings that give the pattern of assignment x beside its publics.
+fn count_masks(counts: &mut [u16], patterns: &[u16], block: Block, x: usize, assignments: usize) {
+    clear(counts);
+    let mut y = 0;
+    while y < assignments {
+        if alike(patterns, block, x, y) {
+            let s = y & block.secrets;
+            put(counts, s, sum(get(counts, s), 1));
+        }
+        y += 1;
+    }
+}
+
+// Whether the counts of two settings of the secrets differ. A setting is a number with bits of secrets only.
+fn counts_differ(counts: &[u16], block: Block, assignments: usize) -> bool {
+    let mut differ = false;
+    let mut s = 0;
+    while s < assignments {
+        if s & block.secrets == s && get(counts, s) != get(counts, 0) {
+            differ = true;
+        }
+        s += 1;
+    }
+    differ
+}
+
+// Whether there is a pattern of the node whose counts differ. A pattern that no assignment gives has count 0 throughout.
+fn node_differs(counts: &mut [u16], patterns: &[u16], block: Block, assignments: usize) -> bool {
+    let mut differs = false;
+    let mut x = 0;
+    while x < assignments {
+        count_masks(counts, patterns, block, x, assignments);
+        differs = differs || counts_differ(counts, block, assignments);
+        x += 1;
+    }
+    differs
+}
+
+// ---- one block
+
+fn is_tested(block: Block, node: usize) -> bool {
+    let entry = second::record_of(block, node);
+    entry.kind != 2
+}
+
+// The number of tested nodes, of those whose counts differ, and the lowest of these (or NODES).
+struct Counted {
+    tested: usize,
+    differ: usize,
+    lowest: usize,
+}
+
+fn with_node(counted: Counted, node: usize, differs: bool) -> Counted {
+    Counted {
+        tested: sum(counted.tested, 1),
+        differ: sum(counted.differ, one_if(differs)),
+        lowest: if differs {
+            least(node, counted.lowest)
+        } else {
+            counted.lowest
+        },
+    }
+}
+
+fn count_node(
+    counted: Counted,
+    bytes: &[u8],
+    block: Block,
+    node: usize,
+    assignments: usize,
+    values: &[u16],
+    patterns: &mut [u16],
+    counts: &mut [u16],
+) -> Counted {
+    if !is_tested(block, node) {
+        return counted;
+    }
+    node_patterns(patterns, values, bytes, node, assignments);
+    with_node(
+        counted,
+        node,
+        node_differs(counts, patterns, block, assignments),
+    )
+}
+
+fn count_block(
+    bytes: &[u8],
+    block: Block,
+    assignments: usize,
+    values: &[u16],
+    patterns: &mut [u16],
+    counts: &mut [u16],
+) -> Counted {
+    let mut counted = Counted {
+        tested: 0,
+        differ: 0,
+        lowest: NODES,
+    };
+    let mut node = 0;
+    while node < block.count {
+        counted = count_node(
+            counted,
+            bytes,
+            block,
+            node,
+            assignments,
+            values,
+            patterns,
+            counts,
+        );
+        node += 1;
+    }
+    counted
+}
+
+// The lowest node that the glitch half names, or NODES where it is clear; 0 on a refusal, which no block here gets.
+fn suspect_node(bytes: &[u8]) -> usize {
+    let mut work = [0u8; 51200];
+    let examined = checker::examine(bytes, 200, &mut work);
+    let reply = examined.reply;
+    let Reply::Answered(answer) = reply else {
+        return 0;
+    };
+    let glitch = answer.glitch;
+    match glitch {
+        Half::Clear => NODES,
+        Half::Suspect(node, _) => node,
+    }
+}
+
+fn with_block(tally: Tally, suspect: usize, counted: Counted) -> Tally {
+    let is_clear = suspect == NODES;
+    let mut next = tally;
+    next.blocks = sum(tally.blocks, 1);
+    next.tested = sum(tally.tested, counted.tested);
+    next.differ = sum(tally.differ, counted.differ);
+    next.clear = sum(tally.clear, one_if(is_clear));
+    next.suspect = sum(tally.suspect, one_if(!is_clear));
+    next.cautious = sum(tally.cautious, one_if(!is_clear && counted.differ == 0));
+    next.contradictions = sum(tally.contradictions, one_if(counted.lowest < suspect));
+    if is_clear {
+        next.clear_nodes = sum(tally.clear_nodes, counted.tested);
+    }
+    next
+}
+
+fn try_block(
+    tally: Tally,
+    bytes: &[u8],
+    values: &mut [u16],
+    patterns: &mut [u16],
+    counts: &mut [u16],
+) -> Tally {
+    let block = second::read(bytes);
+    let assignments = 1usize << (block.variables % 16);
+    all_values(values, bytes, block.count, assignments);
+    let counted = count_block(bytes, block, assignments, values, patterns, counts);
+    with_block(tally, suspect_node(bytes), counted)
+}
+
+// Blocks of at most five variables and eleven nodes.
+fn make(bytes: &mut [u8], seed: u32) -> generator::Made {
+    let first = generator::next(seed);
+    let second = generator::next(first);
+    let third = generator::next(second);
+    let variables = 1 + generator::pick(first, 5);
+    let nodes = generator::pick(second, NODES);
+    generator::block(
+        bytes,
+        third,
+        variables,
+        nodes,
+        generator::pick(third, 4) > 0,
+        false,
+    )
+}
+
+fn run(bytes: &mut [u8], values: &mut [u16], patterns: &mut [u16], counts: &mut [u16]) -> Tally {
+    let mut tally = Tally {
+        blocks: 0,
+        clear: 0,
+        clear_nodes: 0,
+        suspect: 0,
+        tested: 0,
+        differ: 0,
+        cautious: 0,
+        contradictions: 0,
+    };
+    let mut seed = 1;
+    let mut turn = 0;
+    while turn < BLOCKS {
+        let made = make(bytes, seed);
+        let n = least(made.length, bytes.len());
+        seed = generator::next(made.seed);
+        tally = try_block(tally, &bytes[..n], values, patterns, counts);
+        turn += 1;
+    }
+    tally
+}
+
+fn print_count(name: &[u8], count: usize) {
+    io::write_all(STDOUT_FILENO, name);
+    io::write_all(STDOUT_FILENO, b" ");
+    io::print_decimal(STDOUT_FILENO, count as u64);
+    io::write_all(STDOUT_FILENO, b"\n");
+}
+
+fn main() {
+    let mut bytes = [0u8; 1024];
+    let mut values = [0u16; 384];
+    let mut patterns = [0u16; ASSIGNMENTS];
+    let mut counts = [0u16; ASSIGNMENTS];
+    let tally = run(&mut bytes, &mut values, &mut patterns, &mut counts);
+    print_count(b"blocks", tally.blocks);
+    print_count(b"clear for glitches", tally.clear);
+    print_count(b"tested nodes of those", tally.clear_nodes);
+    print_count(b"suspect for glitches", tally.suspect);
+    print_count(b"tested nodes", tally.tested);
+    print_count(b"nodes whose counts differ", tally.differ);
+    print_count(b"suspect though no counts differ", tally.cautious);
+    print_count(b"contradictions", tally.contradictions);
+}

@@ -1,0 +1,686 @@
+// Compares the checker and the queries with the second checker over random blocks, valid and damaged, in slices of many
+// lengths: replies with number and place, node records, families, what lies beyond them, and the three queries. Prints what it
+// saw, and how many blocks differ.
+ghost use Prim.Native.Nat.{_≤_};
+use libc::STDOUT_FILENO;
+use rules::Answer;
+use rules::FeedingReply;
+use rules::Half;
+use rules::MembershipReply;
+use rules::Node;
+use rules::QueryOutcome;
+use rules::Reply;
+use rules::ValueReply;
+use second::Block;
+
+const BLOCKS: usize = 4000;
+
+// What was seen. `refusals` counts them by number.
+struct Tally {
+    blocks: usize,
+    answers: usize,
+    nodes: usize,
+    sets: usize,
+    settled: usize,
+    glitch: usize,
+    clear: usize,
+    values: usize,
+    points: usize,
+    members: usize,
+    queries: usize,
+    differences: usize,
+    refusals: [usize; 14],
+}
+
+// ---- counting
+
+// A sum that stays where it is at a billion, which no count here comes near.
+fn sum(x: usize, more: usize) -> usize {
+    if x < 1000000000 && more < 1000000000 {
+        x + more
+    } else {
+        x
+    }
+}
+
+fn one_if(yes: bool) -> usize {
+    if yes { 1 } else { 0 }
+}
+
+fn least(a: usize, b: usize) -> usize
+    ensures { λ r. ⌜ r ≤ b ⌝ }
+{
+    if a < b { a } else { b }
+}
+
+fn no_tally() -> Tally {
+    Tally {
+        blocks: 0,
+        answers: 0,
+        nodes: 0,
+        sets: 0,
+        settled: 0,
+        glitch: 0,
+        clear: 0,
+        values: 0,
+        points: 0,
+        members: 0,
+        queries: 0,
+        differences: 0,
+        refusals: [0; 14],
+    }
+}
+
+fn with_refusal(tally: Tally, number: usize) -> Tally {
+    let mut next = tally;
+    let at = number % 14;
+    next.refusals[at] = sum(next.refusals[at], 1);
+    next
+}
+
+fn with_difference(tally: Tally, same: bool) -> Tally {
+    let mut next = tally;
+    next.differences = sum(tally.differences, one_if(!same));
+    next
+}
+
+// ---- what is expected of a block
+
+// A refusal's number and place; number 0 where there is none.
+struct Expected {
+    number: usize,
+    place: usize,
+}
+
+// Of a check in slices of so many entries and so many work bytes.
+fn expected(block: Block, entries: usize, work: usize) -> Expected {
+    if block.fault > 0 {
+        return Expected {
+            number: block.fault,
+            place: block.place,
+        };
+    }
+    if entries < block.count {
+        return Expected {
+            number: 10,
+            place: block.count,
+        };
+    }
+    if work / 256 < block.count {
+        return Expected {
+            number: 11,
+            place: block.count % 256 * 256,
+        };
+    }
+    Expected {
+        number: 0,
+        place: 0,
+    }
+}
+
+// Of a query of a node.
+fn expected_of(block: Block, node: usize) -> Expected {
+    if block.fault > 0 {
+        return Expected {
+            number: block.fault,
+            place: block.place,
+        };
+    }
+    if node >= block.count {
+        return Expected {
+            number: 12,
+            place: node,
+        };
+    }
+    Expected {
+        number: 0,
+        place: 0,
+    }
+}
+
+// Of a query of a node with an assignment or a set.
+fn expected_with(block: Block, node: usize, number: usize) -> Expected {
+    let first = expected_of(block, node);
+    if first.number > 0 {
+        return first;
+    }
+    if number >> (block.variables % 16) > 0 {
+        return Expected {
+            number: 13,
+            place: number,
+        };
+    }
+    first
+}
+
+// ---- the reply
+
+// A half as the second checker gives it.
+fn half_number(half: Half) -> usize {
+    match half {
+        Half::Clear => second::NONE,
+        Half::Suspect(node, set) => {
+            if node < 200 && set < 1024 {
+                node * 1024 + set
+            } else {
+                second::NONE + 1
+            }
+        }
+    }
+}
+
+fn same_answer(answer: Answer, block: Block, lists: &[u16], lengths: &[u16]) -> bool {
+    let settled = answer.settled;
+    let glitch = answer.glitch;
+    answer.variables == block.variables
+        && answer.nodes == block.count
+        && half_number(settled) == second::first_suspect(block, lists, lengths, 0)
+        && half_number(glitch) == second::first_suspect(block, lists, lengths, 1)
+}
+
+fn same_reply(
+    reply: Reply,
+    expected: Expected,
+    block: Block,
+    lists: &[u16],
+    lengths: &[u16],
+) -> bool {
+    match reply {
+        Reply::Refused(refusal) => {
+            rules::number_of(refusal) == expected.number
+                && rules::place_of(refusal) == expected.place
+        }
+        Reply::Answered(answer) => expected.number == 0
+            && same_answer(answer, block, lists, lengths),
+    }
+}
+
+// ---- the lent slices
+
+// What stands in the slices before a check.
+fn entry_before() -> Node {
+    Node {
+        kind: 9,
+        first: 8,
+        second: 7,
+        set: 6,
+    }
+}
+
+fn byte_before(k: usize) -> u8 {
+    (k % 251) as u8
+}
+
+fn fill(work: &mut [u8]) {
+    let end = work.len();
+    let mut k = 0;
+    while k < end {
+        if k < work.len() {
+            work[k] = byte_before(k);
+        }
+        k += 1;
+    }
+}
+
+fn same_node(a: Node, b: Node) -> bool {
+    a.kind == b.kind && a.first == b.first && a.second == b.second && a.set == b.set
+}
+
+fn expected_entry(block: Block, written: usize, i: usize) -> Node {
+    if i < written {
+        second::record_of(block, i)
+    } else {
+        entry_before()
+    }
+}
+
+// The first `written` entries are the block's, and the others as they were.
+fn same_entries(nodes: [Node; 200], block: Block, written: usize) -> bool {
+    let mut same = true;
+    let mut i = 0;
+    while i < 200 {
+        same = same && same_node(nodes[i], expected_entry(block, written, i));
+        i += 1;
+    }
+    same
+}
+
+// The work bytes from `from` on are as they were.
+fn rest_kept(work: &[u8], from: usize) -> bool {
+    let mut same = true;
+    let mut k = from;
+    while k < work.len() {
+        same = same && work[k] == byte_before(k);
+        k += 1;
+    }
+    same
+}
+
+fn bits_of(work: &[u8], k: usize) -> usize {
+    if k < work.len() {
+        u32::count_ones(work[k] as u32) as usize
+    } else {
+        0
+    }
+}
+
+// How many sets the family at a place of the work bytes has.
+fn sets_at(work: &[u8], at: usize) -> usize {
+    let mut sets = 0;
+    let mut k = 0;
+    while k < 128 {
+        sets = sum(sets, bits_of(work, sum(at, k)));
+        k += 1;
+    }
+    sets
+}
+
+fn has_bit(work: &[u8], at: usize, set: usize) -> bool {
+    let k = sum(at, set / 8);
+    k < work.len() && (work[k] >> (set % 8)) % 2 == 1
+}
+
+// The family at a place of the work bytes has just the sets of a list: all of them, and as many.
+fn same_family(work: &[u8], at: usize, lists: &[u16], lengths: &[u16], list: usize) -> bool {
+    let many = second::get(lengths, list);
+    let mut same = sets_at(work, at) == many;
+    let mut k = 0;
+    while k < many {
+        same = same && has_bit(work, at, second::set_at(lists, list, k));
+        k += 1;
+    }
+    same
+}
+
+fn same_families(work: &[u8], lists: &[u16], lengths: &[u16], written: usize) -> bool {
+    let mut same = true;
+    let mut i = 0;
+    while i < 200 {
+        if i < written {
+            same = same && same_family(work, 256 * i, lists, lengths, i);
+            same = same && same_family(work, 256 * i + 128, lists, lengths, 200 + i);
+        }
+        i += 1;
+    }
+    same
+}
+
+// How many sets there are in the families of the block.
+fn all_sets(lengths: &[u16]) -> usize {
+    let mut sets = 0;
+    let mut k = 0;
+    while k < second::LISTS {
+        sets = sum(sets, second::get(lengths, k));
+        k += 1;
+    }
+    sets
+}
+
+// ---- the queries
+
+fn same_outcome(outcome: QueryOutcome, expected: Expected) -> bool {
+    match outcome {
+        QueryOutcome::Answered => expected.number == 0,
+        QueryOutcome::Refused(refusal) => {
+            rules::number_of(refusal) == expected.number
+                && rules::place_of(refusal) == expected.place
+        }
+    }
+}
+
+fn same_value(
+    reply: ValueReply,
+    expected: Expected,
+    tables: &[u64],
+    node: usize,
+    x: usize,
+) -> bool {
+    let outcome = reply.outcome;
+    same_outcome(outcome, expected)
+        && reply.value == (expected.number == 0 && second::value(tables, node, x))
+}
+
+fn same_points(reply: FeedingReply, expected: Expected, rows: &[u64], node: usize) -> bool {
+    let outcome = reply.outcome;
+    let marks = reply.marks;
+    let mut same = same_outcome(outcome, expected);
+    let mut j = 0;
+    while j < 200 {
+        same = same && marks[j] == (expected.number == 0 && second::feeds(rows, node, j));
+        j += 1;
+    }
+    same
+}
+
+fn same_memberships(
+    reply: MembershipReply,
+    expected: Expected,
+    lists: &[u16],
+    lengths: &[u16],
+    node: usize,
+    set: usize,
+) -> bool {
+    let outcome = reply.outcome;
+    let answered = expected.number == 0;
+    let list = node % 200;
+    same_outcome(outcome, expected)
+        && reply.settled == (answered && second::has_set(lists, lengths, list, set))
+        && reply.glitch == (answered && second::has_set(lists, lengths, 200 + list, set))
+}
+
+fn with_query(tally: Tally, expected: Expected, same: bool) -> Tally {
+    let mut next = with_difference(tally, same);
+    next.queries = sum(next.queries, 1);
+    if expected.number > 0 {
+        return with_refusal(next, expected.number);
+    }
+    next
+}
+
+fn ask_value(
+    tally: Tally,
+    bytes: &[u8],
+    block: Block,
+    tables: &[u64],
+    node: usize,
+    x: usize,
+) -> Tally {
+    let expected = expected_with(block, node, x);
+    let reply = queries::settled_value(bytes, node, x);
+    let mut next = with_query(
+        tally,
+        expected,
+        same_value(reply, expected, tables, node, x),
+    );
+    next.values = sum(next.values, one_if(reply.value));
+    next
+}
+
+fn ask_points(tally: Tally, bytes: &[u8], block: Block, rows: &[u64], node: usize) -> Tally {
+    let expected = expected_of(block, node);
+    let reply = queries::feeding_points(bytes, node);
+    let mut next = with_query(tally, expected, same_points(reply, expected, rows, node));
+    next.points = sum(next.points, one_if(expected.number == 0));
+    next
+}
+
+fn ask_memberships(
+    tally: Tally,
+    bytes: &[u8],
+    block: Block,
+    lists: &[u16],
+    lengths: &[u16],
+    node: usize,
+    set: usize,
+) -> Tally {
+    let expected = expected_with(block, node, set);
+    let reply = queries::memberships(bytes, node, set);
+    let same = same_memberships(reply, expected, lists, lengths, node, set);
+    let mut next = with_query(tally, expected, same);
+    next.members = sum(next.members, one_if(reply.settled) + one_if(reply.glitch));
+    next
+}
+
+// Asks each query four times, of nodes and numbers that may be too high.
+fn ask_all(
+    tally: Tally,
+    seed: u32,
+    bytes: &[u8],
+    block: Block,
+    lists: &[u16],
+    lengths: &[u16],
+    tables: &[u64],
+    rows: &[u64],
+) -> Tally {
+    let mut next = tally;
+    let mut state = seed;
+    let mut round = 0;
+    while round < 4 {
+        let node = generator::pick(state, block.count % 256 + 2);
+        state = generator::next(state);
+        let number = generator::pick(state, 2usize << (block.variables % 16));
+        state = generator::next(state);
+        next = ask_value(next, bytes, block, tables, node, number);
+        next = ask_points(next, bytes, block, rows, node);
+        next = ask_memberships(next, bytes, block, lists, lengths, node, number);
+        round += 1;
+    }
+    next
+}
+
+// ---- one block
+
+fn with_answer(tally: Tally, block: Block, lists: &[u16], lengths: &[u16]) -> Tally {
+    let mut next = tally;
+    let settled = second::first_suspect(block, lists, lengths, 0);
+    let glitch = second::first_suspect(block, lists, lengths, 1);
+    next.answers = sum(tally.answers, 1);
+    next.nodes = sum(tally.nodes, block.count);
+    next.sets = sum(tally.sets, all_sets(lengths));
+    next.settled = sum(tally.settled, one_if(settled != second::NONE));
+    next.glitch = sum(tally.glitch, one_if(glitch != second::NONE));
+    next.clear = sum(tally.clear, one_if(glitch == second::NONE));
+    next
+}
+
+// Checks the block in slices of so many entries and of these work bytes.
+fn compare_check(
+    tally: Tally,
+    bytes: &[u8],
+    block: Block,
+    lists: &[u16],
+    lengths: &[u16],
+    entries: usize,
+    work: &mut [u8],
+) -> Tally {
+    fill(work);
+    let expected = expected(block, entries, work.len());
+    let written = if expected.number == 0 {
+        block.count % 256
+    } else {
+        0
+    };
+    let seen = trial::check_over(bytes, entries, entry_before(), work);
+    let reply = seen.reply;
+    let nodes = seen.nodes;
+    let same = same_reply(reply, expected, block, lists, lengths)
+        && same_entries(nodes, block, written)
+        && same_families(work, lists, lengths, written)
+        && rest_kept(work, 256 * written);
+    let next = with_difference(tally, same);
+    if expected.number > 0 {
+        return with_refusal(next, expected.number);
+    }
+    with_answer(next, block, lists, lengths)
+}
+
+// How many variables and nodes a block has.
+struct Shape {
+    variables: usize,
+    nodes: usize,
+}
+
+// Mostly small; some with ten variables or up to 200 nodes, and some with one more than there may be.
+fn shape(seed: u32, turn: usize) -> Shape {
+    let other = generator::next(seed);
+    match turn % 50 {
+        1 => Shape {
+            variables: 10,
+            nodes: generator::pick(seed, 13),
+        },
+        2 => Shape {
+            variables: generator::pick(seed, 4),
+            nodes: 100 + generator::pick(other, 101),
+        },
+        3 => Shape {
+            variables: 11,
+            nodes: generator::pick(seed, 5),
+        },
+        4 => Shape {
+            variables: 2,
+            nodes: 201,
+        },
+        _ => Shape {
+            variables: generator::pick(seed, 7),
+            nodes: generator::pick(other, 25),
+        },
+    }
+}
+
+// Mostly enough entries, or work bytes, for a block of so many nodes.
+fn some_entries(seed: u32, count: usize) -> usize {
+    let other = generator::next(seed);
+    if generator::pick(seed, 8) == 0 {
+        return generator::pick(other, count);
+    }
+    least(200, sum(count, generator::pick(other, 3)))
+}
+
+fn some_work(seed: u32, count: usize, most: usize) -> usize
+    ensures { λ r. ⌜ r ≤ most ⌝ }
+{
+    let other = generator::next(seed);
+    let enough = count % 256 * 256;
+    if generator::pick(seed, 8) == 0 {
+        return least(generator::pick(other, enough), most);
+    }
+    least(enough + generator::pick(other, 300), most)
+}
+
+// A block at random: how long it is, and the state after it.
+fn make(bytes: &mut [u8], seed: u32, turn: usize) -> generator::Made {
+    let first = generator::next(seed);
+    let second = generator::next(first);
+    let third = generator::next(second);
+    let shape = shape(generator::next(third), turn);
+    let masked = generator::pick(first, 3) > 0;
+    let wide = generator::pick(second, 16) == 0;
+    let made = generator::block(bytes, third, shape.variables, shape.nodes, masked, wide);
+    if generator::pick(third, 3) == 0 {
+        return generator::damage(bytes, made);
+    }
+    made
+}
+
+// Compares all that both checkers say of a block.
+fn compare(
+    tally: Tally,
+    seed: u32,
+    bytes: &[u8],
+    lists: &mut [u16],
+    lengths: &mut [u16],
+    marks: &mut [u16],
+    tables: &mut [u64],
+    rows: &mut [u64],
+    work: &mut [u8],
+) -> Tally {
+    let block = second::read(bytes);
+    second::families(block, lists, lengths, marks);
+    second::truth_tables(block, tables);
+    second::feeding_rows(block, rows);
+    let first = generator::next(seed);
+    let entries = some_entries(seed, block.count);
+    let m = some_work(first, block.count, work.len());
+    let checked = compare_check(tally, bytes, block, lists, lengths, entries, &mut work[..m]);
+    let mut next = ask_all(
+        checked,
+        generator::next(first),
+        bytes,
+        block,
+        lists,
+        lengths,
+        tables,
+        rows,
+    );
+    next.blocks = sum(next.blocks, 1);
+    next
+}
+
+// All blocks.
+fn run(
+    bytes: &mut [u8],
+    lists: &mut [u16],
+    lengths: &mut [u16],
+    marks: &mut [u16],
+    tables: &mut [u64],
+    rows: &mut [u64],
+    work: &mut [u8],
+) -> Tally {
+    let mut tally = no_tally();
+    let mut seed = 1;
+    let mut turn = 0;
+    while turn < BLOCKS {
+        let made = make(bytes, seed, turn);
+        let n = least(made.length, bytes.len());
+        seed = generator::next(made.seed);
+        tally = compare(
+            tally,
+            seed,
+            &bytes[..n],
+            lists,
+            lengths,
+            marks,
+            tables,
+            rows,
+            work,
+        );
+        turn += 1;
+    }
+    tally
+}
+
+// ---- what was seen
+
+fn print_count(name: &[u8], count: usize) {
+    io::write_all(STDOUT_FILENO, name);
+    io::write_all(STDOUT_FILENO, b" ");
+    io::print_decimal(STDOUT_FILENO, count as u64);
+    io::write_all(STDOUT_FILENO, b"\n");
+}
+
+fn print_refusals(refusals: [usize; 14]) {
+    let mut k = 1;
+    while k < 14 {
+        io::write_all(STDOUT_FILENO, b"refused ");
+        io::print_decimal(STDOUT_FILENO, k as u64);
+        print_count(b" times", refusals[k]);
+        k += 1;
+    }
+}
+
+fn print_tally(tally: Tally) {
+    let refusals = tally.refusals;
+    print_count(b"blocks", tally.blocks);
+    print_count(b"answered", tally.answers);
+    print_count(b"nodes", tally.nodes);
+    print_count(b"sets in their families", tally.sets);
+    print_count(b"settled suspects", tally.settled);
+    print_count(b"glitch suspects", tally.glitch);
+    print_count(b"clear for glitches", tally.clear);
+    print_count(b"queries", tally.queries);
+    print_count(b"values 1", tally.values);
+    print_count(b"feeding points asked of a node", tally.points);
+    print_count(b"memberships yes", tally.members);
+    print_refusals(refusals);
+    print_count(b"differences", tally.differences);
+}
+
+fn main() {
+    let mut bytes = [0u8; 1024];
+    let mut lists = [0u16; 409600];
+    let mut lengths = [0u16; 400];
+    let mut marks = [0u16; 1024];
+    let mut tables = [0u64; 3200];
+    let mut rows = [0u64; 800];
+    let mut work = [0u8; 51200];
+    let tally = run(
+        &mut bytes,
+        &mut lists,
+        &mut lengths,
+        &mut marks,
+        &mut tables,
+        &mut rows,
+        &mut work,
+    );
+    print_tally(tally);
+}
