@@ -1,5 +1,6 @@
--- A part of a slice of families: its members are its bits, each named once, and `withFamily` writes one part and sees membership alone. By the
--- entries of the slice, outside the part and in it; what a part holds, by induction on the number of sets looked at. Assumes nothing.
+-- A part of a slice of families: its members are its bits, each named once and at most 1,024 in all, and `withFamily` writes one part and sees
+-- membership alone. By the entries of the slice, outside the part and in it; what a part holds, by induction on the number of sets looked at.
+-- Assumes nothing.
 use Prim.Native.Nat.{ℕ, zero, suc, _+_, _*_, _-_, _/_, _%_, _^_, _≤_, _<_}
 use mathlib.Core.Path.{_≡_, refl, sym, ap, _∙_}
 use mathlib.Core.Logic.{_⊎_, inl, inr, ⊎-elim}
@@ -68,6 +69,16 @@ module _ (bytes : List ℕ) (part : ℕ) where
       go true rest = rw (not-yet k) rest
       go false rest = rest
 
+  -- and there are at most k
+  length-below : (k : ℕ) → length (setsBelow bytes part k) ≤ k
+  unfolding setsBelow
+  length-below zero = omega arith
+  length-below (suc k) = go (holdsAt bytes part k) (length-below k)
+    where
+      go : (b : Bool) → length (setsBelow bytes part k) ≤ k → length (cond b (k ∷ setsBelow bytes part k) (setsBelow bytes part k)) ≤ suc k
+      go true rest = omega arith
+      go false rest = omega arith
+
   pub member-at : (A : ℕ) → A < 1024 → member A (familyAt bytes part) ≡ holdsAt bytes part A
   unfolding familyAt
   member-at A h = member-below 1024 A h
@@ -79,6 +90,10 @@ module _ (bytes : List ℕ) (part : ℕ) where
   pub once-at : T (once (familyAt bytes part))
   unfolding familyAt
   once-at = once-below 1024
+
+  pub length-at : length (familyAt bytes part) ≤ 1024
+  unfolding familyAt
+  length-at = length-below 1024
 
 -- parts with the same bits hold the same family
 sets-same : (bytes other : List ℕ) (part k : ℕ) → ((A : ℕ) → A < k → holdsAt bytes part A ≡ holdsAt other part A)

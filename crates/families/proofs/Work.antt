@@ -4,19 +4,17 @@ use Prim.Native.Nat.{ℕ, _+_, _*_, _/_, _%_, _^_, _≤_, _<_}
 use mathlib.Core.Path.{_≡_, _∙_}
 use mathlib.Core.Logic.{⊎-elim}
 use mathlib.Core.List.{List, _++_}
-use native.Mathlib.Nat.{lt-of-lt-of-le}
 use native.Mathlib.Omega.{arith}
 use lib.Dec.{T}
 use lib.ListN.{length, getD, List·getD-append}
-use lib.Pow.{pow-mono}
 use Rattle.rules.specs.Lists.{member}
-use Rattle.rules.specs.Records.{input, Netlist, WellFormed, setOf, odd}
+use Rattle.rules.specs.Records.{Netlist, WellFormed, odd}
 use Rattle.rules.specs.Families.{Family, Families, constant, families, familiesAt}
 use Rattle.rules.specs.Slices.{workBytes}
 use Rattle.rules.proofs.Tests.{same-test, lt-or-le}
 use Rattle.rules.proofs.Members.{All}
 use Rattle.rules.proofs.Once.{once, same-length, settled-once, glitch-once}
-use Rattle.rules.proofs.Bounds.{sets-below}
+use Rattle.rules.proofs.Bounds.{families-small}
 use Rattle.rules.proofs.Packing.{work-length, settled-bit, glitch-bit}
 use Rattle.rules.proofs.Exit.{families-length}
 use Rattle.families.specs.Parts.{holdsAt, familyAt}
@@ -69,29 +67,21 @@ module _ (Fs : List Families) (rest : List ℕ) where
 
 -- ---- those of a netlist's families
 
-module _ (n : Netlist) (formed : WellFormed n) where
-  -- every set is one of ten variables
-  pub set-small : (i : ℕ) → i < length (n .nodes) → setOf (getD (n .nodes) i (input 0)) < 1024
-  set-small i h = lt-of-lt-of-le (formed .declared i h) (pow-mono (formed .few-variables))
+module _ (n : Netlist) (formed : WellFormed n) (rest : List ℕ) (i : ℕ) (h : i < length (n .nodes)) where
+  there : i < length (families n)
+  there = omega (arith, families-length n)
 
-  pub families-small : (i : ℕ) → Small (familiesAt n i .settled) × Small (familiesAt n i .glitch)
-  families-small = sets-below n 10 set-small
+  pub settled-there : Alike (familyAt (workBytes (families n) ++ rest) (2 * i)) (familiesAt n i .settled)
+  unfolding familiesAt
+  settled-there = settled-alike (families n) rest i there (families-small n formed i .0)
 
-  module _ (rest : List ℕ) (i : ℕ) (h : i < length (n .nodes)) where
-    there : i < length (families n)
-    there = omega (arith, families-length n)
+  pub glitch-there : Alike (familyAt (workBytes (families n) ++ rest) (2 * i + 1)) (familiesAt n i .glitch)
+  unfolding familiesAt
+  glitch-there = glitch-alike (families n) rest i there (families-small n formed i .1)
 
-    pub settled-there : Alike (familyAt (workBytes (families n) ++ rest) (2 * i)) (familiesAt n i .settled)
-    unfolding familiesAt
-    settled-there = settled-alike (families n) rest i there (families-small i .0)
+  -- the number of sets in each part, which `families::size` gives, is that of the rules' family
+  pub settled-size : length (familyAt (workBytes (families n) ++ rest) (2 * i)) ≡ length (familiesAt n i .settled)
+  settled-size = part-size _ (2 * i) _ (settled-once n i) settled-there
 
-    pub glitch-there : Alike (familyAt (workBytes (families n) ++ rest) (2 * i + 1)) (familiesAt n i .glitch)
-    unfolding familiesAt
-    glitch-there = glitch-alike (families n) rest i there (families-small i .1)
-
-    -- the number of sets in each part, which `families::size` gives, is that of the rules' family
-    pub settled-size : length (familyAt (workBytes (families n) ++ rest) (2 * i)) ≡ length (familiesAt n i .settled)
-    settled-size = part-size _ (2 * i) _ (settled-once n i) settled-there
-
-    pub glitch-size : length (familyAt (workBytes (families n) ++ rest) (2 * i + 1)) ≡ length (familiesAt n i .glitch)
-    glitch-size = part-size _ (2 * i + 1) _ (glitch-once n i) glitch-there
+  pub glitch-size : length (familyAt (workBytes (families n) ++ rest) (2 * i + 1)) ≡ length (familiesAt n i .glitch)
+  glitch-size = part-size _ (2 * i + 1) _ (glitch-once n i) glitch-there

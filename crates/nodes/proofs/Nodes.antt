@@ -17,12 +17,12 @@ use Rattle.rules.specs.Families.{Family, product, spread, Families, constant, s
 use Rattle.rules.specs.Slices.{entry, familyBytes, nodeBytes, workBytes}
 use Rattle.rules.proofs.Tests.{same-test}
 use Rattle.rules.proofs.Lists.{member-head, member-tail, member-insert, member-union, product-holds}
-use Rattle.rules.proofs.Bounds.{product-cases}
+use Rattle.rules.proofs.Bounds.{product-cases, set-small, families-small}
 use Rattle.rules.proofs.Tables.{table-length, table-snoc, table-take}
 use Rattle.rules.proofs.Packing.{tabulate-at, tabulate-same, family-length, work-length}
 use Rattle.families.specs.Parts.{HasPart, withFamily}
 use Rattle.families.proofs.Parts.{with-same, with-there}
-use Rattle.families.proofs.Work.{Alike, settled-alike, glitch-alike, set-small, families-small}
+use Rattle.families.proofs.Work.{Alike, settled-alike, glitch-alike}
 use Rattle.nodes.specs.Work.{familiesIn, soFar, withFamilies, Placed}
 
 -- ---- families with the same sets

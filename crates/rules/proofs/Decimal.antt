@@ -1,13 +1,14 @@
--- A number in base ten: its digits stand for it, each is a digit, and no 0 leads but that of the number 0.
--- By one induction, on the number without its last digit. Assumes nothing.
-use Prim.Native.Nat.{ℕ, zero, suc, _+_, _-_, _*_, _/_, _%_, _≤_, _<_}
-use mathlib.Core.Path.{_≡_, refl}
+-- A number in base ten: its digits stand for it, each is a digit, no 0 leads but that of the number 0, and a number below 10 to the power k has at
+-- most k of them. By one induction, on the number without its last digit. Assumes nothing.
+use Prim.Native.Nat.{ℕ, zero, suc, _+_, _-_, _*_, _/_, _%_, _^_, _≤_, _<_}
+use mathlib.Core.Path.{_≡_, refl, sym, _∙_}
 use mathlib.Core.Bool.{Bool, true, false}
 use mathlib.Core.List.{List, [], _∷_, _++_}
-use native.Mathlib.Nat.{mod-eq-of-lt}
+use native.Mathlib.Nat.{mod-eq-of-lt, pow-suc}
 use native.Mathlib.Omega.{arith}
+use borrow.Author.Tests.{lt-ltb, le-ltb}
 use lib.Dec.{ltb, ltb→lt, nltb→le}
-use lib.ListN.{getD}
+use lib.ListN.{length, getD, length-append}
 use Rattle.rules.specs.Listing.{digits, decimal}
 use Rattle.rules.proofs.Each.{Each, each-append}
 
@@ -30,6 +31,33 @@ module _ (P : ℕ → List ℕ → Type 0)
     decimal-induction : (x : ℕ) → P x (decimal x)
     unfolding decimal
     decimal-induction x = digits-induction x x (omega arith)
+
+-- ---- one digit, and a digit behind the others
+
+-- it makes no odds how many digits are allowed for, as long as they are enough
+digits-enough : (x n : ℕ) → x ≤ n → digits n x ≡ decimal x
+unfolding digits
+digits-enough =
+    decimal-induction (λ x s. (n : ℕ) → x ≤ n → digits n x ≡ s) one more
+  where
+    one : (x : ℕ) → x < 10 → (n : ℕ) → x ≤ n → digits n x ≡ (48 + x) ∷ []
+    one x l zero h = rw (mod-eq-of-lt l)
+    one x l (suc n) h = rw (lt-ltb x 10 l, digits)
+
+    more : (x : ℕ) (s : List ℕ) → 10 ≤ x → ((n : ℕ) → x / 10 ≤ n → digits n (x / 10) ≡ s) → (n : ℕ) → x ≤ n
+        → digits n x ≡ s ++ ((48 + x % 10) ∷ [])
+    more x s l rest zero h = absurd (omega arith)
+    more x s l rest (suc n) h = rw (le-ltb x 10 l, digits, rest n (omega arith))
+
+pub decimal-less : (x : ℕ) → x < 10 → decimal x ≡ (48 + x) ∷ []
+unfolding digits
+decimal-less x h = sym (digits-enough x (suc x) (omega arith)) ∙ rw (lt-ltb x 10 h, digits)
+
+pub decimal-more : (x : ℕ) → 10 ≤ x → decimal x ≡ decimal (x / 10) ++ ((48 + x % 10) ∷ [])
+unfolding digits
+decimal-more x h = sym (digits-enough x (suc x) (omega arith)) ∙ rw (le-ltb x 10 h, digits, digits-enough (x / 10) x (omega arith))
+
+-- ---- what holds of the digits
 
 -- the number that digits stand for, read from the left, behind those that stand for acc
 abbrev pub valueOf : List ℕ → (acc : ℕ) → ℕ
@@ -66,6 +94,18 @@ decimal-first =
     stays : (s t : List ℕ) → 48 < getD s 0 0 → 48 < getD (s ++ t) 0 0
     stays [] t h = absurd (omega arith)
     stays (d ∷ s) t h = h
+
+-- a number below 10 to the power k has at most k digits
+pub decimal-short : (k x : ℕ) → 0 < k → x < 10 ^ k → length (decimal x) ≤ k
+decimal-short k x = decimal-induction (λ x s. (k : ℕ) → 0 < k → x < 10 ^ k → length s ≤ k) (λ x l k p h. p) more x k
+  where
+    more : (x : ℕ) (s : List ℕ) → 10 ≤ x → ((k : ℕ) → 0 < k → x / 10 < 10 ^ k → length s ≤ k)
+        → (k : ℕ) → 0 < k → x < 10 ^ k → length (s ++ ((48 + x % 10) ∷ [])) ≤ k
+    more x s l rest zero p h = absurd (omega arith)
+    more x s l rest (suc zero) p h = absurd (omega arith)
+    more x s l rest (suc (suc k)) p h =
+        let fewer : length s ≤ suc k = rest (suc k) (omega arith) (omega (arith, pow-suc 10 (suc k))) in
+        omega (arith, length-append s ((48 + x % 10) ∷ []))
 
 pub decimal-zero : decimal 0 ≡ 48 ∷ []
 unfolding decimal digits

@@ -16,6 +16,7 @@ pub mod Sets
 pub mod Packing
 pub mod Exit
 pub mod Decimal
+pub mod Listing
 pub mod Paper
 -- families, feeding points and the two halves of the answer
 pub mod Once

@@ -1,8 +1,9 @@
 -- The definitions of the paper's numbers and values lose nothing: a refusal is told by its number and place, and a reply by what it says. So a
 -- promise about what a reply says determines the reply. Assumes nothing.
-use Prim.Native.Nat.{ℕ, pred}
+use Prim.Native.Nat.{ℕ, pred, _≤_}
 use mathlib.Core.Path.{_≡_, refl, sym, ap, ap₂, _∙_}
 use mathlib.Core.List.{[], _∷_}
+use native.Mathlib.Omega.{arith}
 use lib.ListN.{getD}
 use Rattle.rules.specs.declared.Half.{Half}
 use Rattle.rules.specs.declared.Half.the-variants.{Clear, Suspect}
@@ -54,6 +55,22 @@ told (UndeclaredBit p) = refl
 -- a refusal is told by its number and place
 pub same-refusal : (r q : Refusal) → numberOf r ≡ numberOf q → placeOf r ≡ placeOf q → r ≡ q
 same-refusal r q e f = sym (told r) ∙ ap₂ refusalOf e f ∙ told q
+
+-- there are 13 refusals
+pub number-most : (r : Refusal) → numberOf r ≤ 13
+number-most (UnknownKind p) = omega arith
+number-most (LateVariable p) = omega arith
+number-most (OverLimit p) = omega arith
+number-most (CutShort p) = omega arith
+number-most (UnknownClass p) = omega arith
+number-most (UndeclaredSet p) = omega arith
+number-most (BadOperand p) = omega arith
+number-most (NoEnd p) = omega arith
+number-most (BytesAfterEnd p) = omega arith
+number-most (FewEntries p) = omega arith
+number-most (ShortWork p) = omega arith
+number-most (NoSuchNode p) = omega arith
+number-most (UndeclaredBit p) = omega arith
 
 -- a half by what it says
 halfOf : Finding → Half

@@ -1,0 +1,39 @@
+-- `queries::memberships` meets its contract: a refused query gives no for both, and of one that stands both are looked up. Assumes nothing.
+use borrow.Author.Needs.{needs}
+use mathlib.Core.Path.{ap₂}
+use Rattle.rules.specs.Queries.{Memberships, membershipQuery}
+use Rattle.queries.proofs.Asking.{asked-stands, given-refused, given-answered, stands-formed, stands-node, stands-with, stands-number}
+use Rattle.queries.proofs.memberships.Statement.{statement}
+use Rattle.queries.proofs.memberships.Tie as tie
+
+ask-with-requires : tie.Need-ask-with-requires
+ask-with-requires c κs = search needs
+
+enum-told : tie.Need-enum-told
+enum-told c = search needs
+
+enum-told-2 : tie.Need-enum-told-2
+enum-told-2 c = search needs
+
+returns : tie.Need-returns
+unfolding membershipQuery
+returns c = given-refused _ _ _ _ (c .before .before .before .ask-with .ensures) (c .enum-told2 .given .1)
+
+in-families-requires : tie.Need-in-families-requires
+in-families-requires c κs =
+    let s = asked-stands _ (c .before .before .before .ask-with .ensures) (c .enum-told .given .1) in
+    let w = stands-with _ _ _ s in
+    (stands-formed _ _ w, stands-node _ _ w, stands-number _ _ _ s)
+
+returns-2 : tie.Need-returns-2
+unfolding membershipQuery
+returns-2 c =
+    let told = c .before in
+    let s = asked-stands _ (told .before .before .before .ask-with .ensures) (told .enum-told .given .1) in
+    let both = c .in-families .ensures (s .netlist) (s .value) in
+    given-answered _ _ _ s _ _ (both .0) (rw (both .1, both .2))
+
+pub memberships-spec : {M : Type 1} → statement M
+memberships-spec =
+    tie.close
+    (tie.spec ask-with-requires enum-told enum-told-2 returns in-families-requires returns-2)

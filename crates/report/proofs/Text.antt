@@ -1,0 +1,41 @@
+-- A text behind the front of a slice: a byte that is stored there is such a text, and two of them, one behind the other, are one. Each function
+-- that writes a text is a composition of those that it calls, and an equation between texts. Assumes nothing.
+use Prim.Native.Nat.{ℕ, _+_, _≤_, _<_}
+use mathlib.Core.Path.{_≡_, refl, sym, ap, _∙_}
+use mathlib.Core.List.{List, [], _∷_, _++_, append-nil, append-assoc}
+use native.Mathlib.Numerals.{add-one}
+use native.Mathlib.Omega.{arith}
+use lib.ListN.{length, take, set, length-append, length-set}
+use lib.Seq.{take-suc-set}
+use Rattle.report.specs.Text.{Appended}
+
+-- the empty text is written by doing nothing
+pub appended-none : (slice : List ℕ) (at : ℕ) → Appended slice slice at at []
+appended-none slice at = record { place = omega arith; bytes = sym (append-nil (take at slice)); long = refl }
+
+-- a byte is written by storing it
+pub appended-byte : (slice : List ℕ) (at byte : ℕ) → at < length slice → Appended slice (set slice at byte) at (at + 1) (byte ∷ [])
+appended-byte slice at byte h = record {
+  place = refl;
+  bytes = rw add-one (take-suc-set slice at byte h);
+  long = length-set slice at byte;
+}
+
+-- two texts, one behind the other
+pub appended-more : {before between after : List ℕ} {at next end : ℕ} {first second : List ℕ} → Appended before between at next first
+    → Appended between after next end second → Appended before after at end (first ++ second)
+appended-more {before} {between} {after} {at} {next} {end} {first} {second} a b = record {
+  place = omega (arith, length-append first second);
+  bytes = b .bytes ∙ ap (λ (front : List ℕ). front ++ second) (a .bytes) ∙ append-assoc (take at before) first second;
+  long = b .long ∙ a .long;
+}
+
+-- the same text, said otherwise
+pub appended-as : {before after : List ℕ} {at next : ℕ} {text other : List ℕ} → text ≡ other → Appended before after at next text
+    → Appended before after at next other
+appended-as e a = rw e at a
+
+-- where the next text goes, by a bound on this one
+pub appended-few : {before after : List ℕ} {at next : ℕ} {text : List ℕ} (most : ℕ) → Appended before after at next text
+    → length text ≤ most → next ≤ at + most
+appended-few most a h = omega arith
