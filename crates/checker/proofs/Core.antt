@@ -20,7 +20,7 @@ use Rattle.rules.proofs.Halves.{exactly-when}
 use Rattle.rules.proofs.Probe.{one-probe}
 use Rattle.records.specs.declared.Netlist as Value
 use Rattle.records.specs.Netlists.{tableOf, Formed, Ready}
-use Rattle.records.proofs.Netlists.{table-injective, value-variables, value-count}
+use Rattle.records.proofs.Netlists.{value-variables, value-count, well-formed}
 use Rattle.scan.specs.Suspects.{found}
 use Rattle.scan.proofs.Search.{found-half}
 use Rattle.checker.specs.declared.Examined.{Examined}
@@ -42,8 +42,7 @@ pub answers : (value : Value.Netlist) (work : ℕ) → Ready value work → (n :
     }) before after
 unfolding andThen findings kept filled
 answers value work ready n e settled glitch before w s g =
-    let f = ready .formed in
-    let formed : WellFormed n = subst (λ (m : Netlist). WellFormed m) (table-injective (f .netlist) n (sym (f .is) ∙ e)) (f .obeys) in
+    let formed = well-formed (ready .formed) n e in
     let halves = found-half n formed (drop (length (workBytes (families n))) before) in
     let first = s ∙ ap (found n 0) w ∙ halves .0 in
     let second = g ∙ ap (found n 1) w ∙ halves .1 in

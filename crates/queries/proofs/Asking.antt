@@ -1,16 +1,16 @@
 -- The way to a query's reply: what is asked where a query is refused and where it stands, what is given then, and what is known of the
 -- netlist, the node and the number of a query that stands. Assumes nothing.
 use Prim.Native.Nat.{ℕ, _^_, _≤_, _<_}
-use mathlib.Core.Path.{_≡_, refl, sym, ap, subst, _∙_}
+use mathlib.Core.Path.{_≡_, refl, sym, ap, _∙_}
 use mathlib.Core.Bool.{Bool, true, false}
 use mathlib.Core.List.{List, [], _∷_}
 use native.Mathlib.Omega.{arith}
 use borrow.Author.Tests.{leb-false}
 use lib.ListN.{length}
 use lib.Pow.{pow-mono}
-use Rattle.rules.specs.Records.{Netlist, WellFormed}
+use Rattle.rules.specs.Records.{Netlist}
 use Rattle.rules.specs.Checks.{Outcome, answered, refused, andThen, Check, check, judged, undeclared, read, nodeCheck, numberCheck, queried, queriedWith}
-use Rattle.rules.specs.Queries.{Given, given}
+use Rattle.rules.specs.Queries.{given}
 use Rattle.rules.specs.Paper.{numberOf, placeOf, queryOf}
 use Rattle.rules.specs.declared.Refusal.{Refusal}
 use Rattle.rules.specs.declared.QueryOutcome.{QueryOutcome}
@@ -23,19 +23,15 @@ use Rattle.queries.specs.Replies.{Asks}
 
 -- ---- what is asked
 
-module _ (asked : Asked) where
-  -- a refusal is asked with no netlist, and else the netlist itself
-  pub asks-refused : (end : Outcome Netlist) (r : Refusal) → asked .outcome ≡ Query.Refused r → end ≡ refused (numberOf r) (placeOf r) → Asks asked end
+module _ (asked : Asked) (end : Outcome Netlist) where
+  -- a refusal, and a netlist
+  pub asks-refused : (r : Refusal) → asked .outcome ≡ Query.Refused r → end ≡ refused (numberOf r) (placeOf r) → Asks asked end
   unfolding andThen
-  asks-refused end r o e =
-      record { outcome = rw (o, e); netlist = λ n a. absurd (never (sym e ∙ a)) }
-    where
-      never : {n : Netlist} {k p : ℕ} → refused k p ≡ answered n → ⊥
-      never q = let z : _≡_ {A = ℕ} 0 1 = cc in omega arith
+  asks-refused r o e = record { outcome = rw (o, e); netlist = λ n a. let z : _≡_ {A = ℕ} 0 1 = cc in absurd (omega arith) }
 
-  pub asks-answered : (end : Outcome Netlist) (n : Netlist) → asked .outcome ≡ Query.Answered → asked .netlist ≡ tableOf n → end ≡ answered n → Asks asked end
+  pub asks-answered : (n : Netlist) → asked .outcome ≡ Query.Answered → asked .netlist ≡ tableOf n → end ≡ answered n → Asks asked end
   unfolding andThen
-  asks-answered end n o t e = record { outcome = rw (o, e); netlist = λ m a. let same : n ≡ m = cc in rw (← same) t }
+  asks-answered n o t e = record { outcome = rw (o, e); netlist = λ m a. let same : n ≡ m = cc in rw (← same) t }
 
 -- the query stands, of this netlist
 pub record Stands (asked : Asked) (end : Outcome Netlist) : Type 0 where
@@ -48,19 +44,17 @@ module _ {asked : Asked} where
   unfolding andThen
   asked-stands (answered n) a o = record { netlist = n; is = refl; value = a .netlist n refl }
   asked-stands (refused k p) a o =
-      let never : _≡_ {A = Outcome (Unit {0})} (answered tt) (refused k p) = sym (ap queryOf o) ∙ a .outcome in
+      let never = sym (ap queryOf o) ∙ a .outcome in
       let z : _≡_ {A = ℕ} 0 1 = cc in
       absurd (omega arith)
 
   pub asked-refused : (end : Outcome Netlist) (r : Refusal) → Asks asked end → asked .outcome ≡ Query.Refused r → end ≡ refused (numberOf r) (placeOf r)
   unfolding andThen
   asked-refused (answered n) r a o =
-      let never : _≡_ {A = Outcome (Unit {0})} (refused (numberOf r) (placeOf r)) (answered tt) = sym (ap queryOf o) ∙ a .outcome in
+      let never = sym (ap queryOf o) ∙ a .outcome in
       let z : _≡_ {A = ℕ} 0 1 = cc in
       absurd (omega arith)
-  asked-refused (refused k p) r a o =
-      let same : _≡_ {A = Outcome (Unit {0})} (refused (numberOf r) (placeOf r)) (refused k p) = sym (ap queryOf o) ∙ a .outcome in
-      cc
+  asked-refused (refused k p) r a o = let same = sym (ap queryOf o) ∙ a .outcome in cc
 
   -- ---- what is given
 

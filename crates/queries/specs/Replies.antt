@@ -4,7 +4,7 @@ use mathlib.Core.Path.{_≡_}
 use mathlib.Core.Bool.{Bool, true, false, cond}
 use mathlib.Core.List.{List, [], _∷_}
 use lib.ListN.{getD, set}
-use Rattle.rules.specs.Records.{Cell, input, NOT, XOR, AND, OR, register, Netlist, operands}
+use Rattle.rules.specs.Records.{Cell, input, NOT, XOR, AND, OR, register, Netlist}
 use Rattle.rules.specs.Checks.{Outcome, answered, andThen}
 use Rattle.rules.specs.Paper.{queryOf}
 use Rattle.records.specs.Netlists.{tableOf}

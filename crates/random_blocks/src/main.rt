@@ -15,7 +15,7 @@ use second::Block;
 
 const BLOCKS: usize = 4000;
 
-// What was seen. `refusals` counts them by number.
+// What was seen. Refusals are counted by number, those of checks and those of queries.
 struct Tally {
     blocks: usize,
     answers: usize,
@@ -29,7 +29,8 @@ struct Tally {
     members: usize,
     queries: usize,
     differences: usize,
-    refusals: [usize; 14],
+    check_refusals: [usize; 14],
+    query_refusals: [usize; 14],
 }
 
 // ---- counting
@@ -67,14 +68,22 @@ fn no_tally() -> Tally {
         members: 0,
         queries: 0,
         differences: 0,
-        refusals: [0; 14],
+        check_refusals: [0; 14],
+        query_refusals: [0; 14],
     }
 }
 
-fn with_refusal(tally: Tally, number: usize) -> Tally {
+fn with_refused_check(tally: Tally, number: usize) -> Tally {
     let mut next = tally;
     let at = number % 14;
-    next.refusals[at] = sum(next.refusals[at], 1);
+    next.check_refusals[at] = sum(next.check_refusals[at], 1);
+    next
+}
+
+fn with_refused_query(tally: Tally, number: usize) -> Tally {
+    let mut next = tally;
+    let at = number % 14;
+    next.query_refusals[at] = sum(next.query_refusals[at], 1);
     next
 }
 
@@ -372,7 +381,7 @@ fn with_query(tally: Tally, expected: Expected, same: bool) -> Tally {
     let mut next = with_difference(tally, same);
     next.queries = sum(next.queries, 1);
     if expected.number > 0 {
-        return with_refusal(next, expected.number);
+        return with_refused_query(next, expected.number);
     }
     next
 }
@@ -489,7 +498,7 @@ fn compare_check(
         && rest_kept(work, 256 * written);
     let next = with_difference(tally, same);
     if expected.number > 0 {
-        return with_refusal(next, expected.number);
+        return with_refused_check(next, expected.number);
     }
     with_answer(next, block, lists, lengths)
 }
@@ -638,18 +647,21 @@ fn print_count(name: &[u8], count: usize) {
     io::write_all(STDOUT_FILENO, b"\n");
 }
 
-fn print_refusals(refusals: [usize; 14]) {
+fn print_refusals(checks: [usize; 14], queries: [usize; 14]) {
     let mut k = 1;
     while k < 14 {
         io::write_all(STDOUT_FILENO, b"refused ");
         io::print_decimal(STDOUT_FILENO, k as u64);
-        print_count(b" times", refusals[k]);
+        io::write_all(STDOUT_FILENO, b" checks ");
+        io::print_decimal(STDOUT_FILENO, checks[k] as u64);
+        print_count(b" queries", queries[k]);
         k += 1;
     }
 }
 
 fn print_tally(tally: Tally) {
-    let refusals = tally.refusals;
+    let checks = tally.check_refusals;
+    let queries = tally.query_refusals;
     print_count(b"blocks", tally.blocks);
     print_count(b"answered", tally.answers);
     print_count(b"nodes", tally.nodes);
@@ -661,7 +673,7 @@ fn print_tally(tally: Tally) {
     print_count(b"values 1", tally.values);
     print_count(b"feeding points asked of a node", tally.points);
     print_count(b"memberships yes", tally.members);
-    print_refusals(refusals);
+    print_refusals(checks, queries);
     print_count(b"differences", tally.differences);
 }
 

@@ -9,10 +9,11 @@ use lib.ListN.{length, getD, take, set, replicate, length-append, length-map, Li
 use lib.Seq.{append-snoc, set-append-seam, take-at}
 use Rattle.rules.specs.declared.Node.{Node}
 use Rattle.rules.specs.declared.Refusal.{Refusal}
-use Rattle.rules.specs.Records.{Class, secret, mask, public, Cell, input, NOT, XOR, AND, OR, register, Netlist, classOf, classByte, kindOf, operands, setOf}
+use Rattle.rules.specs.Records.{Class, secret, mask, public, Cell, input, NOT, XOR, AND, OR, register, Netlist, WellFormed, classOf, classByte, kindOf, operands, setOf}
 use Rattle.rules.specs.Slices.{entry}
 use Rattle.rules.specs.Checks.{Outcome, answered, refused, reading, finished}
 use Rattle.rules.specs.Paper.{numberOf, placeOf}
+use Rattle.rules.proofs.Members.{all-at}
 use Rattle.records.specs.declared.Netlist.{Netlist as Table}
 use Rattle.records.specs.declared.Stage.{Stage}
 use Rattle.records.specs.declared.Stage.the-variants as Stage
@@ -38,6 +39,21 @@ module _ {ℓ} {A : Type ℓ} (k : ℕ) (rest : A) where
   pub padded-at : (xs : List A) (i : ℕ) (d : A) → i < length xs → getD (padded k rest xs) i d ≡ getD xs i d
   unfolding padded
   padded-at xs i d h = List·getD-append xs (replicate (k - length xs) rest) d i h
+
+  -- what stands beyond the entries is what is read beyond the list
+  pub padded-same : (xs : List A) (i : ℕ) → getD (padded k rest xs) i rest ≡ getD xs i rest
+  unfolding padded
+  padded-same xs i = beyond xs (k - length xs) i
+    where
+      all-rest : (n i : ℕ) → getD (replicate n rest) i rest ≡ rest
+      all-rest zero i = refl
+      all-rest (suc n) zero = refl
+      all-rest (suc n) (suc i) = all-rest n i
+
+      beyond : (xs : List A) (n i : ℕ) → getD (xs ++ replicate n rest) i rest ≡ getD xs i rest
+      beyond [] n i = all-rest n i
+      beyond (x ∷ xs) n zero = refl
+      beyond (x ∷ xs) n (suc i) = beyond xs n i
 
 -- of entries that f makes
 module _ {ℓ κ} {A : Type ℓ} {B : Type κ} (f : A → B) (k : ℕ) (rest : B) where
@@ -139,6 +155,27 @@ module _ {value : Table} (f : Formed value) where
 
   pub few-nodes : value .count ≤ 200
   few-nodes = omega (arith, value-count (f .netlist) (f .is), f .obeys .few-nodes)
+
+  -- it is the value of one netlist only, and that one obeys the rules
+  pub one-netlist : (n : Netlist) → value ≡ tableOf n → f .netlist ≡ n
+  one-netlist n e = table-injective (f .netlist) n (sym (f .is) ∙ e)
+
+  pub well-formed : (n : Netlist) → value ≡ tableOf n → WellFormed n
+  well-formed n e = subst (λ (m : Netlist). WellFormed m) (one-netlist n e) (f .obeys)
+
+  -- both operand fields of a node's record are numbers of nodes; where the kind has no such operand the field is 0
+  pub operands-below : (i : ℕ) → i < value .count → (getD (value .nodes) i blank .first < 200) × (getD (value .nodes) i blank .second < 200)
+  unfolding entry
+  operands-below i h = rw (value-entry (f .netlist) (f .is) i h) (below 0, below 1)
+    where
+      own : List ℕ
+      own = operands (getD (f .netlist .nodes) i (input 0))
+
+      here : i < length (f .netlist .nodes)
+      here = omega (arith, value-count (f .netlist) (f .is))
+
+      below : (k : ℕ) → getD own k 0 < 200
+      below = all-at (λ a. a < 200) own 0 (λ a t. omega (arith, f .obeys .lower i here a t, few-nodes)) (omega arith)
 
 -- ---- a file that is being read
 

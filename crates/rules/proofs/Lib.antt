@@ -1,4 +1,5 @@
--- What is proved of the rules. Demand 3 is `one-probe` of `Probe` and `exactly-when` of `Halves`; the table P1 to P14 is `replies` of `Blocks`.
+-- What is proved of the rules. Demand 3 is `one-probe` of `Probe` and `exactly-when` of `Halves`, and told by the listing's last line it is
+-- `clear-line-probe` of `ClearLine`; the table P1 to P14 is `replies` of `Blocks`.
 
 -- tests, lists and tables
 pub mod Tests
@@ -21,6 +22,7 @@ pub mod Paper
 -- families, feeding points and the two halves of the answer
 pub mod Once
 pub mod Bounds
+pub mod Feeding
 pub mod Halves
 -- demand 3
 pub mod Settings
@@ -28,6 +30,7 @@ pub mod Weights
 pub mod Characters
 pub mod Spans
 pub mod Probe
+pub mod ClearLine
 -- what antt computes: the table, and examples
 pub mod Blocks
 pub mod BlockCounts

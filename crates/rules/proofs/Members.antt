@@ -1,11 +1,12 @@
--- A property of all that is in a list: of the empty list, and after a number in front, `insert` and `union`. Assumes nothing.
-use Prim.Native.Nat.{ℕ}
+-- A property of all that is in a list: of the empty list, and after a number in front, `insert` and `union`; and of each entry. Assumes nothing.
+use Prim.Native.Nat.{ℕ, zero, suc}
 use mathlib.Core.Path.{sym, subst}
 use mathlib.Core.Logic.{⊎-elim}
 use mathlib.Core.List.{List, [], _∷_}
 use lib.Dec.{T}
+use lib.ListN.{getD}
 use Rattle.rules.specs.Lists.{member, insert, union}
-use Rattle.rules.proofs.Lists.{member-cases, insert-cases, union-cases}
+use Rattle.rules.proofs.Lists.{member-head, member-tail, member-cases, insert-cases, union-cases}
 
 -- all that is in the list has the property
 abbrev pub All : (ℕ → Type 0) → List ℕ → Type 0
@@ -26,3 +27,9 @@ module _ (P : ℕ → Type 0) where
 
   pub all-union : (xs ys : List ℕ) → All P xs → All P ys → All P (union xs ys)
   all-union xs ys p q x t = ⊎-elim (p x) (q x) (union-cases x xs ys t)
+
+  -- each entry has it, and so has what stands for an entry beyond the last
+  pub all-at : (xs : List ℕ) (d : ℕ) → All P xs → P d → (i : ℕ) → P (getD xs i d)
+  all-at [] d p q i = q
+  all-at (x ∷ xs) d p q zero = p x (member-head x xs)
+  all-at (x ∷ xs) d p q (suc i) = all-at xs d (λ y t. p y (member-tail y x xs t)) q i

@@ -1,13 +1,13 @@
 -- The work slice: set A of a family is bit A mod 8 of byte A / 8 of its 128 bytes, and a node has 256 of them, settled before glitch.
 -- By induction on the bits of a byte, on the entries of a table, and on the nodes. Assumes nothing.
 use Prim.Native.Nat.{ℕ, zero, suc, _+_, _*_, _/_, _%_, _^_, _<_}
-use mathlib.Core.Path.{_≡_, refl, sym, ap₂, _∙_}
+use mathlib.Core.Path.{_≡_, refl, sym, ap, ap₂, _∙_}
 use mathlib.Core.Logic.{_⊎_, inl, inr}
 use mathlib.Core.List.{List, [], _∷_, _++_}
 use native.Mathlib.Nat.{add-zero, zero-add, add-suc, suc-add, add-assoc, div-one, div-add-mod, eq-or-lt-of-le, le-of-suc-le-suc}
 use native.Mathlib.Numerals.{add-one}
 use native.Mathlib.Omega.{arith}
-use lib.ListN.{length, getD, length-append, List·getD-append}
+use lib.ListN.{length, getD, replicate, length-append, replicate-append-replicate, List·getD-append}
 use lib.Seq.{getD-append-add, getD-at}
 use Rattle.rules.specs.Lists.{member, tabulate}
 use Rattle.rules.specs.Records.{odd}
@@ -38,6 +38,11 @@ module _ {ℓ} {A : Type ℓ} where
   tabulate-same f g zero h = refl
   tabulate-same f g (suc n) h =
       ap₂ {C = List A} (λ l x. l ++ (x ∷ [])) (tabulate-same f g n (λ i l. h i (omega arith))) (h n (omega arith))
+
+  pub tabulate-constant : (a : A) (n : ℕ) → tabulate (λ i. a) n ≡ replicate n a
+  unfolding tabulate
+  tabulate-constant a zero = refl
+  tabulate-constant a (suc n) = rw (tabulate-constant a n) (replicate-append-replicate n 1 a ∙ ap (λ k. replicate k a) (add-one n))
 
 tabulate-each {ℓ} : {A : Type ℓ} (P : A → Type 0) (f : ℕ → A) (n : ℕ) → ((i : ℕ) → P (f i)) → Each P (tabulate f n)
 unfolding tabulate

@@ -11,9 +11,14 @@ use Rattle.rules.specs.declared.Refusal.{Refusal}
 use Rattle.rules.specs.declared.Refusal.the-variants.{UnknownKind, LateVariable, OverLimit, CutShort, UnknownClass, UndeclaredSet, BadOperand, NoEnd, BytesAfterEnd, FewEntries, ShortWork, NoSuchNode, UndeclaredBit}
 use Rattle.rules.specs.declared.Reply.{Reply}
 use Rattle.rules.specs.declared.Reply.the-variants.{Refused, Answered}
+use Rattle.rules.specs.declared.QueryOutcome.{QueryOutcome}
+use Rattle.rules.specs.declared.QueryOutcome.the-variants as Query
+use Rattle.rules.specs.declared.ValueReply.{ValueReply}
+use Rattle.rules.specs.declared.FeedingReply.{FeedingReply}
+use Rattle.rules.specs.declared.MembershipReply.{MembershipReply}
 use Rattle.rules.specs.Families.{Finding, clear, suspectAt, Findings}
 use Rattle.rules.specs.Checks.{Outcome, answered, refused}
-use Rattle.rules.specs.Paper.{numberOf, placeOf, findingOf, replyOf}
+use Rattle.rules.specs.Paper.{numberOf, placeOf, findingOf, replyOf, queryOf, valueOf, feedingOf, membershipOf}
 
 -- the refusal with this number and place
 refusalOf : ℕ → ℕ → Refusal
@@ -99,3 +104,26 @@ reply-told (Answered a) =
 
 pub same-reply : (r q : Reply) → replyOf r ≡ replyOf q → r ≡ q
 same-reply r q e = sym (reply-told r) ∙ ap replySaying e ∙ reply-told q
+
+-- and the reply to a query by what it says
+querySaying : Outcome (Unit {0}) → QueryOutcome
+querySaying (refused k p) = Query.Refused (refusalOf k p)
+querySaying (answered u) = Query.Answered
+
+query-told : (q : QueryOutcome) → querySaying (queryOf q) ≡ q
+unfolding querySaying
+query-told Query.Answered = refl
+query-told (Query.Refused r) = ap Query.Refused (told r)
+
+pub same-query : (r q : QueryOutcome) → queryOf r ≡ queryOf q → r ≡ q
+same-query r q e = sym (query-told r) ∙ ap querySaying e ∙ query-told q
+
+pub same-value : (r q : ValueReply) → valueOf r ≡ valueOf q → r ≡ q
+same-value r q e = ap₂ (λ o v. record { outcome = o; value = v }) (same-query _ _ (ap (λ g. g .outcome) e)) (ap (λ g. g .gives) e)
+
+pub same-feeding : (r q : FeedingReply) → feedingOf r ≡ feedingOf q → r ≡ q
+same-feeding r q e = ap₂ (λ o m. record { outcome = o; marks = m }) (same-query _ _ (ap (λ g. g .outcome) e)) (ap (λ g. g .gives) e)
+
+pub same-membership : (r q : MembershipReply) → membershipOf r ≡ membershipOf q → r ≡ q
+same-membership r q e =
+    ap₂ (λ o m. record { outcome = o; settled = m .settled; glitch = m .glitch }) (same-query _ _ (ap (λ g. g .outcome) e)) (ap (λ g. g .gives) e)

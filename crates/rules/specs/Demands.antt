@@ -1,8 +1,9 @@
--- The customer's demand 3 as statements about netlist bytes. `proofs/Probe` and `proofs/Halves` prove them. Assumes nothing.
+-- The customer's demand 3 as statements about netlist bytes, and what the last line of their listing reads. `proofs/Probe`, `proofs/Halves` and
+-- `proofs/ClearLine` prove them. Assumes nothing.
 use Prim.Native.Nat.{ℕ, _<_}
 use mathlib.Core.Path.{_≡_}
 use mathlib.Core.Bool.{not}
-use mathlib.Core.List.{List}
+use mathlib.Core.List.{List, [], _∷_, _++_}
 use lib.Dec.{T}
 use lib.ListN.{length, getD}
 use Rattle.rules.specs.Lists.{member}
@@ -10,6 +11,7 @@ use Rattle.rules.specs.Records.{input, Netlist}
 use Rattle.rules.specs.Values.{feeding, CountsAgree}
 use Rattle.rules.specs.Families.{familiesAt, suspect, tested, clear, Findings}
 use Rattle.rules.specs.Checks.{Outcome, answered, refused, read, admitted}
+use Rattle.rules.specs.Listing.{word, line, listing}
 
 -- the checker answers clear for glitching signals: the glitch half of the answer that it returns is clear
 unfoldable pub Clear : Outcome Findings → Type 0
@@ -34,3 +36,8 @@ pub record NothingSuspect (bytes : List ℕ) (entries work : ℕ) : Type 0 where
 -- One probe on any gate or register: in the netlist that the bytes are, the counts agree on the feeding points of every tested node.
 unfoldable pub OneProbe : List ℕ → Type 0
 OneProbe bytes = (n : Netlist) → read bytes ≡ answered n → (i : ℕ) → TestedNode n i → CountsAgree n (feeding n i)
+
+-- the last line of the listing reads `glitch clear`: it stands behind a line feed, and nothing follows it
+pub record EndsClear (bytes : List ℕ) : Type 0 where
+  pub before : List ℕ
+  pub ends : listing bytes ≡ before ++ (10 ∷ line (word "glitch" ∷ word "clear" ∷ []))

@@ -10,7 +10,7 @@ use Rattle.rules.specs.Families.{familiesRule, families}
 use Rattle.rules.specs.Slices.{entry, workBytes}
 use Rattle.records.specs.declared.Netlist as Value
 use Rattle.records.specs.Netlists.{blank, tableOf, Formed}
-use Rattle.records.proofs.Netlists.{table-injective, value-count, value-entry, few-nodes}
+use Rattle.records.proofs.Netlists.{value-count, value-entry, few-nodes, one-netlist}
 use Rattle.nodes.specs.Work.{soFar, withFamilies, Placed}
 use Rattle.nodes.proofs.Nodes.{nodesDone, none-done, next-done, all-done, done-length, placed}
 use Rattle.nodes.proofs.all_families.Statement.{statement}
@@ -35,7 +35,7 @@ module _ {value : Value.Netlist} (f : Formed value) where
       → (n : Netlist) → value ≡ tableOf n → work ≡ workBytes (families n) ++ drop (length (workBytes (families n))) before
   finished before work i h l e n same =
       let there : i ≡ length (f .netlist .nodes) = omega (arith, value-count (f .netlist) (f .is)) in
-      rw (← table-injective (f .netlist) n (sym (f .is) ∙ same)) (e ∙ rw there (all-done (f .netlist) before))
+      rw (← one-netlist f n same) (e ∙ rw there (all-done (f .netlist) before))
 
 abbrev Inv-loop : tie.InvT-loop
 Inv-loop work₀ netlist count i₀ work i = (i ≤ count) × ((f : Formed netlist) → work ≡ nodesDone (f .netlist) work₀ i)

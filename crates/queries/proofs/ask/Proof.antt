@@ -4,7 +4,7 @@ use mathlib.Core.Path.{_≡_}
 use mathlib.Core.List.{List, [], _∷_}
 use borrow.Author.Needs.{needs}
 use Rattle.rules.specs.Records.{Netlist}
-use Rattle.rules.specs.Checks.{Outcome, andThen, judged, read, answered, refused, nodeCheck, queried}
+use Rattle.rules.specs.Checks.{andThen, judged, read, answered, refused, nodeCheck, queried}
 use Rattle.rules.proofs.Reading.{read-well-formed}
 use Rattle.records.proofs.Netlists.{read-ended, read-refused, read-over}
 use Rattle.queries.specs.declared.Asked.{Asked}

@@ -1,12 +1,12 @@
 -- `queries::ask_with` meets its contract: what is refused of the node stays refused, then refusal 13, or the netlist. Assumes nothing.
 use Prim.Native.Nat.{ℕ}
-use mathlib.Core.Path.{_≡_, _∙_, sym, ap}
-use mathlib.Core.Bool.{Bool, true, false}
-use mathlib.Core.List.{List, [], _∷_}
+use mathlib.Core.Path.{_≡_, _∙_, sym}
+use mathlib.Core.Bool.{true, false}
+use mathlib.Core.List.{List}
 use lib.ListN.{length}
 use borrow.Author.Needs.{needs}
 use Rattle.rules.specs.Records.{Netlist}
-use Rattle.rules.specs.Checks.{Outcome, andThen, judged, read, answered, refused, undeclared, numberCheck, queried, queriedWith}
+use Rattle.rules.specs.Checks.{andThen, judged, answered, refused, undeclared, numberCheck, queried, queriedWith}
 use Rattle.records.proofs.Netlists.{value-variables}
 use Rattle.queries.proofs.Asking.{asks-refused, asks-answered, asked-stands, asked-refused, node-first}
 use Rattle.queries.proofs.ask_with.Statement.{statement}
@@ -51,14 +51,16 @@ returns-2 c =
     let told = c .before .before .before in
     let s = asked-stands _ (told .before .before .before .ask .ensures) (told .enum-told .given .1) in
     asks-refused _ _ _ (c .refused .ensures)
-    (undeclared-number _ _ _ _ _ (s .is) (value-variables (s .netlist) (s .value)) (sym (c .before .before .undeclared-bit .ensures) ∙ c .before .if1 .taken))
+    (undeclared-number _ _ _ _ _ (s .is) (value-variables (s .netlist) (s .value))
+    (sym (c .before .before .undeclared-bit .ensures) ∙ c .before .if1 .taken))
 
 returns-3 : tie.Need-returns-3
 returns-3 c =
     let told = c .before .before in
     let s = asked-stands _ (told .before .before .before .ask .ensures) (told .enum-told .given .1) in
     asks-answered _ _ _ (told .enum-told .given .1) (s .value)
-    (declared-number _ _ _ _ _ (s .is) (value-variables (s .netlist) (s .value)) (sym (c .before .undeclared-bit .ensures) ∙ c .if1 .left))
+    (declared-number _ _ _ _ _ (s .is) (value-variables (s .netlist) (s .value))
+    (sym (c .before .undeclared-bit .ensures) ∙ c .if1 .left))
 
 pub ask-with-spec : {M : Type 1} → statement M
 ask-with-spec =

@@ -12,7 +12,7 @@ use Rattle.rules.specs.Families.{families, familiesAt}
 use Rattle.rules.specs.Slices.{workBytes}
 use Rattle.records.specs.declared.Netlist as Value
 use Rattle.records.specs.Netlists.{tableOf, Formed, Ready}
-use Rattle.records.proofs.Netlists.{table-injective, value-count, few-nodes}
+use Rattle.records.proofs.Netlists.{value-count, few-nodes, well-formed}
 use Rattle.families.specs.Parts.{familyAt}
 use Rattle.families.proofs.Work.{settled-there, glitch-there}
 use Rattle.queries.proofs.in_families.Statement.{statement}
@@ -31,7 +31,7 @@ module _ {value : Value.Netlist} (f : Formed value) where
       → (member A (familyAt work (2 * i)) ≡ member A (familiesAt n i .settled))
       × (member A (familyAt work (2 * i + 1)) ≡ member A (familiesAt n i .glitch))
   in-parts n e work rest i A h w =
-      let formed : WellFormed n = subst WellFormed (table-injective (f .netlist) n (sym (f .is) ∙ e)) (f .obeys) in
+      let formed = well-formed f n e in
       let l : i < length (n .nodes) = omega (arith, value-count n e) in
       rw w (settled-there n formed rest i l .same A, glitch-there n formed rest i l .same A)
 

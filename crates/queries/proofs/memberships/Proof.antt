@@ -1,7 +1,6 @@
 -- `queries::memberships` meets its contract: a refused query gives no for both, and of one that stands both are looked up. Assumes nothing.
 use borrow.Author.Needs.{needs}
-use mathlib.Core.Path.{ap₂}
-use Rattle.rules.specs.Queries.{Memberships, membershipQuery}
+use Rattle.rules.specs.Queries.{membershipQuery}
 use Rattle.queries.proofs.Asking.{asked-stands, given-refused, given-answered, stands-formed, stands-node, stands-with, stands-number}
 use Rattle.queries.proofs.memberships.Statement.{statement}
 use Rattle.queries.proofs.memberships.Tie as tie

@@ -1,0 +1,146 @@
+-- `queries::settled_values` meets its contract. The invariant: the values of the first i nodes stand, of the netlist that is asked, and beyond
+-- them all is 0. A value beyond the table is 0 as well, so the rule gives of either list the same. The measure is the number of nodes left.
+-- Assumes nothing.
+use Prim.Native.Nat.{ℕ, _+_, _-_, _≤_, _<_}
+use mathlib.Core.Path.{_≡_, refl, sym, _∙_}
+use mathlib.Core.Bool.{Bool, false}
+use mathlib.Core.List.{List, [], _∷_, _++_}
+use native.Mathlib.Numerals.{add-one}
+use native.Mathlib.Omega.{arith}
+use lib.ListN.{length, getD, take, set, replicate, length-set, length-replicate}
+use lib.Seq.{take-suc, take-all, length-take-le}
+use Rattle.rules.specs.Tables.{table}
+use Rattle.rules.specs.Records.{Cell, input, NOT, XOR, AND, OR, register, Netlist, bits}
+use Rattle.rules.specs.Values.{Assignment, valueRule, values}
+use Rattle.rules.specs.Slices.{entry}
+use Rattle.rules.proofs.Tables.{table-length, table-snoc}
+use Rattle.records.specs.declared.Netlist as Value
+use Rattle.records.specs.Netlists.{padded, blank, tableOf, Formed}
+use Rattle.records.proofs.Netlists.{padded-none, padded-set, padded-same, value-variables, value-count, value-entry, few-nodes, one-netlist, operands-below}
+use Rattle.queries.proofs.settled_values.Statement.{statement}
+use Rattle.queries.proofs.settled_values.Tie as tie
+
+-- ---- the rule over a padded list
+
+rule-padded : (x : Assignment) (k : ℕ) (done : List Bool) (cell : Cell) → valueRule x (padded k false done) cell ≡ valueRule x done cell
+unfolding valueRule
+rule-padded x k done (input s) = refl
+rule-padded x k done (NOT a) = rw (padded-same k false done a)
+rule-padded x k done (XOR a b) = rw (padded-same k false done a, padded-same k false done b)
+rule-padded x k done (AND a b) = rw (padded-same k false done a, padded-same k false done b)
+rule-padded x k done (OR a b) = rw (padded-same k false done a, padded-same k false done b)
+rule-padded x k done (register a) = padded-same k false done a
+
+-- ---- the values of the first nodes
+
+abbrev under : Netlist → ℕ → Assignment
+under n x = bits (length (n .variables)) x
+
+-- of the first i
+first : Netlist → Assignment → ℕ → List Bool
+first n x i = table (valueRule x) [] (take i (n .nodes))
+
+abbrev valuesDone : Netlist → ℕ → ℕ → List Bool
+valuesDone n x i = padded 200 false (first n (under n x) i)
+
+module _ (n : Netlist) (x : Assignment) where
+  none-first : (k : ℕ) → replicate k false ≡ padded k false (first n x 0)
+  unfolding first table
+  none-first k = sym (padded-none k false)
+
+  first-length : (i : ℕ) → i ≤ length (n .nodes) → length (first n x i) ≡ i
+  unfolding first
+  first-length i h = omega (arith, table-length (valueRule x) [] (take i (n .nodes)), length-take-le i (n .nodes) h)
+
+  next-first : (i : ℕ) → i < length (n .nodes) → first n x i ++ (valueRule x (first n x i) (getD (n .nodes) i (input 0)) ∷ []) ≡ first n x (i + 1)
+  unfolding first
+  next-first i h = rw (add-one i, take-suc (n .nodes) i (input 0) h) (sym (table-snoc (valueRule x) (take i (n .nodes)) (getD (n .nodes) i (input 0))))
+
+  all-first : (i : ℕ) → length (n .nodes) ≤ i → first n x i ≡ values n x
+  unfolding first values
+  all-first i h = rw (take-all i (n .nodes) h)
+
+-- ---- a netlist by value
+
+module _ {value : Value.Netlist} (f : Formed value) where
+  next : (x : ℕ) (done : List Bool) (i : ℕ) (r : Bool) → i < value .count → done ≡ valuesDone (f .netlist) x i
+      → ((cell : Cell) → getD (value .nodes) i blank ≡ entry cell → r ≡ valueRule (bits (value .variables) x) done cell)
+      → set done i r ≡ valuesDone (f .netlist) x (i + 1)
+  next x done i r h e is =
+      let n = f .netlist in
+      let own = getD (n .nodes) i (input 0) in
+      let before = first n (under n x) i in
+      let here : i < length (n .nodes) = omega (arith, value-count n (f .is)) in
+      let value : r ≡ valueRule (under n x) before own =
+      is own (value-entry n (f .is) i h) ∙ rw (value-variables n (f .is), e) (rule-padded (under n x) 200 before own) in
+      let long : length before ≡ i = first-length n (under n x) i (omega arith) in
+      let stored = padded-set 200 false before r (omega (arith, f .obeys .few-nodes)) in
+      rw (e, ← next-first n (under n x) i here, ← value) (rw long at stored)
+
+  finished : (x : ℕ) (done : List Bool) (i : ℕ) → value .count ≤ i → done ≡ valuesDone (f .netlist) x i
+      → (n : Netlist) → value ≡ tableOf n → done ≡ padded 200 false (values n (under n x))
+  finished x done i h e n same =
+      let own = f .netlist in
+      let all : length (own .nodes) ≤ i = omega (arith, value-count own (f .is)) in
+      rw (← one-netlist f n same, ← all-first own (under own x) i all) e
+
+abbrev Inv-loop : tie.InvT-loop
+Inv-loop assignment netlist variables count values₀ i₀ values i =
+    (i ≤ count) × (length values ≡ 200) × ((f : Formed netlist) → values ≡ valuesDone (f .netlist) assignment i)
+
+abbrev μ-loop : tie.MeasureT-loop
+μ-loop assignment netlist variables count values₀ i₀ values i = count - i
+
+loop-holds : tie.Need-loop-holds Inv-loop μ-loop
+loop-holds c = (omega arith, length-replicate 200 false, λ f. none-first (f .netlist) _ 200)
+
+slice-aggregate-value-from : tie.Need-slice-aggregate-value-from Inv-loop μ-loop
+slice-aggregate-value-from c = sym (c .before .before .loop .inv .1)
+
+mul-value-from : tie.Need-mul-value-from Inv-loop μ-loop
+mul-value-from c = omega (arith, few-nodes (c .before .before .before .pre))
+
+element-copy-out-value-from : tie.Need-element-copy-out-value-from Inv-loop μ-loop
+element-copy-out-value-from c = omega (arith, few-nodes (c .before .before .before .pre))
+
+value-from-requires : tie.Need-value-from-requires Inv-loop μ-loop
+value-from-requires c κs =
+    let turn = c .before .before .before in
+    rw (turn .loop .inv .1) (operands-below (turn .before .pre) _ (c .before .before .loop-test .taken))
+
+array-write-values : tie.Need-array-write-values Inv-loop μ-loop
+array-write-values c = omega (arith, few-nodes (c .before .before .before .before .before .pre))
+
+add-i : tie.Need-add-i Inv-loop μ-loop
+add-i c = omega (arith, few-nodes (c .before .before .before .before .before .pre))
+
+loop-less : tie.Need-loop-less Inv-loop μ-loop
+loop-less c = omega arith
+
+loop-again : tie.Need-loop-again Inv-loop μ-loop
+loop-again c =
+    let turn = c .before .before .before in (
+      omega arith,
+      simp length-set (turn .before .loop .inv .1),
+      λ f. next f _ _ _ _ (turn .loop-test .taken) (turn .before .loop .inv .2 f) (c .value-from .ensures),
+    )
+
+returns : tie.Need-returns Inv-loop μ-loop
+returns c = finished (c .before .before .pre) _ _ _ (c .loop-test .left) (c .before .loop .inv .2 (c .before .before .pre))
+
+pub settled-values-spec : {M : Type 1} → statement M
+settled-values-spec =
+    tie.close
+    (tie.spec
+    Inv-loop
+    μ-loop
+    loop-holds
+    slice-aggregate-value-from
+    mul-value-from
+    element-copy-out-value-from
+    value-from-requires
+    array-write-values
+    add-i
+    loop-less
+    loop-again
+    returns)
