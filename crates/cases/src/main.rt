@@ -1,6 +1,5 @@
 // The cases and edges of document 01 that are not in its table, one line to each: what a check, a query or the listing answers, and
 // what the lent slices hold after it. Where two conditions meet, the case shows which is checked first.
-ghost use Prim.Native.Nat.{_≤_};
 use libc::STDOUT_FILENO;
 use rules::Answer;
 use rules::Half;
@@ -8,16 +7,13 @@ use rules::Node;
 use rules::QueryOutcome;
 use rules::Refusal;
 use rules::Reply;
+use tally::least;
+use tally::print_number;
 
 // ---- printing
 
 fn print(text: &[u8]) {
     io::write_all(STDOUT_FILENO, text);
-}
-
-fn print_number(x: usize) {
-    print(b" ");
-    io::print_decimal(STDOUT_FILENO, x as u64);
 }
 
 fn print_refusal(refusal: Refusal) {
@@ -73,12 +69,6 @@ fn print_yes(yes: bool) {
 
 // ---- blocks
 
-fn least(a: usize, b: usize) -> usize
-    ensures { λ r. ⌜ r ≤ b ⌝ }
-{
-    if a < b { a } else { b }
-}
-
 fn put(bytes: &mut [u8], at: usize, byte: u8) -> usize {
     if at < bytes.len() {
         bytes[at] = byte;
@@ -131,72 +121,20 @@ fn build(bytes: &mut [u8], masks: usize, inputs: usize, tail: &[u8]) -> usize {
 
 // ---- checks
 
-// What stands in the slices before a check. No family has such bytes at its end, and no node such a record.
-fn entry_before() -> Node {
-    Node {
-        kind: 9,
-        first: 8,
-        second: 7,
-        set: 6,
-    }
-}
-
-fn byte_before(k: usize) -> u8 {
-    (1 + k % 251) as u8
-}
-
-fn fill(work: &mut [u8]) {
-    let end = work.len();
-    let mut k = 0;
-    while k < end {
-        put(work, k, byte_before(k));
-        k += 1;
-    }
-}
-
-fn is_before(node: Node) -> bool {
-    node.kind == 9 && node.first == 8 && node.second == 7 && node.set == 6
-}
-
-// The lowest number from which on all entries are as they were, and so for the work bytes.
-fn entries_kept_from(nodes: [Node; 200]) -> usize {
-    let mut from = 0;
-    let mut k = 0;
-    while k < 200 {
-        if !is_before(nodes[k]) {
-            from = k + 1;
-        }
-        k += 1;
-    }
-    from
-}
-
-fn work_kept_from(work: &[u8]) -> usize {
-    let mut from = 0;
-    let mut k = 0;
-    while k < work.len() {
-        if work[k] != byte_before(k) {
-            from = k + 1;
-        }
-        k += 1;
-    }
-    from
-}
-
 // Checks a block in slices of so many entries and of these work bytes. Prints the reply, and from where on both slices are as they
 // were.
 fn check_in(name: &[u8], bytes: &[u8], entries: usize, work: &mut [u8]) {
-    fill(work);
-    let seen = trial::check_over(bytes, entries, entry_before(), work);
+    trial::fill(work);
+    let seen = trial::check_over(bytes, entries, trial::entry_before(), work);
     let reply = seen.reply;
     let nodes = seen.nodes;
     print(name);
     print(b":");
     print_reply(reply);
     print(b", kept from");
-    print_number(entries_kept_from(nodes));
+    print_number(trial::entries_kept_from(nodes));
     print(b" and");
-    print_number(work_kept_from(work));
+    print_number(trial::work_kept_from(work));
     print(b"\n");
 }
 
@@ -507,9 +445,9 @@ fn refused_queries() {
 
 // The listing in a slice of so many bytes: its text, how many bytes it has, and from where on the slice is as it was.
 fn list_in(name: &[u8], bytes: &[u8], text: &mut [u8]) {
-    fill(text);
+    trial::fill(text);
     let length = report::telgouin_listing(bytes, text);
-    let from = work_kept_from(text);
+    let from = trial::work_kept_from(text);
     let n = least(from, text.len());
     print(name);
     print(b"\n");

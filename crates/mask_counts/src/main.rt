@@ -2,11 +2,13 @@
 // assignments, and the feeding points of every tested node. Where the checker's glitch half is clear, the number of mask settings that
 // give a pattern must be the same for all settings of the secrets, at every tested node; where the counts of a node
 // differ, the checker must have named a suspect at that node or a lower one.
-ghost use Prim.Native.Nat.{_≤_};
-use libc::STDOUT_FILENO;
 use rules::Half;
 use rules::Reply;
 use second::Block;
+use tally::least;
+use tally::one_if;
+use tally::print_count;
+use tally::sum;
 
 const BLOCKS: usize = 1500;
 
@@ -25,25 +27,6 @@ struct Tally {
     differ: usize,
     cautious: usize,
     contradictions: usize,
-}
-
-// A sum that stays where it is at a billion, which no count here comes near.
-fn sum(x: usize, more: usize) -> usize {
-    if x < 1000000000 && more < 1000000000 {
-        x + more
-    } else {
-        x
-    }
-}
-
-fn one_if(yes: bool) -> usize {
-    if yes { 1 } else { 0 }
-}
-
-fn least(a: usize, b: usize) -> usize
-    ensures { λ r. ⌜ r ≤ b ⌝ }
-{
-    if a < b { a } else { b }
 }
 
 fn get(slice: &[u16], i: usize) -> usize {
@@ -126,15 +109,19 @@ fn alike(patterns: &[u16], block: Block, x: usize, y: usize) -> bool {
     get(patterns, x) == get(patterns, y) && (x ^ y) & (31 ^ (block.secrets | block.masks)) == 0
 }
 
+fn count_mask(counts: &mut [u16], patterns: &[u16], block: Block, x: usize, y: usize) {
+    if alike(patterns, block, x, y) {
+        let s = y & block.secrets;
+        put(counts, s, sum(get(counts, s), 1));
+    }
+}
+
 // For each setting of the secrets the number of mask settings that give the pattern of assignment x beside its publics.
 fn count_masks(counts: &mut [u16], patterns: &[u16], block: Block, x: usize, assignments: usize) {
     clear(counts);
     let mut y = 0;
     while y < assignments {
-        if alike(patterns, block, x, y) {
-            let s = y & block.secrets;
-            put(counts, s, sum(get(counts, s), 1));
-        }
+        count_mask(counts, patterns, block, x, y);
         y += 1;
     }
 }
@@ -337,13 +324,6 @@ fn false_alarm(
     let block: &[u8] =
         b"\x01\x00\x01\x01\x02\x03\x00\x02\x02\x00\x03\x01\x05\x01\x02\x07\x03\x04\x00\x04\x00";
     try_block(tally, block, values, patterns, counts)
-}
-
-fn print_count(name: &[u8], count: usize) {
-    io::write_all(STDOUT_FILENO, name);
-    io::write_all(STDOUT_FILENO, b" ");
-    io::print_decimal(STDOUT_FILENO, count as u64);
-    io::write_all(STDOUT_FILENO, b"\n");
 }
 
 fn main() {

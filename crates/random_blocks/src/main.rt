@@ -12,6 +12,10 @@ use rules::QueryOutcome;
 use rules::Reply;
 use rules::ValueReply;
 use second::Block;
+use tally::least;
+use tally::one_if;
+use tally::print_count;
+use tally::sum;
 
 const BLOCKS: usize = 4000;
 
@@ -34,25 +38,6 @@ struct Tally {
 }
 
 // ---- counting
-
-// A sum that stays where it is at a billion, which no count here comes near.
-fn sum(x: usize, more: usize) -> usize {
-    if x < 1000000000 && more < 1000000000 {
-        x + more
-    } else {
-        x
-    }
-}
-
-fn one_if(yes: bool) -> usize {
-    if yes { 1 } else { 0 }
-}
-
-fn least(a: usize, b: usize) -> usize
-    ensures { λ r. ⌜ r ≤ b ⌝ }
-{
-    if a < b { a } else { b }
-}
 
 fn no_tally() -> Tally {
     Tally {
@@ -206,31 +191,6 @@ fn same_reply(
 
 // ---- the lent slices
 
-// What stands in the slices before a check.
-fn entry_before() -> Node {
-    Node {
-        kind: 9,
-        first: 8,
-        second: 7,
-        set: 6,
-    }
-}
-
-fn byte_before(k: usize) -> u8 {
-    (k % 251) as u8
-}
-
-fn fill(work: &mut [u8]) {
-    let end = work.len();
-    let mut k = 0;
-    while k < end {
-        if k < work.len() {
-            work[k] = byte_before(k);
-        }
-        k += 1;
-    }
-}
-
 fn same_node(a: Node, b: Node) -> bool {
     a.kind == b.kind && a.first == b.first && a.second == b.second && a.set == b.set
 }
@@ -239,7 +199,7 @@ fn expected_entry(block: Block, written: usize, i: usize) -> Node {
     if i < written {
         second::record_of(block, i)
     } else {
-        entry_before()
+        trial::entry_before()
     }
 }
 
@@ -250,17 +210,6 @@ fn same_entries(nodes: [Node; 200], block: Block, written: usize) -> bool {
     while i < 200 {
         same = same && same_node(nodes[i], expected_entry(block, written, i));
         i += 1;
-    }
-    same
-}
-
-// The work bytes from `from` on are as they were.
-fn rest_kept(work: &[u8], from: usize) -> bool {
-    let mut same = true;
-    let mut k = from;
-    while k < work.len() {
-        same = same && work[k] == byte_before(k);
-        k += 1;
     }
     same
 }
@@ -482,20 +431,20 @@ fn compare_check(
     entries: usize,
     work: &mut [u8],
 ) -> Tally {
-    fill(work);
+    trial::fill(work);
     let expected = expected(block, entries, work.len());
     let written = if expected.number == 0 {
         block.count % 256
     } else {
         0
     };
-    let seen = trial::check_over(bytes, entries, entry_before(), work);
+    let seen = trial::check_over(bytes, entries, trial::entry_before(), work);
     let reply = seen.reply;
     let nodes = seen.nodes;
     let same = same_reply(reply, expected, block, lists, lengths)
         && same_entries(nodes, block, written)
         && same_families(work, lists, lengths, written)
-        && rest_kept(work, 256 * written);
+        && trial::work_kept_from(work) <= 256 * written;
     let next = with_difference(tally, same);
     if expected.number > 0 {
         return with_refused_check(next, expected.number);
@@ -639,13 +588,6 @@ fn run(
 }
 
 // ---- what was seen
-
-fn print_count(name: &[u8], count: usize) {
-    io::write_all(STDOUT_FILENO, name);
-    io::write_all(STDOUT_FILENO, b" ");
-    io::print_decimal(STDOUT_FILENO, count as u64);
-    io::write_all(STDOUT_FILENO, b"\n");
-}
 
 fn print_refusals(checks: [usize; 14], queries: [usize; 14]) {
     let mut k = 1;

@@ -5,8 +5,8 @@ use mathlib.Core.Path.{_≡_, refl, sym, ap, _∙_}
 use mathlib.Core.List.{List, [], _∷_, _++_, append-nil, append-assoc}
 use native.Mathlib.Numerals.{add-one}
 use native.Mathlib.Omega.{arith}
-use lib.ListN.{length, take, set, length-append, length-set}
-use lib.Seq.{take-suc-set}
+use lib.ListN.{length, take, set, length-append, length-take, length-set}
+use lib.Seq.{take-suc-set, length-take-le}
 use Rattle.report.specs.Text.{Appended}
 
 -- the empty text is written by doing nothing
@@ -35,7 +35,9 @@ pub appended-as : {before after : List ℕ} {at next : ℕ} {text other : List �
     → Appended before after at next other
 appended-as e a = rw e at a
 
--- where the next text goes, by a bound on this one
-pub appended-few : {before after : List ℕ} {at next : ℕ} {text : List ℕ} (most : ℕ) → Appended before after at next text
-    → length text ≤ most → next ≤ at + most
-appended-few most a h = omega arith
+-- a text that starts in a slice ends in it
+pub appended-within : {before after : List ℕ} {at next : ℕ} {text : List ℕ} → Appended before after at next text → at ≤ length before
+    → next ≤ length before
+appended-within {before} {after} {at} {next} {text} a h =
+    let same = ap length (a .bytes) in
+    omega (arith, length-take next after, length-take-le at before h, length-append (take at before) text)

@@ -9,6 +9,69 @@ use rules::MOST_NODES;
 use rules::Node;
 use rules::Reply;
 
+// ---- what stands in the slices before a check
+
+// No node has such a record.
+pub fn entry_before() -> Node {
+    Node {
+        kind: 9,
+        first: 8,
+        second: 7,
+        set: 6,
+    }
+}
+
+// No such byte is 0.
+pub fn byte_before(k: usize) -> u8 {
+    (1 + k % 251) as u8
+}
+
+pub fn fill(work: &mut [u8]) {
+    let end = work.len();
+    let mut k = 0;
+    while k < end {
+        put_before(work, k);
+        k += 1;
+    }
+}
+
+fn put_before(work: &mut [u8], k: usize) {
+    if k < work.len() {
+        work[k] = byte_before(k);
+    }
+}
+
+fn is_before(node: Node) -> bool {
+    node.kind == 9 && node.first == 8 && node.second == 7 && node.set == 6
+}
+
+// The lowest number from which on all entries are as they were, and the same of the work bytes.
+pub fn entries_kept_from(nodes: [Node; MOST_NODES]) -> usize {
+    let mut from = 0;
+    let mut k = 0;
+    while k < MOST_NODES {
+        if !is_before(nodes[k]) {
+            from = k + 1;
+        }
+        k += 1;
+    }
+    from
+}
+
+pub fn work_kept_from(work: &[u8]) -> usize {
+    let mut from = 0;
+    let mut k = 0;
+    while k < work.len() {
+        if work[k] != byte_before(k) {
+            from = k + 1;
+        }
+        k += 1;
+    }
+    from
+}
+
+// ---- a check
+
 // What a check leaves: the reply, and all entries.
 pub struct Seen {
     pub reply: Reply,

@@ -1,0 +1,71 @@
+-- `report::telgouin_listing` meets its contract: the listing stands at the front of 3,654 bytes, so it is no longer than these, and it is copied
+-- to a slice that is not shorter. Assumes nothing.
+use Prim.Native.Nat.{ℕ, _≤_, _<_}
+use mathlib.Core.Path.{_≡_, sym, _∙_}
+use mathlib.Core.List.{List, _++_}
+use native.Mathlib.Omega.{arith}
+use borrow.Author.Needs.{needs}
+use borrow.Author.Tests.{le-leb, lt-leb}
+use lib.ListN.{length, take, drop, length-replicate}
+use Rattle.rules.specs.Listing.{shown}
+use Rattle.report.specs.Text.{Appended}
+use Rattle.report.proofs.Text.{appended-within}
+use Rattle.report.proofs.telgouin_listing.Statement.{statement}
+use Rattle.report.proofs.telgouin_listing.Tie as tie
+
+-- a text at the front of a slice
+module _ {before after : List ℕ} {count : ℕ} {text : List ℕ} (a : Appended before after 0 count text) where
+  size : count ≡ length text
+  size = omega (arith, a .place)
+
+  -- which has room for it
+  within : {most : ℕ} → length before ≡ most → count ≤ most
+  within e = rw e at (appended-within a (omega arith))
+
+  -- is shown by copying it, if it fits
+  copied : (slice : List ℕ) → count ≤ length slice → take count after ++ drop count slice ≡ shown text slice
+  unfolding shown
+  copied slice h = rw (a .bytes, size, le-leb (length text) (length slice) (omega (arith, size)))
+
+  not-copied : (slice : List ℕ) → length slice < count → slice ≡ shown text slice
+  unfolding shown
+  not-copied slice h = rw (lt-leb (length text) (length slice) (omega (arith, size)))
+
+slice-aggregate-put-listing : tie.Need-slice-aggregate-put-listing
+slice-aggregate-put-listing c = search needs
+
+put-listing-requires : tie.Need-put-listing-requires
+put-listing-requires c κs = search needs
+
+slice-aggregate-copy-front : tie.Need-slice-aggregate-copy-front
+slice-aggregate-copy-front c = search needs
+
+copy-front-requires : tie.Need-copy-front-requires
+copy-front-requires c κs =
+    let whole = c .before .before .before .before .put-listing .ensures in (search needs, within whole (sym (whole .long)))
+
+same-length : tie.Need-same-length
+same-length c = search needs
+
+returns : tie.Need-returns
+returns c =
+    let whole = c .before .before .before .before .before .before .before .put-listing .ensures in
+    let fits = c .before .before .before .before .before .if1 .taken in
+    (size whole, (within whole (length-replicate {A = ℕ} 3654 0), c .before .before .copy-front .ensures ∙ copied whole _ fits))
+
+returns-2 : tie.Need-returns-2
+returns-2 c =
+    let whole = c .before .before .put-listing .ensures in
+    (size whole, (within whole (length-replicate {A = ℕ} 3654 0), not-copied whole _ (c .if1 .left)))
+
+pub telgouin-listing-spec : {M : Type 1} → statement M
+telgouin-listing-spec =
+    tie.close
+    (tie.spec
+    slice-aggregate-put-listing
+    put-listing-requires
+    slice-aggregate-copy-front
+    copy-front-requires
+    same-length
+    returns
+    returns-2)
