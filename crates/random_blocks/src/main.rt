@@ -2,6 +2,7 @@
 // lengths: replies with number and place, node records, families, what lies beyond them, and the three queries. Prints what it
 // saw, and how many blocks differ.
 ghost use Prim.Native.Nat.{_≤_};
+use generator::Made;
 use libc::STDOUT_FILENO;
 use rules::Answer;
 use rules::FeedingReply;
@@ -16,6 +17,7 @@ use tally::least;
 use tally::one_if;
 use tally::print_count;
 use tally::sum;
+use trial::Seen;
 
 const BLOCKS: usize = 4000;
 
@@ -87,7 +89,7 @@ struct Expected {
 }
 
 // Of a check in slices of so many entries and so many work bytes.
-fn expected(block: Block, entries: usize, work: usize) -> Expected {
+fn expected_check(block: Block, entries: usize, work: usize) -> Expected {
     if block.fault > 0 {
         return Expected {
             number: block.fault,
@@ -154,11 +156,13 @@ fn half_number(half: Half) -> usize {
     match half {
         Half::Clear => second::NONE,
         Half::Suspect(node, set) => {
-            if node < 200 && set < 1024 {
-                node * 1024 + set
-            } else {
-                second::NONE + 1
+            if node > 199 {
+                return second::NONE + 1;
             }
+            if set > 1023 {
+                return second::NONE + 1;
+            }
+            node * 1024 + set
         }
     }
 }
@@ -214,12 +218,20 @@ fn same_entries(nodes: [Node; 200], block: Block, written: usize) -> bool {
     same
 }
 
-fn bits_of(work: &[u8], k: usize) -> usize {
-    if k < work.len() {
-        u32::count_ones(work[k] as u32) as usize
-    } else {
-        0
-    }
+// The number of bits that are 1, of four bits and of eight.
+fn ones_of_four(b: usize) -> usize {
+    b % 2 + b / 2 % 2 + b / 4 % 2 + b / 8 % 2
+}
+
+fn ones(byte: u8) -> usize {
+    sum(
+        ones_of_four((byte % 16) as usize),
+        ones_of_four((byte / 16) as usize),
+    )
+}
+
+fn ones_at(work: &[u8], k: usize) -> usize {
+    if k < work.len() { ones(work[k]) } else { 0 }
 }
 
 // How many sets the family at a place of the work bytes has.
@@ -227,7 +239,7 @@ fn sets_at(work: &[u8], at: usize) -> usize {
     let mut sets = 0;
     let mut k = 0;
     while k < 128 {
-        sets = sum(sets, bits_of(work, sum(at, k)));
+        sets = sum(sets, ones_at(work, sum(at, k)));
         k += 1;
     }
     sets
@@ -375,11 +387,36 @@ fn ask_memberships(
     let reply = queries::memberships(bytes, node, set);
     let same = same_memberships(reply, expected, lists, lengths, node, set);
     let mut next = with_query(tally, expected, same);
-    next.members = sum(next.members, one_if(reply.settled) + one_if(reply.glitch));
+    next.members = sum(
+        sum(next.members, one_if(reply.settled)),
+        one_if(reply.glitch),
+    );
     next
 }
 
-// Asks each query four times, of nodes and numbers that may be too high.
+// Asks each query once, of a node and a number that may be too high.
+fn ask_once(
+    tally: Tally,
+    seed: u32,
+    bytes: &[u8],
+    block: Block,
+    lists: &[u16],
+    lengths: &[u16],
+    tables: &[u64],
+    rows: &[u64],
+) -> Tally {
+    let node = generator::pick(seed, block.count % 256 + 2);
+    let number = generator::pick(generator::next(seed), 2usize << (block.variables % 16));
+    let first = ask_value(tally, bytes, block, tables, node, number);
+    let second = ask_points(first, bytes, block, rows, node);
+    ask_memberships(second, bytes, block, lists, lengths, node, number)
+}
+
+fn after_two(seed: u32) -> u32 {
+    generator::next(generator::next(seed))
+}
+
+// Four times.
 fn ask_all(
     tally: Tally,
     seed: u32,
@@ -390,20 +427,13 @@ fn ask_all(
     tables: &[u64],
     rows: &[u64],
 ) -> Tally {
-    let mut next = tally;
-    let mut state = seed;
-    let mut round = 0;
-    while round < 4 {
-        let node = generator::pick(state, block.count % 256 + 2);
-        state = generator::next(state);
-        let number = generator::pick(state, 2usize << (block.variables % 16));
-        state = generator::next(state);
-        next = ask_value(next, bytes, block, tables, node, number);
-        next = ask_points(next, bytes, block, rows, node);
-        next = ask_memberships(next, bytes, block, lists, lengths, node, number);
-        round += 1;
-    }
-    next
+    let second = after_two(seed);
+    let third = after_two(second);
+    let fourth = after_two(third);
+    let once = ask_once(tally, seed, bytes, block, lists, lengths, tables, rows);
+    let twice = ask_once(once, second, bytes, block, lists, lengths, tables, rows);
+    let thrice = ask_once(twice, third, bytes, block, lists, lengths, tables, rows);
+    ask_once(thrice, fourth, bytes, block, lists, lengths, tables, rows)
 }
 
 // ---- one block
@@ -421,7 +451,56 @@ fn with_answer(tally: Tally, block: Block, lists: &[u16], lengths: &[u16]) -> Ta
     next
 }
 
-// Checks the block in slices of so many entries and of these work bytes.
+// How many entries are written.
+fn written_by(block: Block, expected: Expected) -> usize
+    ensures { λ r. ⌜ r ≤ 255 ⌝ }
+{
+    if expected.number > 0 {
+        return 0;
+    }
+    block.count % 256
+}
+
+// The reply, the entries and the work bytes after a check are as expected.
+fn same_check(
+    seen: Seen,
+    expected: Expected,
+    block: Block,
+    lists: &[u16],
+    lengths: &[u16],
+    work: &[u8],
+) -> bool {
+    let reply = seen.reply;
+    let nodes = seen.nodes;
+    let written = written_by(block, expected);
+    let kept_from = 256 * written;
+    same_reply(reply, expected, block, lists, lengths)
+        && same_entries(nodes, block, written)
+        && same_families(work, lists, lengths, written)
+        && trial::work_kept_from(work) <= kept_from
+}
+
+// Checks a block in slices of so many entries and of these work bytes.
+fn check_filled(bytes: &[u8], entries: usize, work: &mut [u8]) -> Seen {
+    trial::fill(work);
+    trial::check_over(bytes, entries, trial::entry_before(), work)
+}
+
+fn with_check(
+    tally: Tally,
+    expected: Expected,
+    same: bool,
+    block: Block,
+    lists: &[u16],
+    lengths: &[u16],
+) -> Tally {
+    let next = with_difference(tally, same);
+    if expected.number > 0 {
+        return with_refused_check(next, expected.number);
+    }
+    with_answer(next, block, lists, lengths)
+}
+
 fn compare_check(
     tally: Tally,
     bytes: &[u8],
@@ -431,25 +510,10 @@ fn compare_check(
     entries: usize,
     work: &mut [u8],
 ) -> Tally {
-    trial::fill(work);
-    let expected = expected(block, entries, work.len());
-    let written = if expected.number == 0 {
-        block.count % 256
-    } else {
-        0
-    };
-    let seen = trial::check_over(bytes, entries, trial::entry_before(), work);
-    let reply = seen.reply;
-    let nodes = seen.nodes;
-    let same = same_reply(reply, expected, block, lists, lengths)
-        && same_entries(nodes, block, written)
-        && same_families(work, lists, lengths, written)
-        && trial::work_kept_from(work) <= 256 * written;
-    let next = with_difference(tally, same);
-    if expected.number > 0 {
-        return with_refused_check(next, expected.number);
-    }
-    with_answer(next, block, lists, lengths)
+    let expected = expected_check(block, entries, work.len());
+    let seen = check_filled(bytes, entries, work);
+    let same = same_check(seen, expected, block, lists, lengths, work);
+    with_check(tally, expected, same, block, lists, lengths)
 }
 
 // How many variables and nodes a block has.
@@ -459,7 +523,7 @@ struct Shape {
 }
 
 // Mostly small; some with ten variables or up to 200 nodes, and some with one more than there may be.
-fn shape(seed: u32, turn: usize) -> Shape {
+fn shape_of(seed: u32, turn: usize) -> Shape {
     let other = generator::next(seed);
     match turn % 50 {
         1 => Shape {
@@ -506,11 +570,11 @@ fn some_work(seed: u32, count: usize, most: usize) -> usize
 }
 
 // A block at random: how long it is, and the state after it.
-fn make(bytes: &mut [u8], seed: u32, turn: usize) -> generator::Made {
+fn make(bytes: &mut [u8], seed: u32, turn: usize) -> Made {
     let first = generator::next(seed);
     let second = generator::next(first);
     let third = generator::next(second);
-    let shape = shape(generator::next(third), turn);
+    let shape = shape_of(generator::next(third), turn);
     let masked = generator::pick(first, 3) > 0;
     let wide = generator::pick(second, 16) == 0;
     let made = generator::block(bytes, third, shape.variables, shape.nodes, masked, wide);
@@ -518,6 +582,68 @@ fn make(bytes: &mut [u8], seed: u32, turn: usize) -> generator::Made {
         return generator::damage(bytes, made);
     }
     made
+}
+
+// What the second checker says of a block.
+fn work_out(
+    bytes: &[u8],
+    lists: &mut [u16],
+    lengths: &mut [u16],
+    marks: &mut [u16],
+    tables: &mut [u64],
+    rows: &mut [u64],
+) -> Block {
+    let block = second::read(bytes);
+    second::families(block, lists, lengths, marks);
+    second::truth_tables(block, tables);
+    second::feeding_rows(block, rows);
+    block
+}
+
+// Compares the check in slices of some lengths.
+fn compare_in(
+    tally: Tally,
+    seed: u32,
+    bytes: &[u8],
+    block: Block,
+    lists: &[u16],
+    lengths: &[u16],
+    work: &mut [u8],
+) -> Tally {
+    let entries = some_entries(seed, block.count);
+    let m = some_work(generator::next(seed), block.count, work.len());
+    compare_check(tally, bytes, block, lists, lengths, entries, &mut work[..m])
+}
+
+fn with_block(tally: Tally) -> Tally {
+    let mut next = tally;
+    next.blocks = sum(tally.blocks, 1);
+    next
+}
+
+// Compares the check and the queries.
+fn compare_all(
+    tally: Tally,
+    seed: u32,
+    bytes: &[u8],
+    block: Block,
+    lists: &[u16],
+    lengths: &[u16],
+    tables: &[u64],
+    rows: &[u64],
+    work: &mut [u8],
+) -> Tally {
+    let checked = compare_in(with_block(tally), seed, bytes, block, lists, lengths, work);
+    ask_all(
+        checked,
+        after_two(seed),
+        bytes,
+        block,
+        lists,
+        lengths,
+        tables,
+        rows,
+    )
 }
 
 // Compares all that both checkers say of a block.
@@ -532,30 +658,83 @@ fn compare(
     rows: &mut [u64],
     work: &mut [u8],
 ) -> Tally {
-    let block = second::read(bytes);
-    second::families(block, lists, lengths, marks);
-    second::truth_tables(block, tables);
-    second::feeding_rows(block, rows);
-    let first = generator::next(seed);
-    let entries = some_entries(seed, block.count);
-    let m = some_work(first, block.count, work.len());
-    let checked = compare_check(tally, bytes, block, lists, lengths, entries, &mut work[..m]);
-    let mut next = ask_all(
-        checked,
-        generator::next(first),
+    let block = work_out(bytes, lists, lengths, marks, tables, rows);
+    compare_all(
+        tally,
+        seed,
         bytes,
         block,
         lists,
         lengths,
         tables,
         rows,
-    );
-    next.blocks = sum(next.blocks, 1);
-    next
+        work,
+    )
+}
+
+// The same of the block at the front of a slice.
+fn compare_made(
+    tally: Tally,
+    made: Made,
+    bytes: &[u8],
+    lists: &mut [u16],
+    lengths: &mut [u16],
+    marks: &mut [u16],
+    tables: &mut [u64],
+    rows: &mut [u64],
+    work: &mut [u8],
+) -> Tally {
+    let n = least(made.length, bytes.len());
+    compare(
+        tally,
+        generator::next(made.seed),
+        &bytes[..n],
+        lists,
+        lengths,
+        marks,
+        tables,
+        rows,
+        work,
+    )
+}
+
+// What was seen, and the generator's state.
+struct Run {
+    tally: Tally,
+    seed: u32,
+}
+
+fn one_block(
+    run: Run,
+    turn: usize,
+    bytes: &mut [u8],
+    lists: &mut [u16],
+    lengths: &mut [u16],
+    marks: &mut [u16],
+    tables: &mut [u64],
+    rows: &mut [u64],
+    work: &mut [u8],
+) -> Run {
+    let tally = run.tally;
+    let made = make(bytes, run.seed, turn);
+    Run {
+        tally: compare_made(
+            tally,
+            made,
+            bytes,
+            lists,
+            lengths,
+            marks,
+            tables,
+            rows,
+            work,
+        ),
+        seed: generator::next(made.seed),
+    }
 }
 
 // All blocks.
-fn run(
+fn all_blocks(
     bytes: &mut [u8],
     lists: &mut [u16],
     lengths: &mut [u16],
@@ -564,27 +743,16 @@ fn run(
     rows: &mut [u64],
     work: &mut [u8],
 ) -> Tally {
-    let mut tally = no_tally();
-    let mut seed = 1;
+    let mut run = Run {
+        tally: no_tally(),
+        seed: 1,
+    };
     let mut turn = 0;
     while turn < BLOCKS {
-        let made = make(bytes, seed, turn);
-        let n = least(made.length, bytes.len());
-        seed = generator::next(made.seed);
-        tally = compare(
-            tally,
-            seed,
-            &bytes[..n],
-            lists,
-            lengths,
-            marks,
-            tables,
-            rows,
-            work,
-        );
+        run = one_block(run, turn, bytes, lists, lengths, marks, tables, rows, work);
         turn += 1;
     }
-    tally
+    run.tally
 }
 
 // ---- what was seen
@@ -627,7 +795,7 @@ fn main() {
     let mut tables = [0u64; 3200];
     let mut rows = [0u64; 800];
     let mut work = [0u8; 51200];
-    let tally = run(
+    let tally = all_blocks(
         &mut bytes,
         &mut lists,
         &mut lengths,

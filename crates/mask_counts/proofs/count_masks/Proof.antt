@@ -18,17 +18,8 @@ clear-requires c κs = search needs
 loop-holds : tie.Need-loop-holds Inv-loop μ-loop
 loop-holds c = search needs
 
-alike-requires : tie.Need-alike-requires Inv-loop μ-loop
-alike-requires c κs = search needs
-
-get-requires : tie.Need-get-requires Inv-loop μ-loop
-get-requires c κs = search needs
-
-sum-requires : tie.Need-sum-requires Inv-loop μ-loop
-sum-requires c κs = search needs
-
-put-requires : tie.Need-put-requires Inv-loop μ-loop
-put-requires c κs = search needs
+count-mask-requires : tie.Need-count-mask-requires Inv-loop μ-loop
+count-mask-requires c κs = search needs
 
 add-y : tie.Need-add-y Inv-loop μ-loop
 add-y c = search needs
@@ -53,10 +44,7 @@ count-masks-spec =
     μ-loop
     clear-requires
     loop-holds
-    alike-requires
-    get-requires
-    sum-requires
-    put-requires
+    count-mask-requires
     add-y
     loop-less
     loop-again

@@ -1,0 +1,140 @@
+//! Every block is checked by Telgouin and by the plain implementation with both its products, and
+//! the answers are held to one another. The first difference ends the program.
+
+use crate::blocks::{self, Random, MOST_NODES, MOST_VARIABLES};
+use crate::document;
+use crate::plain;
+use crate::telgouin::{self, MOST_TEXT};
+
+/// How many blocks were compared, and what became of them.
+#[derive(Default)]
+pub struct Tally {
+    blocks: usize,
+    /// Those read, by their glitch half.
+    clear: usize,
+    suspect: usize,
+    /// Those refused, by number.
+    refused: [usize; 10],
+}
+
+/// What a lent slice holds before a call.
+const BEFORE: u8 = 0xa5;
+
+impl Tally {
+    /// Compares one block, and gives its listing.
+    pub fn compare(&mut self, bytes: &[u8]) -> String {
+        let text = plain::listing(bytes, plain::by_pairs);
+        if plain::listing(bytes, plain::by_words) != text {
+            differs(bytes, "between the two plain products", &text, b"");
+        }
+        // A slice with room for every listing, one with just room for this one, one that is a byte
+        // too short, and one of no bytes.
+        for length in [MOST_TEXT + 100, text.len(), text.len() - 1, 0] {
+            let mut slice = vec![BEFORE; length];
+            let count = telgouin::listing(bytes, &mut slice);
+            let written = if count <= length { count } else { 0 };
+            let what = if count != text.len() {
+                format!("{count} bytes of text and not {}", text.len())
+            } else if slice[..written] != text.as_bytes()[..written] {
+                "the text".to_string()
+            } else if slice[written..].iter().any(|&byte| byte != BEFORE) {
+                format!("a slice of {length} bytes has changed beyond byte {written}")
+            } else {
+                continue;
+            };
+            differs(bytes, &what, &text, &slice[..written]);
+        }
+        self.blocks += 1;
+        let refused = text
+            .strip_prefix("refused ")
+            .and_then(|rest| rest.split(' ').next());
+        match refused {
+            Some(number) => self.refused[number.parse::<usize>().unwrap()] += 1,
+            None if text.ends_with("glitch clear\n") => self.clear += 1,
+            None => self.suspect += 1,
+        }
+        text
+    }
+
+    pub fn print(&self) {
+        println!("{} blocks compared, no difference.", self.blocks);
+        println!(
+            "Glitch half clear: {}. Glitch half with a suspect: {}.",
+            self.clear, self.suspect
+        );
+        let refused: Vec<_> = (1..=9)
+            .map(|number| format!("{number}: {}", self.refused[number]))
+            .collect();
+        println!("Refused, by number: {}.", refused.join(", "));
+    }
+}
+
+/// Reports a difference and ends the program.
+fn differs(bytes: &[u8], what: &str, plain: &str, telgouin: &[u8]) -> ! {
+    eprintln!("DIFFERENCE: {what}");
+    eprintln!("block of {} bytes: {bytes:02x?}", bytes.len());
+    eprintln!("plain:\n{plain}");
+    eprintln!("telgouin:\n{}", String::from_utf8_lossy(telgouin));
+    std::process::exit(1);
+}
+
+/// The blocks of document 01, against its own words.
+pub fn document(tally: &mut Tally) {
+    for (name, bytes, expected) in document::BLOCKS {
+        let text = tally.compare(bytes);
+        let agrees = match expected.strip_prefix("..") {
+            Some(last) => text.ends_with(last),
+            None => text == *expected,
+        };
+        if !agrees {
+            eprintln!(
+                "DIFFERENCE: {name} of document 01: expected\n{expected}\nand both say\n{text}"
+            );
+            std::process::exit(1);
+        }
+    }
+}
+
+/// The edges of the limits; block A with every change of one byte, and cut at every byte; blocks
+/// with any nodes; damaged ones.
+pub fn many(tally: &mut Tally) {
+    let mut random = Random(1);
+    for variables in [MOST_VARIABLES, MOST_VARIABLES + 1] {
+        for nodes in [
+            0,
+            1,
+            MOST_NODES - 1,
+            MOST_NODES,
+            MOST_NODES + 1,
+            2 * MOST_NODES,
+        ] {
+            let mut bytes = [1, 1].repeat(variables);
+            bytes.extend([2, 255, 3].repeat(nodes));
+            tally.compare(&bytes);
+            bytes.push(0);
+            tally.compare(&bytes);
+            bytes.push(1);
+            tally.compare(&bytes);
+        }
+    }
+    for at in 0..document::BLOCK_A.len() {
+        tally.compare(&document::BLOCK_A[..at]);
+        for value in 0..=255 {
+            let mut bytes = document::BLOCK_A.to_vec();
+            bytes[at] = value;
+            tally.compare(&bytes);
+        }
+    }
+    for _ in 0..3000 {
+        let (nodes, variables) = (random.below(60), random.below(7));
+        let block = blocks::any(nodes, variables, &mut random);
+        tally.compare(&block);
+        for _ in 0..4 {
+            tally.compare(&blocks::damaged(block.clone(), &mut random));
+        }
+    }
+    for _ in 0..100 {
+        let (nodes, variables) = (random.below(50), 7 + random.below(4));
+        tally.compare(&blocks::any(nodes, variables, &mut random));
+    }
+}

@@ -1,0 +1,66 @@
+//! The benchmark: Telgouin's listing against a plain Rust implementation of document 01. It
+//! compares every answer, then measures time and memory. See docs/BENCH.md.
+
+mod blocks;
+mod compare;
+mod document;
+mod memory;
+mod plain;
+mod telgouin;
+mod time;
+mod ways;
+
+use blocks::Kind;
+use compare::Tally;
+use time::{measure, print_table, Cell};
+
+/// The numbers of nodes and variables that are measured.
+const SIZES: [(usize, usize); 9] = [
+    (100, 2),
+    (100, 4),
+    (100, 6),
+    (100, 8),
+    (10, 10),
+    (25, 10),
+    (50, 10),
+    (100, 10),
+    (200, 10),
+];
+
+fn main() {
+    // The program runs itself with the name of a way to check, for that way's memory.
+    if let Some(way) = std::env::args().nth(1) {
+        return memory::one_way(&way);
+    }
+
+    let mut tally = Tally::default();
+    compare::document(&mut tally);
+    compare::many(&mut tally);
+    let mut cells = Vec::new();
+    for kind in [Kind::Sparse, Kind::Between, Kind::Dense] {
+        cells.extend(SIZES.map(|(nodes, variables)| Cell::new(kind, nodes, variables, &mut tally)));
+    }
+    cells.push(Cell::new(Kind::Cut, 100, 10, &mut tally));
+    tally.print();
+
+    measure(&mut cells);
+    let checked = || cells.iter().filter(|cell| cell.kind != Kind::Cut);
+    print_table(
+        "By kind of block: 100 nodes, 10 variables",
+        cells
+            .iter()
+            .filter(|cell| (cell.nodes, cell.variables) == (100, 10)),
+        |cell| cell.kind.to_string(),
+    );
+    print_table(
+        "By number of nodes: 10 variables",
+        checked().filter(|cell| cell.variables == 10),
+        |cell| format!("{}, {} nodes", cell.kind, cell.nodes),
+    );
+    print_table(
+        "By number of variables: 100 nodes",
+        checked().filter(|cell| cell.nodes == 100),
+        |cell| format!("{}, {} variables", cell.kind, cell.variables),
+    );
+    memory::print();
+}

@@ -1,0 +1,313 @@
+//! Document 01 in plain Rust: the reader with its refusals, the two families of each node, and the
+//! listing's text. It shares no code with the checker, and nothing of it is proved.
+
+use std::fmt::Write;
+
+const MOST_VARIABLES: usize = 10;
+const MOST_NODES: usize = 200;
+
+#[derive(Clone, Copy, PartialEq)]
+enum Class {
+    Secret,
+    Mask,
+    Public,
+}
+
+/// A node: an input has its set, a gate or register its operands.
+enum Node {
+    Input(u16),
+    Not(usize),
+    Xor(usize, usize),
+    And(usize, usize),
+    Or(usize, usize),
+    Register(usize),
+}
+
+#[derive(Default)]
+struct Netlist {
+    variables: Vec<Class>,
+    nodes: Vec<Node>,
+}
+
+struct Refusal {
+    number: usize,
+    place: usize,
+}
+
+/// Reads a netlist; the checks of a record are in the order of document 01's table.
+fn read(bytes: &[u8]) -> Result<Netlist, Refusal> {
+    let mut netlist = Netlist::default();
+    let mut here = 0;
+    loop {
+        let refused = |number| {
+            Err(Refusal {
+                number,
+                place: here,
+            })
+        };
+        let Some((&kind, rest)) = bytes[here..].split_first() else {
+            return refused(8);
+        };
+        let length = match kind {
+            0 if rest.is_empty() => return Ok(netlist),
+            0 => {
+                return Err(Refusal {
+                    number: 9,
+                    place: here + 1,
+                })
+            }
+            1 | 3 | 7 => 1,
+            2 | 4 | 5 | 6 => 2,
+            _ => return refused(1),
+        };
+        let Netlist { variables, nodes } = &mut netlist;
+        if kind == 1 && !nodes.is_empty() {
+            return refused(2);
+        }
+        let full = match kind {
+            1 => variables.len() == MOST_VARIABLES,
+            _ => nodes.len() == MOST_NODES,
+        };
+        if full {
+            return refused(3);
+        }
+        let Some(body) = rest.get(..length) else {
+            return refused(4);
+        };
+        match kind {
+            1 => variables.push(match body[0] {
+                0 => Class::Secret,
+                1 => Class::Mask,
+                2 => Class::Public,
+                _ => return refused(5),
+            }),
+            2 => {
+                let set = u16::from_le_bytes([body[0], body[1]]);
+                if set >> variables.len() != 0 {
+                    return refused(6);
+                }
+                nodes.push(Node::Input(set));
+            }
+            _ => {
+                if body
+                    .iter()
+                    .any(|&operand| usize::from(operand) >= nodes.len())
+                {
+                    return refused(7);
+                }
+                let operand = |k: usize| usize::from(body[k]);
+                nodes.push(match kind {
+                    3 => Node::Not(operand(0)),
+                    4 => Node::Xor(operand(0), operand(1)),
+                    5 => Node::And(operand(0), operand(1)),
+                    6 => Node::Or(operand(0), operand(1)),
+                    _ => Node::Register(operand(0)),
+                });
+            }
+        }
+        here += 1 + length;
+    }
+}
+
+/// A family: set A is bit A mod 64 of word A / 64.
+#[derive(Clone, Copy, Default)]
+pub struct Family([u64; 16]);
+
+impl Family {
+    fn of(set: u16) -> Family {
+        let mut family = Family::default();
+        family.insert(set);
+        family
+    }
+
+    fn insert(&mut self, set: u16) {
+        self.0[usize::from(set / 64)] |= 1 << (set % 64);
+    }
+
+    fn len(&self) -> u32 {
+        self.0.iter().map(|word| word.count_ones()).sum()
+    }
+
+    fn union(mut self, other: &Family) -> Family {
+        for (word, more) in self.0.iter_mut().zip(other.0) {
+            *word |= more;
+        }
+        self
+    }
+
+    /// The sets, from the lowest-numbered up.
+    fn sets(&self) -> impl Iterator<Item = u16> {
+        (0u16..).zip(self.0).flat_map(|(at, mut word)| {
+            std::iter::from_fn(move || {
+                let bit = word.trailing_zeros() as u16;
+                (word != 0).then(|| {
+                    word &= word - 1;
+                    64 * at + bit
+                })
+            })
+        })
+    }
+}
+
+/// A way to form the product of two families.
+pub type Product = fn(&Family, &Family) -> Family;
+
+/// Pair by pair of the sets present.
+pub fn by_pairs(first: &Family, second: &Family) -> Family {
+    let others: Vec<u16> = second.sets().collect();
+    let mut product = Family::default();
+    for set in first.sets() {
+        for other in &others {
+            product.insert(set ^ other);
+        }
+    }
+    product
+}
+
+/// For each set of the smaller family, the other one word by word: the set's high bits move whole
+/// words, and its low six turn the bits within each.
+pub fn by_words(first: &Family, second: &Family) -> Family {
+    let (few, many) = if first.len() <= second.len() {
+        (first, second)
+    } else {
+        (second, first)
+    };
+    let mut product = Family::default();
+    for set in few.sets() {
+        for (at, word) in product.0.iter_mut().enumerate() {
+            *word |= turned(many.0[at ^ usize::from(set / 64)], set % 64);
+        }
+    }
+    product
+}
+
+/// The word whose bit k is bit k xor `by` of the given one.
+fn turned(mut word: u64, by: u16) -> u64 {
+    const LOW: [u64; 6] = [
+        0x5555_5555_5555_5555,
+        0x3333_3333_3333_3333,
+        0x0f0f_0f0f_0f0f_0f0f,
+        0x00ff_00ff_00ff_00ff,
+        0x0000_ffff_0000_ffff,
+        0x0000_0000_ffff_ffff,
+    ];
+    for (k, low) in LOW.iter().enumerate() {
+        if (by >> k) & 1 == 1 {
+            word = ((word & low) << (1 << k)) | ((word >> (1 << k)) & low);
+        }
+    }
+    word
+}
+
+/// Both families of a node.
+#[derive(Clone, Copy)]
+struct Families {
+    settled: Family,
+    glitch: Family,
+}
+
+/// The families of all nodes, in file order.
+fn families(nodes: &[Node], product: Product) -> Vec<Families> {
+    let spread = |f: &Family, g: &Family| product(f, g).union(f).union(g).union(&Family::of(0));
+    let mut all: Vec<Families> = Vec::with_capacity(nodes.len());
+    for node in nodes {
+        all.push(match *node {
+            Node::Input(set) => Families {
+                settled: Family::of(set),
+                glitch: Family::of(set),
+            },
+            Node::Not(a) => Families {
+                settled: all[a].settled,
+                glitch: all[a].glitch.union(&Family::of(0)),
+            },
+            Node::Xor(a, b) => Families {
+                settled: product(&all[a].settled, &all[b].settled),
+                glitch: spread(&all[a].glitch, &all[b].glitch),
+            },
+            Node::And(a, b) | Node::Or(a, b) => Families {
+                settled: spread(&all[a].settled, &all[b].settled),
+                glitch: spread(&all[a].glitch, &all[b].glitch),
+            },
+            Node::Register(a) => Families {
+                settled: all[a].settled,
+                glitch: all[a].settled,
+            },
+        });
+    }
+    all
+}
+
+/// The lowest tested node with a suspect set, and its lowest-numbered one.
+fn first_suspect<'a>(
+    netlist: &Netlist,
+    layer: impl Iterator<Item = &'a Family>,
+) -> Option<(usize, u16)> {
+    let variables_of = |class| -> u16 {
+        netlist
+            .variables
+            .iter()
+            .enumerate()
+            .filter(|(_, c)| **c == class)
+            .map(|(v, _)| 1 << v)
+            .sum()
+    };
+    let (secrets, masks) = (variables_of(Class::Secret), variables_of(Class::Mask));
+    netlist
+        .nodes
+        .iter()
+        .zip(layer)
+        .enumerate()
+        .filter(|(_, (node, _))| !matches!(node, Node::Input(_)))
+        .find_map(|(i, (_, family))| {
+            let set = family
+                .sets()
+                .find(|set| set & secrets != 0 && set & masks == 0)?;
+            Some((i, set))
+        })
+}
+
+/// The listing's text for these netlist bytes.
+pub fn listing(bytes: &[u8], product: Product) -> String {
+    let netlist = match read(bytes) {
+        Ok(netlist) => netlist,
+        Err(Refusal { number, place }) => return format!("refused {number} {place}\n"),
+    };
+    let all = families(&netlist.nodes, product);
+    let mut text = String::new();
+    // Writing to a string does not fail.
+    writeln!(
+        text,
+        "vars {} nodes {}",
+        netlist.variables.len(),
+        netlist.nodes.len()
+    )
+    .unwrap();
+    for (i, (node, Families { settled, glitch })) in netlist.nodes.iter().zip(&all).enumerate() {
+        let kind = match node {
+            Node::Input(_) => "in",
+            Node::Not(_) => "not",
+            Node::Xor(..) => "xor",
+            Node::And(..) => "and",
+            Node::Or(..) => "or",
+            Node::Register(_) => "reg",
+        };
+        writeln!(text, "{i} {kind} {} {}", settled.len(), glitch.len()).unwrap();
+    }
+    let halves = [
+        (
+            "settled",
+            first_suspect(&netlist, all.iter().map(|f| &f.settled)),
+        ),
+        (
+            "glitch",
+            first_suspect(&netlist, all.iter().map(|f| &f.glitch)),
+        ),
+    ];
+    for (half, found) in halves {
+        match found {
+            None => writeln!(text, "{half} clear").unwrap(),
+            Some((node, set)) => writeln!(text, "{half} {node} {set}").unwrap(),
+        }
+    }
+    text
+}

@@ -1,0 +1,142 @@
+//! The time a block takes.
+
+use crate::blocks::{block, Kind, Random};
+use crate::compare::Tally;
+use crate::telgouin::MOST_TEXT;
+use crate::ways::WAYS;
+
+/// Rounds of which the shortest counts, and for how long one goes through the blocks of a cell.
+const ROUNDS: usize = 5;
+const ROUND_SECONDS: f64 = 0.005;
+
+/// Blocks of one kind and size.
+pub struct Cell {
+    pub kind: Kind,
+    pub nodes: usize,
+    pub variables: usize,
+    blocks: Vec<Vec<u8>>,
+    /// The mean number of sets in a family of these blocks.
+    sets: f64,
+    /// Microseconds a block, for each way to check.
+    times: [f64; 3],
+}
+
+impl Cell {
+    /// Makes the blocks of a kind and size, and compares them.
+    pub fn new(kind: Kind, nodes: usize, variables: usize, tally: &mut Tally) -> Cell {
+        let mut random = Random((1000 * nodes + variables) as u64);
+        // Dense blocks are much alike, and each takes long.
+        let count = if kind == Kind::Dense { 2 } else { 8 };
+        let blocks: Vec<_> = (0..count)
+            .map(|_| block(kind, nodes, variables, &mut random))
+            .collect();
+        let listings: Vec<_> = blocks.iter().map(|bytes| tally.compare(bytes)).collect();
+        Cell {
+            kind,
+            nodes,
+            variables,
+            blocks,
+            sets: mean_sets(&listings),
+            times: [f64::INFINITY; 3],
+        }
+    }
+}
+
+/// Measures all cells in each round, so that what disturbs one round disturbs a cell once only.
+pub fn measure(cells: &mut [Cell]) {
+    let mut text = [0; MOST_TEXT];
+    for _ in 0..ROUNDS {
+        for cell in cells.iter_mut() {
+            for (way, time) in WAYS.iter().zip(&mut cell.times) {
+                let start = thread_seconds();
+                let mut checked = 0;
+                let mut seconds = 0.0;
+                while seconds < ROUND_SECONDS {
+                    for bytes in &cell.blocks {
+                        way.check(bytes, &mut text);
+                    }
+                    checked += cell.blocks.len();
+                    seconds = thread_seconds() - start;
+                }
+                *time = time.min(seconds * 1e6 / checked as f64);
+            }
+        }
+    }
+}
+
+/// The processor time that this thread has taken: what other programs take is not in it.
+fn thread_seconds() -> f64 {
+    #[repr(C)]
+    struct Timespec {
+        seconds: i64,
+        nanoseconds: i64,
+    }
+    extern "C" {
+        fn clock_gettime(clock: i32, time: *mut Timespec) -> i32;
+    }
+    const THREAD_CLOCK: i32 = 3;
+    let mut time = Timespec {
+        seconds: 0,
+        nanoseconds: 0,
+    };
+    // SAFETY: the C library writes one `timespec`, which on 64-bit Linux has this layout.
+    let status = unsafe { clock_gettime(THREAD_CLOCK, &mut time) };
+    assert_eq!(status, 0, "the thread's clock can be read");
+    time.seconds as f64 + time.nanoseconds as f64 * 1e-9
+}
+
+/// The mean of the numbers of sets in these listings: the last two fields of a node's line.
+fn mean_sets(listings: &[String]) -> f64 {
+    let (mut sets, mut families) = (0.0, 0.0);
+    for line in listings.iter().flat_map(|text| text.lines()) {
+        if let [number, _, settled, glitch] = line.split(' ').collect::<Vec<_>>()[..] {
+            if number != "vars" {
+                sets += settled.parse::<f64>().unwrap() + glitch.parse::<f64>().unwrap();
+                families += 2.0;
+            }
+        }
+    }
+    sets / f64::max(families, 1.0)
+}
+
+/// A table of these cells, each with its name.
+pub fn print_table<'a>(
+    title: &str,
+    cells: impl Iterator<Item = &'a Cell>,
+    name: impl Fn(&Cell) -> String,
+) {
+    println!("\n{title}\n");
+    println!(
+        "| block | sets a family | Telgouin, µs | pairs, µs | words, µs \
+         | Telgouin / pairs | Telgouin / words |"
+    );
+    println!("|---|---:|---:|---:|---:|---:|---:|");
+    for cell in cells {
+        let [telgouin, pairs, words] = cell.times;
+        let figures = [
+            cell.sets,
+            telgouin,
+            pairs,
+            words,
+            telgouin / pairs,
+            telgouin / words,
+        ];
+        println!("| {} | {} |", name(cell), figures.map(figure).join(" | "));
+    }
+}
+
+/// A number with two decimal places or, where it is larger, one or none, and commas at thousands.
+fn figure(number: f64) -> String {
+    match number {
+        n if n < 10.0 => format!("{n:.2}"),
+        n if n < 100.0 => format!("{n:.1}"),
+        n if n < 999.5 => format!("{n:.0}"),
+        n => {
+            let whole = n.round() as u64;
+            match (whole / 1_000_000, whole / 1000 % 1000, whole % 1000) {
+                (0, thousands, ones) => format!("{thousands},{ones:03}"),
+                (millions, thousands, ones) => format!("{millions},{thousands:03},{ones:03}"),
+            }
+        }
+    }
+}
