@@ -1,56 +1,13 @@
 // The cases and edges of document 01 that are not in its table, one line to each: what a check, a query or the listing answers, and
 // what the lent slices hold after it. Where two conditions meet, the case shows which is checked first.
-use libc::STDOUT_FILENO;
-use rules::Answer;
-use rules::Half;
-use rules::Node;
 use rules::QueryOutcome;
-use rules::Refusal;
-use rules::Reply;
-use tally::least;
-use tally::print_number;
+use tools::least;
+use tools::print;
+use tools::print_number;
+use tools::print_refusal;
+use tools::print_reply;
 
 // ---- printing
-
-fn print(text: &[u8]) {
-    io::write_all(STDOUT_FILENO, text);
-}
-
-fn print_refusal(refusal: Refusal) {
-    print(b" refused");
-    print_number(rules::number_of(refusal));
-    print_number(rules::place_of(refusal));
-}
-
-fn print_half(half: Half) {
-    match half {
-        Half::Clear => print(b" clear"),
-        Half::Suspect(node, set) => {
-            print_number(node);
-            print_number(set);
-        }
-    }
-}
-
-fn print_answer(answer: Answer) {
-    let settled = answer.settled;
-    let glitch = answer.glitch;
-    print(b" vars");
-    print_number(answer.variables);
-    print(b" nodes");
-    print_number(answer.nodes);
-    print(b" settled");
-    print_half(settled);
-    print(b" glitch");
-    print_half(glitch);
-}
-
-fn print_reply(reply: Reply) {
-    match reply {
-        Reply::Refused(refusal) => print_refusal(refusal),
-        Reply::Answered(answer) => print_answer(answer),
-    }
-}
 
 fn print_outcome(outcome: QueryOutcome) {
     match outcome {

@@ -5,10 +5,10 @@
 use rules::Half;
 use rules::Reply;
 use second::Block;
-use tally::least;
-use tally::one_if;
-use tally::print_count;
-use tally::sum;
+use tools::least;
+use tools::one_if;
+use tools::print_count;
+use tools::sum;
 
 const BLOCKS: usize = 1500;
 

@@ -3,7 +3,6 @@
 // saw, and how many blocks differ.
 ghost use Prim.Native.Nat.{_≤_};
 use generator::Made;
-use libc::STDOUT_FILENO;
 use rules::Answer;
 use rules::FeedingReply;
 use rules::Half;
@@ -13,10 +12,12 @@ use rules::QueryOutcome;
 use rules::Reply;
 use rules::ValueReply;
 use second::Block;
-use tally::least;
-use tally::one_if;
-use tally::print_count;
-use tally::sum;
+use tools::least;
+use tools::one_if;
+use tools::print;
+use tools::print_count;
+use tools::print_number;
+use tools::sum;
 use trial::Seen;
 
 const BLOCKS: usize = 4000;
@@ -760,10 +761,10 @@ fn all_blocks(
 fn print_refusals(checks: [usize; 14], queries: [usize; 14]) {
     let mut k = 1;
     while k < 14 {
-        io::write_all(STDOUT_FILENO, b"refused ");
-        io::print_decimal(STDOUT_FILENO, k as u64);
-        io::write_all(STDOUT_FILENO, b" checks ");
-        io::print_decimal(STDOUT_FILENO, checks[k] as u64);
+        print(b"refused");
+        print_number(k);
+        print(b" checks");
+        print_number(checks[k]);
         print_count(b" queries", queries[k]);
         k += 1;
     }

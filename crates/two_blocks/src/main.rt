@@ -8,12 +8,11 @@ ghost use Rattle.rules.specs.Paper.{replyOf};
 ghost use Rattle.records.specs.Netlists.{blank};
 ghost use Rattle.families.specs.Parts.{HasPart};
 use families::SETS;
-use libc::STDOUT_FILENO;
-use rules::Answer;
-use rules::Half;
 use rules::Node;
-use rules::Refusal;
 use rules::Reply;
+use tools::print;
+use tools::print_number;
+use tools::print_reply;
 
 // What a check of a block leaves: the reply and one entry.
 struct Seen {
@@ -40,88 +39,38 @@ fn check_block(bytes: &[u8], work: &mut [u8], i: usize) -> Seen
     Seen { reply, node }
 }
 
-fn print_field(x: usize) {
-    io::write_all(STDOUT_FILENO, b" ");
-    io::print_decimal(STDOUT_FILENO, x as u64);
-}
-
-fn end_line() {
-    io::write_all(STDOUT_FILENO, b"\n");
-}
-
-fn print_half(half: Half) {
-    match half {
-        Half::Clear => {
-            io::write_all(STDOUT_FILENO, b" clear");
-        }
-        Half::Suspect(node, set) => {
-            print_field(node);
-            print_field(set);
-        }
-    }
-    end_line();
-}
-
-fn print_refusal(refusal: Refusal) {
-    io::write_all(STDOUT_FILENO, b"refused");
-    print_field(rules::number_of(refusal));
-    print_field(rules::place_of(refusal));
-    end_line();
-}
-
-fn print_answer(answer: Answer) {
-    let settled = answer.settled;
-    let glitch = answer.glitch;
-    io::write_all(STDOUT_FILENO, b"vars");
-    print_field(answer.variables);
-    io::write_all(STDOUT_FILENO, b" nodes");
-    print_field(answer.nodes);
-    end_line();
-    io::write_all(STDOUT_FILENO, b"settled");
-    print_half(settled);
-    io::write_all(STDOUT_FILENO, b"glitch");
-    print_half(glitch);
-}
-
-fn print_reply(reply: Reply) {
-    match reply {
-        Reply::Refused(refusal) => print_refusal(refusal),
-        Reply::Answered(answer) => print_answer(answer),
-    }
-}
-
 fn print_node(i: usize, node: Node) {
-    io::write_all(STDOUT_FILENO, b"node");
-    print_field(i);
-    io::write_all(STDOUT_FILENO, b" kind");
-    print_field(node.kind as usize);
-    io::write_all(STDOUT_FILENO, b" operands");
-    print_field(node.first as usize);
-    print_field(node.second as usize);
-    io::write_all(STDOUT_FILENO, b" set");
-    print_field(node.set as usize);
-    end_line();
+    print(b"node");
+    print_number(i);
+    print(b" kind");
+    print_number(node.kind as usize);
+    print(b" operands");
+    print_number(node.first as usize);
+    print_number(node.second as usize);
+    print(b" set");
+    print_number(node.set as usize);
+    print(b"\n");
 }
 
 fn print_set(work: &[u8], part: usize, set: usize)
     requires { ⌜ HasPart (now work) part × (set < 1024) ⌝ }
 {
     if families::holds(work, part, set) {
-        print_field(set);
+        print_number(set);
     }
 }
 
 fn print_family(work: &[u8], part: usize)
     requires { ⌜ HasPart (now work) part ⌝ }
 {
-    print_field(families::size(work, part));
-    io::write_all(STDOUT_FILENO, b" in all:");
+    print_number(families::size(work, part));
+    print(b" in all:");
     let mut set = 0;
     while set < SETS {
         print_set(work, part, set);
         set += 1;
     }
-    end_line();
+    print(b"\n");
 }
 
 // A node's record and its two families.
@@ -129,9 +78,9 @@ fn print_entry(work: &[u8], i: usize, node: Node)
     requires { ⌜ HasPart (now work) (2 * i + 1) ⌝ }
 {
     print_node(i, node);
-    io::write_all(STDOUT_FILENO, b"settled family");
+    print(b"settled family");
     print_family(work, 2 * i);
-    io::write_all(STDOUT_FILENO, b"glitch family");
+    print(b"glitch family");
     print_family(work, 2 * i + 1);
 }
 
@@ -144,6 +93,7 @@ fn show(bytes: &[u8], i: usize, j: usize)
     let reply = seen.reply;
     let node = seen.node;
     print_reply(reply);
+    print(b"\n");
     print_entry(&work, i, node);
     let again = check_block(bytes, &mut work, j);
     let other = again.node;
@@ -151,13 +101,13 @@ fn show(bytes: &[u8], i: usize, j: usize)
 }
 
 fn main() {
-    io::write_all(STDOUT_FILENO, b"block A\n");
+    print(b"block A:");
     show(
         b"\x01\x00\x01\x01\x01\x01\x02\x03\x00\x02\x02\x00\x02\x04\x00\x04\x00\x02\x04\x03\x01\x00",
         3,
         4,
     );
-    io::write_all(STDOUT_FILENO, b"block B\n");
+    print(b"block B:");
     show(
         b"\x01\x00\x01\x01\x01\x01\x02\x03\x00\x02\x02\x00\x02\x04\x00\x04\x00\x02\x07\x03\x04\x04\x01\x00",
         4,

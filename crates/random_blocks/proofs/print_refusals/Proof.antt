@@ -13,29 +13,29 @@ abbrev μ-loop : tie.MeasureT-loop
 loop-holds : tie.Need-loop-holds Inv-loop μ-loop
 loop-holds c = search needs
 
-slice-aggregate-write-all : tie.Need-slice-aggregate-write-all Inv-loop μ-loop
-slice-aggregate-write-all c = search needs
+slice-aggregate-print : tie.Need-slice-aggregate-print Inv-loop μ-loop
+slice-aggregate-print c = search needs
 
-write-all-requires : tie.Need-write-all-requires Inv-loop μ-loop
-write-all-requires c κs = search needs
+print-requires : tie.Need-print-requires Inv-loop μ-loop
+print-requires c κs = search needs
 
-print-decimal-requires : tie.Need-print-decimal-requires Inv-loop μ-loop
-print-decimal-requires c κs = search needs
+print-number-requires : tie.Need-print-number-requires Inv-loop μ-loop
+print-number-requires c κs = search needs
 
-slice-aggregate-write-all-2 : tie.Need-slice-aggregate-write-all-2 Inv-loop μ-loop
-slice-aggregate-write-all-2 c = search needs
+slice-aggregate-print-2 : tie.Need-slice-aggregate-print-2 Inv-loop μ-loop
+slice-aggregate-print-2 c = search needs
 
-write-all-requires-2 : tie.Need-write-all-requires-2 Inv-loop μ-loop
-write-all-requires-2 c κs = search needs
+print-requires-2 : tie.Need-print-requires-2 Inv-loop μ-loop
+print-requires-2 c κs = search needs
 
-mul-print-decimal : tie.Need-mul-print-decimal Inv-loop μ-loop
-mul-print-decimal c = search needs
+mul-print-number : tie.Need-mul-print-number Inv-loop μ-loop
+mul-print-number c = search needs
 
-array-read-print-decimal : tie.Need-array-read-print-decimal Inv-loop μ-loop
-array-read-print-decimal c = search needs
+array-read-print-number : tie.Need-array-read-print-number Inv-loop μ-loop
+array-read-print-number c = search needs
 
-print-decimal-requires-2 : tie.Need-print-decimal-requires-2 Inv-loop μ-loop
-print-decimal-requires-2 c κs = search needs
+print-number-requires-2 : tie.Need-print-number-requires-2 Inv-loop μ-loop
+print-number-requires-2 c κs = search needs
 
 slice-aggregate-print-count : tie.Need-slice-aggregate-print-count Inv-loop μ-loop
 slice-aggregate-print-count c = search needs
@@ -68,14 +68,14 @@ print-refusals-spec =
     Inv-loop
     μ-loop
     loop-holds
-    slice-aggregate-write-all
-    write-all-requires
-    print-decimal-requires
-    slice-aggregate-write-all-2
-    write-all-requires-2
-    mul-print-decimal
-    array-read-print-decimal
-    print-decimal-requires-2
+    slice-aggregate-print
+    print-requires
+    print-number-requires
+    slice-aggregate-print-2
+    print-requires-2
+    mul-print-number
+    array-read-print-number
+    print-number-requires-2
     slice-aggregate-print-count
     mul-print-count
     array-read-print-count

@@ -1,0 +1,84 @@
+// What the test programs share: counts, and printing.
+ghost use Prim.Native.Nat.{_≤_};
+use libc::STDOUT_FILENO;
+use rules::Answer;
+use rules::Half;
+use rules::Refusal;
+use rules::Reply;
+
+// A sum that stays where it is at a billion, which no count of these programs comes near.
+pub fn sum(x: usize, more: usize) -> usize {
+    if x > 1000000000 {
+        return x;
+    }
+    if more > 1000000000 {
+        return x;
+    }
+    x + more
+}
+
+pub fn one_if(yes: bool) -> usize {
+    if yes { 1 } else { 0 }
+}
+
+pub fn least(a: usize, b: usize) -> usize
+    ensures { λ r. ⌜ r ≤ b ⌝ }
+{
+    if a < b { a } else { b }
+}
+
+// ---- printing
+
+pub fn print(text: &[u8]) {
+    io::write_all(STDOUT_FILENO, text);
+}
+
+// A blank and a number.
+pub fn print_number(x: usize) {
+    print(b" ");
+    io::print_decimal(STDOUT_FILENO, x as u64);
+}
+
+// A line with a name and a count.
+pub fn print_count(name: &[u8], count: usize) {
+    print(name);
+    print_number(count);
+    print(b"\n");
+}
+
+// The words of a reply, with a blank before each.
+pub fn print_refusal(refusal: Refusal) {
+    print(b" refused");
+    print_number(rules::number_of(refusal));
+    print_number(rules::place_of(refusal));
+}
+
+fn print_half(half: Half) {
+    match half {
+        Half::Clear => print(b" clear"),
+        Half::Suspect(node, set) => {
+            print_number(node);
+            print_number(set);
+        }
+    }
+}
+
+fn print_answer(answer: Answer) {
+    let settled = answer.settled;
+    let glitch = answer.glitch;
+    print(b" vars");
+    print_number(answer.variables);
+    print(b" nodes");
+    print_number(answer.nodes);
+    print(b" settled");
+    print_half(settled);
+    print(b" glitch");
+    print_half(glitch);
+}
+
+pub fn print_reply(reply: Reply) {
+    match reply {
+        Reply::Refused(refusal) => print_refusal(refusal),
+        Reply::Answered(answer) => print_answer(answer),
+    }
+}
