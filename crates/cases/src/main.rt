@@ -109,9 +109,12 @@ fn check(name: &[u8], masks: usize, inputs: usize, tail: &[u8]) {
     check_tail(name, masks, inputs, tail, 200, 51200);
 }
 
-fn kind_bytes() {
+fn unknown_kinds() {
     check(b"1, kind 255", 0, 0, b"\xff\x00");
     check(b"1 and not 3, kind 8 behind 200 nodes", 0, 200, b"\x08");
+}
+
+fn late_variables() {
     check(
         b"2, a variable after a node",
         0,
@@ -136,6 +139,9 @@ fn kind_bytes() {
         1,
         b"\x01\x03\x00",
     );
+}
+
+fn many_variables() {
     check(b"10 variables", 10, 0, b"\x00");
     check(b"3, 11 variables", 11, 0, b"\x00");
     check(
@@ -150,6 +156,9 @@ fn kind_bytes() {
         0,
         b"\x01\x03\x00",
     );
+}
+
+fn many_nodes() {
     check(b"200 nodes", 0, 200, b"\x00");
     check(b"3, 201 nodes", 0, 201, b"\x00");
     check(b"3 and not 4, the 201st node, cut short", 0, 200, b"\x05");
@@ -167,7 +176,7 @@ fn kind_bytes() {
     );
 }
 
-fn bodies() {
+fn cut_bodies() {
     check(b"4, no class", 0, 0, b"\x01");
     check(b"4, AND with one operand", 0, 0, b"\x05\x00");
     check(
@@ -182,6 +191,9 @@ fn bodies() {
         1,
         b"\x04\x07",
     );
+}
+
+fn classes_and_sets() {
     check(b"5, class 255", 0, 0, b"\x01\xff\x00");
     check(b"the set of all ten variables", 10, 0, b"\x02\xff\x03\x00");
     check(
@@ -196,11 +208,17 @@ fn bodies() {
         0,
         b"\x02\x00\x01\x00",
     );
+}
+
+fn operands() {
     check(b"7, NOT of itself", 0, 1, b"\x03\x01\x00");
     check(b"7, a register of itself", 0, 1, b"\x07\x01\x00");
     check(b"7, the first operand too high", 0, 1, b"\x06\x01\x00\x00");
     check(b"7, the second operand too high", 0, 1, b"\x06\x00\x01\x00");
     check(b"both operands equal", 0, 1, b"\x04\x00\x00\x00");
+}
+
+fn faulty_records() {
     check(
         b"6 and not 1, the first faulty record",
         0,
@@ -215,17 +233,20 @@ fn bodies() {
     );
 }
 
-fn ends() {
+fn missing_ends() {
     check(b"8, after a variable", 1, 0, b"");
     check(b"8, after 200 nodes", 0, 200, b"");
+}
+
+fn bytes_after_the_end() {
     check(b"9 and not 1, kind 8 after the end", 0, 0, b"\x00\x08");
     check(b"9, two bytes after the end", 0, 0, b"\x00\x00\x00");
     check(b"9, after 200 nodes", 0, 200, b"\x00\x01");
     check(b"1 and not 9, kind 8 before the end", 0, 0, b"\x08\x00\x00");
 }
 
-// Block A, of five nodes, in slices of other lengths.
-fn slices() {
+// Block A, of five nodes, in slices of several lengths.
+fn room_enough() {
     let a: &[u8] =
         b"\x01\x00\x01\x01\x01\x01\x02\x03\x00\x02\x02\x00\x02\x04\x00\x04\x00\x02\x04\x03\x01\x00";
     check_tail(b"5 nodes in 5 entries and 1280 bytes", 0, 0, a, 5, 1280);
@@ -237,11 +258,19 @@ fn slices() {
         200,
         51200,
     );
+}
+
+fn room_too_short() {
+    let a: &[u8] =
+        b"\x01\x00\x01\x01\x01\x01\x02\x03\x00\x02\x02\x00\x02\x04\x00\x04\x00\x02\x04\x03\x01\x00";
     check_tail(b"11, 1279 bytes", 0, 0, a, 5, 1279);
     check_tail(b"11, no bytes", 0, 0, a, 200, 0);
     check_tail(b"10, 4 entries", 0, 0, a, 4, 1280);
     check_tail(b"10 and not 11, 4 entries and 1279 bytes", 0, 0, a, 4, 1279);
     check_tail(b"10 and not 11, no entry and no byte", 0, 0, a, 0, 0);
+}
+
+fn reading_before_room() {
     check_tail(b"no node in no entry and no byte", 0, 0, b"\x00", 0, 0);
     check_tail(
         b"7 and not 10, no entry and no byte",
@@ -260,6 +289,9 @@ fn slices() {
         0,
         0,
     );
+}
+
+fn most_room() {
     check_tail(b"10, 200 nodes in 199 entries", 0, 200, b"\x00", 199, 51200);
     check_tail(b"11, 200 nodes in 51199 bytes", 0, 200, b"\x00", 200, 51199);
 }
@@ -332,17 +364,20 @@ fn ask_tail(name: &[u8], masks: usize, inputs: usize, tail: &[u8], node: usize, 
 }
 
 // Block A, whose node 4 is the exclusive-or of variables 0 and 2, and block B, whose register feeds node 5.
-fn answered_queries() {
+fn queries_of_block_a() {
     let a: &[u8] =
         b"\x01\x00\x01\x01\x01\x01\x02\x03\x00\x02\x02\x00\x02\x04\x00\x04\x00\x02\x04\x03\x01\x00";
-    let b: &[u8] =
-        b"\x01\x00\x01\x01\x01\x01\x02\x03\x00\x02\x02\x00\x02\x04\x00\x04\x00\x02\x07\x03\x04\x04\x01\x00";
     ask(b"block A, node 4, number 0", a, 4, 0);
     ask(b"block A, node 4, number 1", a, 4, 1);
     ask(b"block A, node 4, number 2", a, 4, 2);
     ask(b"block A, node 4, number 5", a, 4, 5);
     ask(b"block A, node 4, number 7", a, 4, 7);
     ask(b"block A, node 0, number 3", a, 0, 3);
+}
+
+fn queries_of_block_b() {
+    let b: &[u8] =
+        b"\x01\x00\x01\x01\x01\x01\x02\x03\x00\x02\x02\x00\x02\x04\x00\x04\x00\x02\x07\x03\x04\x04\x01\x00";
     ask(b"block B, node 3, number 7", b, 3, 7);
     ask(b"block B, node 4, number 7", b, 4, 7);
     ask(b"block B, node 5, number 5", b, 5, 5);
@@ -362,6 +397,11 @@ fn gate_values() {
     ask_value(gates, 4, 1);
     ask_value(gates, 5, 1);
     ask_value(gates, 6, 1);
+}
+
+fn gate_points() {
+    let gates: &[u8] =
+        b"\x01\x01\x01\x01\x02\x01\x00\x02\x02\x00\x03\x00\x04\x00\x01\x05\x00\x01\x06\x00\x01\x07\x00\x00";
     ask_points(gates, 2);
     ask_points(gates, 3);
     ask_points(gates, 4);
@@ -369,19 +409,25 @@ fn gate_values() {
     ask_points(gates, 6);
 }
 
-fn refused_queries() {
-    let a: &[u8] =
-        b"\x01\x00\x01\x01\x01\x01\x02\x03\x00\x02\x02\x00\x02\x04\x00\x04\x00\x02\x04\x03\x01\x00";
+fn early_refusals() {
     ask_tail(b"refusal 1", 0, 0, b"\x08", 0, 0);
     ask_tail(b"refusal 2", 0, 1, b"\x01\x00\x00", 0, 0);
     ask_tail(b"refusal 3", 11, 0, b"\x00", 0, 0);
     ask_tail(b"refusal 4", 0, 0, b"\x05\x00", 0, 0);
     ask_tail(b"refusal 5", 0, 0, b"\x01\x03\x00", 0, 0);
+}
+
+fn late_refusals() {
     ask_tail(b"refusal 6", 0, 0, b"\x02\x01\x00\x00", 0, 0);
     ask_tail(b"refusal 7", 0, 1, b"\x03\x01\x00", 0, 0);
     ask_tail(b"refusal 8", 0, 1, b"", 0, 0);
     ask_tail(b"refusal 9", 0, 1, b"\x00\x00", 0, 0);
     ask_tail(b"8 and not 12 or 13", 0, 1, b"", 1, 1);
+}
+
+fn queries_too_high() {
+    let a: &[u8] =
+        b"\x01\x00\x01\x01\x01\x01\x02\x03\x00\x02\x02\x00\x02\x04\x00\x04\x00\x02\x04\x03\x01\x00";
     ask(b"12, node 5 of five", a, 5, 7);
     ask(b"12 and not 13", a, 5, 8);
     ask(b"13, number 8 of three variables", a, 4, 8);
@@ -392,6 +438,9 @@ fn refused_queries() {
         18446744073709551615,
     );
     ask(b"the highest number", a, 0, 18446744073709551615);
+}
+
+fn queries_at_the_edge() {
     ask_tail(b"12, no node", 0, 0, b"\x00", 0, 0);
     ask_tail(b"13, no variable", 0, 1, b"\x00", 0, 1);
     ask_tail(b"13, ten variables", 10, 1, b"\x00", 0, 1024);
@@ -432,18 +481,37 @@ fn listings() {
     list(b"in just enough bytes", 0, 0, kinds, 105);
     list(b"in a byte too few", 0, 0, kinds, 104);
     list(b"in no byte", 0, 0, kinds, 0);
+}
+
+fn other_listings() {
     list(b"no node", 10, 0, b"\x00", 4000);
     list(b"a refusal", 0, 200, b"\x08", 4000);
     list(b"a refusal in a byte too few", 0, 200, b"\x08", 13);
 }
 
 fn main() {
-    kind_bytes();
-    bodies();
-    ends();
-    slices();
-    answered_queries();
+    unknown_kinds();
+    late_variables();
+    many_variables();
+    many_nodes();
+    cut_bodies();
+    classes_and_sets();
+    operands();
+    faulty_records();
+    missing_ends();
+    bytes_after_the_end();
+    room_enough();
+    room_too_short();
+    reading_before_room();
+    most_room();
+    queries_of_block_a();
+    queries_of_block_b();
     gate_values();
-    refused_queries();
+    gate_points();
+    early_refusals();
+    late_refusals();
+    queries_too_high();
+    queries_at_the_edge();
     listings();
+    other_listings();
 }

@@ -17,6 +17,13 @@ const NODES: usize = 12;
 
 const ASSIGNMENTS: usize = 32;
 
+// One slice of numbers has the values of each node under all assignments, then a node's patterns, then counts.
+const PATTERNS: usize = 384;
+
+const COUNTS: usize = 416;
+
+const STORE: usize = 448;
+
 // What was seen.
 struct Tally {
     blocks: usize,
@@ -29,25 +36,25 @@ struct Tally {
     contradictions: usize,
 }
 
-fn get(slice: &[u16], i: usize) -> usize {
-    second::get(slice, i)
-}
-
-fn put(slice: &mut [u16], i: usize, x: usize) {
-    if i < slice.len() {
-        slice[i] = (x % 65536) as u16;
+fn put(store: &mut [u16], i: usize, x: usize) {
+    if i < store.len() {
+        store[i] = (x % 65536) as u16;
     }
 }
 
 // ---- values and feeding points, by the queries
 
-// The values of one node under all assignments, as numbers 0 and 1 from `values[32 × node]` on.
-fn node_values(values: &mut [u16], bytes: &[u8], node: usize, assignments: usize) {
+fn value(store: &[u16], node: usize, x: usize) -> usize {
+    second::get(store, node % NODES * ASSIGNMENTS + x % ASSIGNMENTS)
+}
+
+// The values of one node under all assignments.
+fn node_values(store: &mut [u16], bytes: &[u8], node: usize, assignments: usize) {
     let mut x = 0;
     while x < assignments {
         let reply = queries::settled_value(bytes, node, x);
         put(
-            values,
+            store,
             node % NODES * ASSIGNMENTS + x % ASSIGNMENTS,
             one_if(reply.value),
         );
@@ -55,83 +62,87 @@ fn node_values(values: &mut [u16], bytes: &[u8], node: usize, assignments: usize
     }
 }
 
-fn all_values(values: &mut [u16], bytes: &[u8], count: usize, assignments: usize) {
+fn all_values(store: &mut [u16], bytes: &[u8], count: usize, assignments: usize) {
     let mut node = 0;
     while node < count {
-        node_values(values, bytes, node, assignments);
+        node_values(store, bytes, node, assignments);
         node += 1;
     }
 }
 
 // The values of the marked points under an assignment, as a number with a bit for each node.
-fn pattern(values: &[u16], marks: [bool; 200], x: usize) -> usize {
+fn pattern_of(store: &[u16], marks: [bool; 200], x: usize) -> usize {
     let mut bits = 0;
     let mut j = 0;
     while j < NODES {
         if marks[j] {
-            bits = bits | (get(values, j * ASSIGNMENTS + x % ASSIGNMENTS) << j);
+            bits = bits | (value(store, j, x) << j);
         }
         j += 1;
     }
     bits
 }
 
+fn pattern(store: &[u16], x: usize) -> usize {
+    second::get(store, PATTERNS + x % ASSIGNMENTS)
+}
+
 // The pattern of a node's feeding points under each assignment.
-fn node_patterns(
-    patterns: &mut [u16],
-    values: &[u16],
-    bytes: &[u8],
-    node: usize,
-    assignments: usize,
-) {
+fn node_patterns(store: &mut [u16], bytes: &[u8], node: usize, assignments: usize) {
     let reply = queries::feeding_points(bytes, node);
     let marks = reply.marks;
     let mut x = 0;
     while x < assignments {
-        put(patterns, x, pattern(values, marks, x));
+        let bits = pattern_of(store, marks, x);
+        put(store, PATTERNS + x % ASSIGNMENTS, bits);
         x += 1;
     }
 }
 
 // ---- counts
 
-fn clear(slice: &mut [u16]) {
-    let end = slice.len();
-    let mut k = 0;
-    while k < end {
-        put(slice, k, 0);
+// The count for a setting of the secrets, which is a number with bits of secrets only.
+fn count(store: &[u16], s: usize) -> usize {
+    second::get(store, COUNTS + s % ASSIGNMENTS)
+}
+
+fn no_counts(store: &mut [u16]) {
+    let mut k = COUNTS;
+    while k < STORE {
+        put(store, k, 0);
         k += 1;
     }
 }
 
 // Whether two assignments have the same pattern and the same publics, which are the variables that are neither secret nor masks.
-fn alike(patterns: &[u16], block: Block, x: usize, y: usize) -> bool {
-    get(patterns, x) == get(patterns, y) && (x ^ y) & (31 ^ (block.secrets | block.masks)) == 0
+fn alike(store: &[u16], block: Block, x: usize, y: usize) -> bool {
+    pattern(store, x) == pattern(store, y) && (x ^ y) & (31 ^ (block.secrets | block.masks)) == 0
 }
 
-fn count_mask(counts: &mut [u16], patterns: &[u16], block: Block, x: usize, y: usize) {
-    if alike(patterns, block, x, y) {
+fn count_mask(store: &mut [u16], block: Block, x: usize, y: usize) {
+    if alike(store, block, x, y) {
         let s = y & block.secrets;
-        put(counts, s, sum(get(counts, s), 1));
+        let more = sum(count(store, s), 1);
+        put(store, COUNTS + s % ASSIGNMENTS, more);
     }
 }
 
 // For each setting of the secrets the number of mask settings that give the pattern of assignment x beside its publics.
-fn count_masks(counts: &mut [u16], patterns: &[u16], block: Block, x: usize, assignments: usize) {
-    clear(counts);
+fn count_masks(store: &mut [u16], block: Block, x: usize, assignments: usize) {
+    no_counts(store);
     let mut y = 0;
     while y < assignments {
-        count_mask(counts, patterns, block, x, y);
+        count_mask(store, block, x, y);
         y += 1;
     }
 }
 
-// Whether the counts of two settings of the secrets differ. A setting is a number with bits of secrets only.
-fn counts_differ(counts: &[u16], block: Block, assignments: usize) -> bool {
+// Whether the counts of two settings of the secrets differ.
+fn counts_differ(store: &[u16], block: Block, assignments: usize) -> bool {
     let mut differ = false;
     let mut s = 0;
     while s < assignments {
-        if s & block.secrets == s && get(counts, s) != get(counts, 0) {
+        if s & block.secrets == s && count(store, s) != count(store, 0) {
             differ = true;
         }
         s += 1;
@@ -140,12 +151,12 @@ fn counts_differ(counts: &[u16], block: Block, assignments: usize) -> bool {
 }
 
 // Whether there is a pattern of the node whose counts differ. A pattern that no assignment gives has count 0 throughout.
-fn node_differs(counts: &mut [u16], patterns: &[u16], block: Block, assignments: usize) -> bool {
+fn node_differs(store: &mut [u16], block: Block, assignments: usize) -> bool {
     let mut differs = false;
     let mut x = 0;
     while x < assignments {
-        count_masks(counts, patterns, block, x, assignments);
-        differs = differs || counts_differ(counts, block, assignments);
+        count_masks(store, block, x, assignments);
+        differs = differs || counts_differ(store, block, assignments);
         x += 1;
     }
     differs
@@ -183,29 +194,16 @@ fn count_node(
     block: Block,
     node: usize,
     assignments: usize,
-    values: &[u16],
-    patterns: &mut [u16],
-    counts: &mut [u16],
+    store: &mut [u16],
 ) -> Counted {
     if !is_tested(block, node) {
         return counted;
     }
-    node_patterns(patterns, values, bytes, node, assignments);
-    with_node(
-        counted,
-        node,
-        node_differs(counts, patterns, block, assignments),
-    )
+    node_patterns(store, bytes, node, assignments);
+    with_node(counted, node, node_differs(store, block, assignments))
 }
 
-fn count_block(
-    bytes: &[u8],
-    block: Block,
-    assignments: usize,
-    values: &[u16],
-    patterns: &mut [u16],
-    counts: &mut [u16],
-) -> Counted {
+fn count_block(bytes: &[u8], block: Block, assignments: usize, store: &mut [u16]) -> Counted {
     let mut counted = Counted {
         tested: 0,
         differ: 0,
@@ -213,16 +211,7 @@ fn count_block(
     };
     let mut node = 0;
     while node < block.count {
-        counted = count_node(
-            counted,
-            bytes,
-            block,
-            node,
-            assignments,
-            values,
-            patterns,
-            counts,
-        );
+        counted = count_node(counted, bytes, block, node, assignments, store);
         node += 1;
     }
     counted
@@ -259,17 +248,11 @@ fn with_block(tally: Tally, suspect: usize, counted: Counted) -> Tally {
     next
 }
 
-fn try_block(
-    tally: Tally,
-    bytes: &[u8],
-    values: &mut [u16],
-    patterns: &mut [u16],
-    counts: &mut [u16],
-) -> Tally {
+fn try_block(tally: Tally, bytes: &[u8], store: &mut [u16]) -> Tally {
     let block = second::read(bytes);
     let assignments = 1usize << (block.variables % 16);
-    all_values(values, bytes, block.count, assignments);
-    let counted = count_block(bytes, block, assignments, values, patterns, counts);
+    all_values(store, bytes, block.count, assignments);
+    let counted = count_block(bytes, block, assignments, store);
     with_block(tally, suspect_node(bytes), counted)
 }
 
@@ -290,7 +273,7 @@ fn make(bytes: &mut [u8], seed: u32) -> generator::Made {
     )
 }
 
-fn run(bytes: &mut [u8], values: &mut [u16], patterns: &mut [u16], counts: &mut [u16]) -> Tally {
+fn run(bytes: &mut [u8], store: &mut [u16]) -> Tally {
     let mut tally = Tally {
         blocks: 0,
         clear: 0,
@@ -307,7 +290,7 @@ fn run(bytes: &mut [u8], values: &mut [u16], patterns: &mut [u16], counts: &mut 
         let made = make(bytes, seed);
         let n = least(made.length, bytes.len());
         seed = generator::next(made.seed);
-        tally = try_block(tally, &bytes[..n], values, patterns, counts);
+        tally = try_block(tally, &bytes[..n], store);
         turn += 1;
     }
     tally
@@ -315,24 +298,17 @@ fn run(bytes: &mut [u8], values: &mut [u16], patterns: &mut [u16], counts: &mut 
 
 // Node 3 is the AND of a mask and its opposite, so the register that holds it is always 0, and node 5 gives nothing away; but the
 // families cannot know that.
-fn false_alarm(
-    tally: Tally,
-    values: &mut [u16],
-    patterns: &mut [u16],
-    counts: &mut [u16],
-) -> Tally {
+fn false_alarm(tally: Tally, store: &mut [u16]) -> Tally {
     let block: &[u8] =
         b"\x01\x00\x01\x01\x02\x03\x00\x02\x02\x00\x03\x01\x05\x01\x02\x07\x03\x04\x00\x04\x00";
-    try_block(tally, block, values, patterns, counts)
+    try_block(tally, block, store)
 }
 
 fn main() {
     let mut bytes = [0u8; 1024];
-    let mut values = [0u16; 384];
-    let mut patterns = [0u16; ASSIGNMENTS];
-    let mut counts = [0u16; ASSIGNMENTS];
-    let random = run(&mut bytes, &mut values, &mut patterns, &mut counts);
-    let tally = false_alarm(random, &mut values, &mut patterns, &mut counts);
+    let mut store = [0u16; STORE];
+    let random = run(&mut bytes, &mut store);
+    let tally = false_alarm(random, &mut store);
     print_count(b"blocks", tally.blocks);
     print_count(b"clear for glitches", tally.clear);
     print_count(b"tested nodes of those", tally.clear_nodes);

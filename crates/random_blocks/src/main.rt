@@ -168,29 +168,22 @@ fn half_number(half: Half) -> usize {
     }
 }
 
-fn same_answer(answer: Answer, block: Block, lists: &[u16], lengths: &[u16]) -> bool {
+fn same_answer(answer: Answer, block: Block, store: &[u16]) -> bool {
     let settled = answer.settled;
     let glitch = answer.glitch;
     answer.variables == block.variables
         && answer.nodes == block.count
-        && half_number(settled) == second::first_suspect(block, lists, lengths, 0)
-        && half_number(glitch) == second::first_suspect(block, lists, lengths, 1)
+        && half_number(settled) == second::first_suspect(block, store, 0)
+        && half_number(glitch) == second::first_suspect(block, store, 1)
 }
 
-fn same_reply(
-    reply: Reply,
-    expected: Expected,
-    block: Block,
-    lists: &[u16],
-    lengths: &[u16],
-) -> bool {
+fn same_reply(reply: Reply, expected: Expected, block: Block, store: &[u16]) -> bool {
     match reply {
         Reply::Refused(refusal) => {
             rules::number_of(refusal) == expected.number
                 && rules::place_of(refusal) == expected.place
         }
-        Reply::Answered(answer) => expected.number == 0
-            && same_answer(answer, block, lists, lengths),
+        Reply::Answered(answer) => expected.number == 0 && same_answer(answer, block, store),
     }
 }
 
@@ -252,24 +245,24 @@ fn has_bit(work: &[u8], at: usize, set: usize) -> bool {
 }
 
 // The family at a place of the work bytes has just the sets of a list: all of them, and as many.
-fn same_family(work: &[u8], at: usize, lists: &[u16], lengths: &[u16], list: usize) -> bool {
-    let many = second::get(lengths, list);
+fn same_family(work: &[u8], at: usize, store: &[u16], list: usize) -> bool {
+    let many = second::length_of(store, list);
     let mut same = sets_at(work, at) == many;
     let mut k = 0;
     while k < many {
-        same = same && has_bit(work, at, second::set_at(lists, list, k));
+        same = same && has_bit(work, at, second::set_at(store, list, k));
         k += 1;
     }
     same
 }
 
-fn same_families(work: &[u8], lists: &[u16], lengths: &[u16], written: usize) -> bool {
+fn same_families(work: &[u8], store: &[u16], written: usize) -> bool {
     let mut same = true;
     let mut i = 0;
     while i < 200 {
         if i < written {
-            same = same && same_family(work, 256 * i, lists, lengths, i);
-            same = same && same_family(work, 256 * i + 128, lists, lengths, 200 + i);
+            same = same && same_family(work, 256 * i, store, i);
+            same = same && same_family(work, 256 * i + 128, store, 200 + i);
         }
         i += 1;
     }
@@ -277,11 +270,11 @@ fn same_families(work: &[u8], lists: &[u16], lengths: &[u16], written: usize) ->
 }
 
 // How many sets there are in the families of the block.
-fn all_sets(lengths: &[u16]) -> usize {
+fn all_sets(store: &[u16]) -> usize {
     let mut sets = 0;
     let mut k = 0;
     while k < second::LISTS {
-        sets = sum(sets, second::get(lengths, k));
+        sets = sum(sets, second::length_of(store, k));
         k += 1;
     }
     sets
@@ -299,25 +292,19 @@ fn same_outcome(outcome: QueryOutcome, expected: Expected) -> bool {
     }
 }
 
-fn same_value(
-    reply: ValueReply,
-    expected: Expected,
-    tables: &[u64],
-    node: usize,
-    x: usize,
-) -> bool {
+fn same_value(reply: ValueReply, expected: Expected, words: &[u64], node: usize, x: usize) -> bool {
     let outcome = reply.outcome;
     same_outcome(outcome, expected)
-        && reply.value == (expected.number == 0 && second::value(tables, node, x))
+        && reply.value == (expected.number == 0 && second::value(words, node, x))
 }
 
-fn same_points(reply: FeedingReply, expected: Expected, rows: &[u64], node: usize) -> bool {
+fn same_points(reply: FeedingReply, expected: Expected, words: &[u64], node: usize) -> bool {
     let outcome = reply.outcome;
     let marks = reply.marks;
     let mut same = same_outcome(outcome, expected);
     let mut j = 0;
     while j < 200 {
-        same = same && marks[j] == (expected.number == 0 && second::feeds(rows, node, j));
+        same = same && marks[j] == (expected.number == 0 && second::feeds(words, node, j));
         j += 1;
     }
     same
@@ -326,8 +313,7 @@ fn same_points(reply: FeedingReply, expected: Expected, rows: &[u64], node: usiz
 fn same_memberships(
     reply: MembershipReply,
     expected: Expected,
-    lists: &[u16],
-    lengths: &[u16],
+    store: &[u16],
     node: usize,
     set: usize,
 ) -> bool {
@@ -335,8 +321,8 @@ fn same_memberships(
     let answered = expected.number == 0;
     let list = node % 200;
     same_outcome(outcome, expected)
-        && reply.settled == (answered && second::has_set(lists, lengths, list, set))
-        && reply.glitch == (answered && second::has_set(lists, lengths, 200 + list, set))
+        && reply.settled == (answered && second::has_set(store, list, set))
+        && reply.glitch == (answered && second::has_set(store, 200 + list, set))
 }
 
 fn with_query(tally: Tally, expected: Expected, same: bool) -> Tally {
@@ -352,25 +338,21 @@ fn ask_value(
     tally: Tally,
     bytes: &[u8],
     block: Block,
-    tables: &[u64],
+    words: &[u64],
     node: usize,
     x: usize,
 ) -> Tally {
     let expected = expected_with(block, node, x);
     let reply = queries::settled_value(bytes, node, x);
-    let mut next = with_query(
-        tally,
-        expected,
-        same_value(reply, expected, tables, node, x),
-    );
+    let mut next = with_query(tally, expected, same_value(reply, expected, words, node, x));
     next.values = sum(next.values, one_if(reply.value));
     next
 }
 
-fn ask_points(tally: Tally, bytes: &[u8], block: Block, rows: &[u64], node: usize) -> Tally {
+fn ask_points(tally: Tally, bytes: &[u8], block: Block, words: &[u64], node: usize) -> Tally {
     let expected = expected_of(block, node);
     let reply = queries::feeding_points(bytes, node);
-    let mut next = with_query(tally, expected, same_points(reply, expected, rows, node));
+    let mut next = with_query(tally, expected, same_points(reply, expected, words, node));
     next.points = sum(next.points, one_if(expected.number == 0));
     next
 }
@@ -379,14 +361,13 @@ fn ask_memberships(
     tally: Tally,
     bytes: &[u8],
     block: Block,
-    lists: &[u16],
-    lengths: &[u16],
+    store: &[u16],
     node: usize,
     set: usize,
 ) -> Tally {
     let expected = expected_with(block, node, set);
     let reply = queries::memberships(bytes, node, set);
-    let same = same_memberships(reply, expected, lists, lengths, node, set);
+    let same = same_memberships(reply, expected, store, node, set);
     let mut next = with_query(tally, expected, same);
     next.members = sum(
         sum(next.members, one_if(reply.settled)),
@@ -401,16 +382,14 @@ fn ask_once(
     seed: u32,
     bytes: &[u8],
     block: Block,
-    lists: &[u16],
-    lengths: &[u16],
-    tables: &[u64],
-    rows: &[u64],
+    store: &[u16],
+    words: &[u64],
 ) -> Tally {
     let node = generator::pick(seed, block.count % 256 + 2);
     let number = generator::pick(generator::next(seed), 2usize << (block.variables % 16));
-    let first = ask_value(tally, bytes, block, tables, node, number);
-    let second = ask_points(first, bytes, block, rows, node);
-    ask_memberships(second, bytes, block, lists, lengths, node, number)
+    let first = ask_value(tally, bytes, block, words, node, number);
+    let second = ask_points(first, bytes, block, words, node);
+    ask_memberships(second, bytes, block, store, node, number)
 }
 
 fn after_two(seed: u32) -> u32 {
@@ -423,29 +402,27 @@ fn ask_all(
     seed: u32,
     bytes: &[u8],
     block: Block,
-    lists: &[u16],
-    lengths: &[u16],
-    tables: &[u64],
-    rows: &[u64],
+    store: &[u16],
+    words: &[u64],
 ) -> Tally {
     let second = after_two(seed);
     let third = after_two(second);
     let fourth = after_two(third);
-    let once = ask_once(tally, seed, bytes, block, lists, lengths, tables, rows);
-    let twice = ask_once(once, second, bytes, block, lists, lengths, tables, rows);
-    let thrice = ask_once(twice, third, bytes, block, lists, lengths, tables, rows);
-    ask_once(thrice, fourth, bytes, block, lists, lengths, tables, rows)
+    let once = ask_once(tally, seed, bytes, block, store, words);
+    let twice = ask_once(once, second, bytes, block, store, words);
+    let thrice = ask_once(twice, third, bytes, block, store, words);
+    ask_once(thrice, fourth, bytes, block, store, words)
 }
 
 // ---- one block
 
-fn with_answer(tally: Tally, block: Block, lists: &[u16], lengths: &[u16]) -> Tally {
+fn with_answer(tally: Tally, block: Block, store: &[u16]) -> Tally {
     let mut next = tally;
-    let settled = second::first_suspect(block, lists, lengths, 0);
-    let glitch = second::first_suspect(block, lists, lengths, 1);
+    let settled = second::first_suspect(block, store, 0);
+    let glitch = second::first_suspect(block, store, 1);
     next.answers = sum(tally.answers, 1);
     next.nodes = sum(tally.nodes, block.count);
-    next.sets = sum(tally.sets, all_sets(lengths));
+    next.sets = sum(tally.sets, all_sets(store));
     next.settled = sum(tally.settled, one_if(settled != second::NONE));
     next.glitch = sum(tally.glitch, one_if(glitch != second::NONE));
     next.clear = sum(tally.clear, one_if(glitch == second::NONE));
@@ -463,21 +440,14 @@ fn written_by(block: Block, expected: Expected) -> usize
 }
 
 // The reply, the entries and the work bytes after a check are as expected.
-fn same_check(
-    seen: Seen,
-    expected: Expected,
-    block: Block,
-    lists: &[u16],
-    lengths: &[u16],
-    work: &[u8],
-) -> bool {
+fn same_check(seen: Seen, expected: Expected, block: Block, store: &[u16], work: &[u8]) -> bool {
     let reply = seen.reply;
     let nodes = seen.nodes;
     let written = written_by(block, expected);
     let kept_from = 256 * written;
-    same_reply(reply, expected, block, lists, lengths)
+    same_reply(reply, expected, block, store)
         && same_entries(nodes, block, written)
-        && same_families(work, lists, lengths, written)
+        && same_families(work, store, written)
         && trial::work_kept_from(work) <= kept_from
 }
 
@@ -487,34 +457,26 @@ fn check_filled(bytes: &[u8], entries: usize, work: &mut [u8]) -> Seen {
     trial::check_over(bytes, entries, trial::entry_before(), work)
 }
 
-fn with_check(
-    tally: Tally,
-    expected: Expected,
-    same: bool,
-    block: Block,
-    lists: &[u16],
-    lengths: &[u16],
-) -> Tally {
+fn with_check(tally: Tally, expected: Expected, same: bool, block: Block, store: &[u16]) -> Tally {
     let next = with_difference(tally, same);
     if expected.number > 0 {
         return with_refused_check(next, expected.number);
     }
-    with_answer(next, block, lists, lengths)
+    with_answer(next, block, store)
 }
 
 fn compare_check(
     tally: Tally,
     bytes: &[u8],
     block: Block,
-    lists: &[u16],
-    lengths: &[u16],
+    store: &[u16],
     entries: usize,
     work: &mut [u8],
 ) -> Tally {
     let expected = expected_check(block, entries, work.len());
     let seen = check_filled(bytes, entries, work);
-    let same = same_check(seen, expected, block, lists, lengths, work);
-    with_check(tally, expected, same, block, lists, lengths)
+    let same = same_check(seen, expected, block, store, work);
+    with_check(tally, expected, same, block, store)
 }
 
 // How many variables and nodes a block has.
@@ -586,18 +548,11 @@ fn make(bytes: &mut [u8], seed: u32, turn: usize) -> Made {
 }
 
 // What the second checker says of a block.
-fn work_out(
-    bytes: &[u8],
-    lists: &mut [u16],
-    lengths: &mut [u16],
-    marks: &mut [u16],
-    tables: &mut [u64],
-    rows: &mut [u64],
-) -> Block {
+fn work_out(bytes: &[u8], store: &mut [u16], words: &mut [u64]) -> Block {
     let block = second::read(bytes);
-    second::families(block, lists, lengths, marks);
-    second::truth_tables(block, tables);
-    second::feeding_rows(block, rows);
+    second::families(block, store);
+    second::truth_tables(block, words);
+    second::feeding_rows(block, words);
     block
 }
 
@@ -607,13 +562,12 @@ fn compare_in(
     seed: u32,
     bytes: &[u8],
     block: Block,
-    lists: &[u16],
-    lengths: &[u16],
+    store: &[u16],
     work: &mut [u8],
 ) -> Tally {
     let entries = some_entries(seed, block.count);
     let m = some_work(generator::next(seed), block.count, work.len());
-    compare_check(tally, bytes, block, lists, lengths, entries, &mut work[..m])
+    compare_check(tally, bytes, block, store, entries, &mut work[..m])
 }
 
 fn with_block(tally: Tally) -> Tally {
@@ -628,23 +582,12 @@ fn compare_all(
     seed: u32,
     bytes: &[u8],
     block: Block,
-    lists: &[u16],
-    lengths: &[u16],
-    tables: &[u64],
-    rows: &[u64],
+    store: &[u16],
+    words: &[u64],
     work: &mut [u8],
 ) -> Tally {
-    let checked = compare_in(with_block(tally), seed, bytes, block, lists, lengths, work);
-    ask_all(
-        checked,
-        after_two(seed),
-        bytes,
-        block,
-        lists,
-        lengths,
-        tables,
-        rows,
-    )
+    let checked = compare_in(with_block(tally), seed, bytes, block, store, work);
+    ask_all(checked, after_two(seed), bytes, block, store, words)
 }
 
 // Compares all that both checkers say of a block.
@@ -652,25 +595,12 @@ fn compare(
     tally: Tally,
     seed: u32,
     bytes: &[u8],
-    lists: &mut [u16],
-    lengths: &mut [u16],
-    marks: &mut [u16],
-    tables: &mut [u64],
-    rows: &mut [u64],
+    store: &mut [u16],
+    words: &mut [u64],
     work: &mut [u8],
 ) -> Tally {
-    let block = work_out(bytes, lists, lengths, marks, tables, rows);
-    compare_all(
-        tally,
-        seed,
-        bytes,
-        block,
-        lists,
-        lengths,
-        tables,
-        rows,
-        work,
-    )
+    let block = work_out(bytes, store, words);
+    compare_all(tally, seed, bytes, block, store, words, work)
 }
 
 // The same of the block at the front of a slice.
@@ -678,11 +608,8 @@ fn compare_made(
     tally: Tally,
     made: Made,
     bytes: &[u8],
-    lists: &mut [u16],
-    lengths: &mut [u16],
-    marks: &mut [u16],
-    tables: &mut [u64],
-    rows: &mut [u64],
+    store: &mut [u16],
+    words: &mut [u64],
     work: &mut [u8],
 ) -> Tally {
     let n = least(made.length, bytes.len());
@@ -690,11 +617,8 @@ fn compare_made(
         tally,
         generator::next(made.seed),
         &bytes[..n],
-        lists,
-        lengths,
-        marks,
-        tables,
-        rows,
+        store,
+        words,
         work,
     )
 }
@@ -709,48 +633,27 @@ fn one_block(
     run: Run,
     turn: usize,
     bytes: &mut [u8],
-    lists: &mut [u16],
-    lengths: &mut [u16],
-    marks: &mut [u16],
-    tables: &mut [u64],
-    rows: &mut [u64],
+    store: &mut [u16],
+    words: &mut [u64],
     work: &mut [u8],
 ) -> Run {
     let tally = run.tally;
     let made = make(bytes, run.seed, turn);
     Run {
-        tally: compare_made(
-            tally,
-            made,
-            bytes,
-            lists,
-            lengths,
-            marks,
-            tables,
-            rows,
-            work,
-        ),
+        tally: compare_made(tally, made, bytes, store, words, work),
         seed: generator::next(made.seed),
     }
 }
 
 // All blocks.
-fn all_blocks(
-    bytes: &mut [u8],
-    lists: &mut [u16],
-    lengths: &mut [u16],
-    marks: &mut [u16],
-    tables: &mut [u64],
-    rows: &mut [u64],
-    work: &mut [u8],
-) -> Tally {
+fn all_blocks(bytes: &mut [u8], store: &mut [u16], words: &mut [u64], work: &mut [u8]) -> Tally {
     let mut run = Run {
         tally: no_tally(),
         seed: 1,
     };
     let mut turn = 0;
     while turn < BLOCKS {
-        run = one_block(run, turn, bytes, lists, lengths, marks, tables, rows, work);
+        run = one_block(run, turn, bytes, store, words, work);
         turn += 1;
     }
     run.tally
@@ -790,20 +693,9 @@ fn print_tally(tally: Tally) {
 
 fn main() {
     let mut bytes = [0u8; 1024];
-    let mut lists = [0u16; 409600];
-    let mut lengths = [0u16; 400];
-    let mut marks = [0u16; 1024];
-    let mut tables = [0u64; 3200];
-    let mut rows = [0u64; 800];
+    let mut store = [0u16; second::STORE];
+    let mut words = [0u64; second::WORDS];
     let mut work = [0u8; 51200];
-    let tally = all_blocks(
-        &mut bytes,
-        &mut lists,
-        &mut lengths,
-        &mut marks,
-        &mut tables,
-        &mut rows,
-        &mut work,
-    );
+    let tally = all_blocks(&mut bytes, &mut store, &mut words, &mut work);
     print_tally(tally);
 }

@@ -9,12 +9,23 @@ use rules::Node;
 // How many lists of sets there are, two a node, and the longest one.
 pub const LISTS: usize = 400;
 
-pub const LONGEST: usize = 1024;
+const LONGEST: usize = 1024;
 
-// The words of a node's truth table, and of its row of feeding points.
-pub const TABLE: usize = 16;
+// The families are in one slice of numbers: the lists, their lengths, and for each set the last list that it went to.
+const LENGTHS: usize = 409600;
 
-pub const ROW: usize = 4;
+const SEEN: usize = 410000;
+
+pub const STORE: usize = 411024;
+
+// The truth tables and the rows of feeding points are in one slice of words, 16 and then 4 to a node.
+const TABLE: usize = 16;
+
+const ROW: usize = 4;
+
+const ROWS: usize = 3200;
+
+pub const WORDS: usize = 4000;
 
 // No suspect: the number behind those of all pairs of node and set.
 pub const NONE: usize = 204800;
@@ -259,147 +270,129 @@ pub fn record_of(block: Block, i: usize) -> Node {
 
 // ---- families, as lists of sets: list i is the settled family of node i, and list 200 + i its glitch family
 
-// Puts a set behind those of a list, unless it is there: `seen` has for each set the last list, counted from 1, that it
-// went to.
-fn add(lists: &mut [u16], lengths: &mut [u16], seen: &mut [u16], list: usize, set: usize) {
-    let into = list % LISTS;
-    if get(seen, set) == into + 1 {
-        return;
-    }
-    let length = get(lengths, into) % LONGEST;
-    put(seen, set, into + 1);
-    put(lists, into * LONGEST + length, set);
-    put(lengths, into, length + 1);
+// How many sets a list has, and the set at a place of it.
+pub fn length_of(store: &[u16], list: usize) -> usize {
+    get(store, LENGTHS + list % LISTS)
 }
 
-// The set at a place of a list.
-pub fn set_at(lists: &[u16], list: usize, k: usize) -> usize {
-    get(lists, list % LISTS * LONGEST + k % LONGEST)
+pub fn set_at(store: &[u16], list: usize, k: usize) -> usize {
+    get(store, list % LISTS * LONGEST + k % LONGEST)
+}
+
+// Puts a set behind those of a list, unless it is there.
+fn add(store: &mut [u16], list: usize, set: usize) {
+    let into = list % LISTS;
+    let place = SEEN + set % LONGEST;
+    if get(store, place) == into + 1 {
+        return;
+    }
+    let length = get(store, LENGTHS + into) % LONGEST;
+    put(store, place, into + 1);
+    put(store, into * LONGEST + length, set);
+    put(store, LENGTHS + into, length + 1);
 }
 
 // Adds all sets of a list to another.
-fn add_all(lists: &mut [u16], lengths: &mut [u16], seen: &mut [u16], list: usize, from: usize) {
-    let many = get(lengths, from);
+fn add_all(store: &mut [u16], list: usize, from: usize) {
+    let many = length_of(store, from);
     let mut k = 0;
     while k < many {
-        let set = set_at(lists, from, k);
-        add(lists, lengths, seen, list, set);
+        let set = set_at(store, from, k);
+        add(store, list, set);
         k += 1;
     }
 }
 
 // Adds the symmetric differences of one set with all sets of a list.
-fn add_differences(
-    lists: &mut [u16],
-    lengths: &mut [u16],
-    seen: &mut [u16],
-    list: usize,
-    from: usize,
-    with: usize,
-) {
-    let many = get(lengths, from);
+fn add_differences(store: &mut [u16], list: usize, from: usize, with: usize) {
+    let many = length_of(store, from);
     let mut k = 0;
     while k < many {
-        let set = set_at(lists, from, k) ^ with;
-        add(lists, lengths, seen, list, set);
+        let set = set_at(store, from, k) ^ with;
+        add(store, list, set);
         k += 1;
     }
 }
 
 // Adds the product of two lists.
-fn add_product(
-    lists: &mut [u16],
-    lengths: &mut [u16],
-    seen: &mut [u16],
-    list: usize,
-    first: usize,
-    second: usize,
-) {
-    let many = get(lengths, second);
+fn add_product(store: &mut [u16], list: usize, first: usize, second: usize) {
+    let many = length_of(store, second);
     let mut k = 0;
     while k < many {
-        let with = set_at(lists, second, k);
-        add_differences(lists, lengths, seen, list, first, with);
+        let with = set_at(store, second, k);
+        add_differences(store, list, first, with);
         k += 1;
     }
 }
 
 // Adds the product, both lists and the empty set.
-fn add_spread(
-    lists: &mut [u16],
-    lengths: &mut [u16],
-    seen: &mut [u16],
-    list: usize,
-    first: usize,
-    second: usize,
-) {
-    add_product(lists, lengths, seen, list, first, second);
-    add_all(lists, lengths, seen, list, second);
-    add_all(lists, lengths, seen, list, first);
-    add(lists, lengths, seen, list, 0);
+fn add_spread(store: &mut [u16], list: usize, first: usize, second: usize) {
+    add_product(store, list, first, second);
+    add_all(store, list, second);
+    add_all(store, list, first);
+    add(store, list, 0);
 }
 
-fn settled_list(block: Block, lists: &mut [u16], lengths: &mut [u16], seen: &mut [u16], i: usize) {
+fn settled_list(block: Block, store: &mut [u16], i: usize) {
     let node = record_of(block, i);
     let kind = node.kind;
     let first = node.first as usize;
     let second = node.second as usize;
     match kind {
-        2 => add(lists, lengths, seen, i, wide(node.set)),
-        4 => add_product(lists, lengths, seen, i, first, second),
-        5 | 6 => add_spread(lists, lengths, seen, i, first, second),
-        _ => add_all(lists, lengths, seen, i, first),
+        2 => add(store, i, wide(node.set)),
+        4 => add_product(store, i, first, second),
+        5 | 6 => add_spread(store, i, first, second),
+        _ => add_all(store, i, first),
     }
 }
 
-fn glitch_list(block: Block, lists: &mut [u16], lengths: &mut [u16], seen: &mut [u16], i: usize) {
+fn glitch_list(block: Block, store: &mut [u16], i: usize) {
     let node = record_of(block, i);
     let kind = node.kind;
     let list = 200 + i % 200;
     let first = 200 + (node.first as usize);
     let second = 200 + (node.second as usize);
     match kind {
-        2 => add(lists, lengths, seen, list, wide(node.set)),
+        2 => add(store, list, wide(node.set)),
         3 => {
-            add(lists, lengths, seen, list, 0);
-            add_all(lists, lengths, seen, list, first);
+            add(store, list, 0);
+            add_all(store, list, first);
         }
-        7 => add_all(lists, lengths, seen, list, node.first as usize),
-        _ => add_spread(lists, lengths, seen, list, first, second),
+        7 => add_all(store, list, node.first as usize),
+        _ => add_spread(store, list, first, second),
     }
 }
 
-fn empty_all(slice: &mut [u16]) {
-    let end = slice.len();
-    let mut k = 0;
-    while k < end {
-        put(slice, k, 0);
+// Lists of no sets.
+fn empty_all(store: &mut [u16]) {
+    let mut k = LENGTHS;
+    while k < STORE {
+        put(store, k, 0);
         k += 1;
     }
 }
 
-fn settled_lists(block: Block, lists: &mut [u16], lengths: &mut [u16], seen: &mut [u16]) {
+fn settled_lists(block: Block, store: &mut [u16]) {
     let mut i = 0;
     while i < block.count {
-        settled_list(block, lists, lengths, seen, i);
+        settled_list(block, store, i);
         i += 1;
     }
 }
 
-fn glitch_lists(block: Block, lists: &mut [u16], lengths: &mut [u16], seen: &mut [u16]) {
+fn glitch_lists(block: Block, store: &mut [u16]) {
     let mut i = 0;
     while i < block.count {
-        glitch_list(block, lists, lengths, seen, i);
+        glitch_list(block, store, i);
         i += 1;
     }
 }
 
-// The families of all nodes. `lists` has room for 400 lists of 1,024 sets, `lengths` a number for each, and `seen` one for each set.
-pub fn families(block: Block, lists: &mut [u16], lengths: &mut [u16], seen: &mut [u16]) {
-    empty_all(lengths);
-    empty_all(seen);
-    settled_lists(block, lists, lengths, seen);
-    glitch_lists(block, lists, lengths, seen);
+// The families of all nodes.
+pub fn families(block: Block, store: &mut [u16]) {
+    empty_all(store);
+    settled_lists(block, store);
+    glitch_lists(block, store);
 }
 
 // ---- suspects
@@ -413,12 +406,12 @@ fn lower(a: usize, b: usize) -> usize {
 }
 
 // The lowest suspect set of a list, or 1,024.
-fn suspect_set(block: Block, lists: &[u16], lengths: &[u16], list: usize) -> usize {
-    let many = get(lengths, list);
+fn suspect_set(block: Block, store: &[u16], list: usize) -> usize {
+    let many = length_of(store, list);
     let mut lowest = LONGEST;
     let mut k = 0;
     while k < many {
-        let set = set_at(lists, list, k);
+        let set = set_at(store, list, k);
         if is_suspect(block, set) {
             lowest = lower(lowest, set);
         }
@@ -428,19 +421,12 @@ fn suspect_set(block: Block, lists: &[u16], lengths: &[u16], list: usize) -> usi
 }
 
 // The suspect of a node in a layer (settled 0, glitch 1) as 1,024 × node + set, or `other` where it has none.
-fn suspect_or(
-    block: Block,
-    lists: &[u16],
-    lengths: &[u16],
-    layer: usize,
-    i: usize,
-    other: usize,
-) -> usize {
+fn suspect_or(block: Block, store: &[u16], layer: usize, i: usize, other: usize) -> usize {
     let node = record_of(block, i);
     if node.kind == 2 {
         return other;
     }
-    let set = suspect_set(block, lists, lengths, layer % 2 * 200 + i % 200);
+    let set = suspect_set(block, store, layer % 2 * 200 + i % 200);
     if set < LONGEST {
         i % 200 * LONGEST + set
     } else {
@@ -449,23 +435,23 @@ fn suspect_or(
 }
 
 // The first suspect of a layer as 1,024 × node + set, or `NONE`: the last one found from the last node down.
-pub fn first_suspect(block: Block, lists: &[u16], lengths: &[u16], layer: usize) -> usize {
+pub fn first_suspect(block: Block, store: &[u16], layer: usize) -> usize {
     let mut found = NONE;
     let mut i = block.count;
     while 0 < i {
         i -= 1;
-        found = suspect_or(block, lists, lengths, layer, i, found);
+        found = suspect_or(block, store, layer, i, found);
     }
     found
 }
 
 // Whether a list has a set.
-pub fn has_set(lists: &[u16], lengths: &[u16], list: usize, set: usize) -> bool {
-    let many = get(lengths, list);
+pub fn has_set(store: &[u16], list: usize, set: usize) -> bool {
+    let many = length_of(store, list);
     let mut has = false;
     let mut k = 0;
     while k < many {
-        if set_at(lists, list, k) == set {
+        if set_at(store, list, k) == set {
             has = true;
         }
         k += 1;
@@ -508,11 +494,11 @@ fn input_word(set: usize, w: usize) -> u64 {
     word
 }
 
-fn table_word(block: Block, tables: &[u64], i: usize, w: usize) -> u64 {
+fn table_word(block: Block, words: &[u64], i: usize, w: usize) -> u64 {
     let node = record_of(block, i);
     let kind = node.kind;
-    let first = get_word(tables, (node.first as usize) * TABLE + w % TABLE);
-    let second = get_word(tables, (node.second as usize) * TABLE + w % TABLE);
+    let first = get_word(words, (node.first as usize) * TABLE + w % TABLE);
+    let second = get_word(words, (node.second as usize) * TABLE + w % TABLE);
     match kind {
         2 => input_word(wide(node.set), w),
         3 => first ^ ALL,
@@ -523,29 +509,29 @@ fn table_word(block: Block, tables: &[u64], i: usize, w: usize) -> u64 {
     }
 }
 
-// The truth tables of all nodes, 16 words to each.
-pub fn truth_tables(block: Block, tables: &mut [u64]) {
-    let count = block.count % 256 * TABLE;
+// The truth tables of all nodes.
+pub fn truth_tables(block: Block, words: &mut [u64]) {
+    let end = block.count % 256 * TABLE;
     let mut k = 0;
-    while k < count {
-        let word = table_word(block, tables, k / TABLE, k % TABLE);
-        put_word(tables, k, word);
+    while k < end {
+        let word = table_word(block, words, k / TABLE, k % TABLE);
+        put_word(words, k, word);
         k += 1;
     }
 }
 
 // A node's value under an assignment.
-pub fn value(tables: &[u64], i: usize, x: usize) -> bool {
-    (get_word(tables, i % 256 * TABLE + x / 64 % TABLE) >> (x % 64)) % 2 == 1
+pub fn value(words: &[u64], i: usize, x: usize) -> bool {
+    (get_word(words, i % 200 * TABLE + x / 64 % TABLE) >> (x % 64)) % 2 == 1
 }
 
 // ---- feeding points, as rows of bits: bit j mod 64 of word j / 64 is for node j
 
-fn row_word(block: Block, rows: &[u64], i: usize, w: usize) -> u64 {
+fn row_word(block: Block, words: &[u64], i: usize, w: usize) -> u64 {
     let node = record_of(block, i);
     let kind = node.kind;
-    let first = get_word(rows, (node.first as usize) * ROW + w % ROW);
-    let second = get_word(rows, (node.second as usize) * ROW + w % ROW);
+    let first = get_word(words, ROWS + (node.first as usize) * ROW + w % ROW);
+    let second = get_word(words, ROWS + (node.second as usize) * ROW + w % ROW);
     match kind {
         2 | 7 => own_word(i, w),
         3 => first,
@@ -557,18 +543,18 @@ fn own_word(i: usize, w: usize) -> u64 {
     if i / 64 == w { 1u64 << (i % 64) } else { 0 }
 }
 
-// The feeding points of all nodes, 4 words to each.
-pub fn feeding_rows(block: Block, rows: &mut [u64]) {
-    let count = block.count % 256 * ROW;
+// The feeding points of all nodes.
+pub fn feeding_rows(block: Block, words: &mut [u64]) {
+    let end = block.count % 256 * ROW;
     let mut k = 0;
-    while k < count {
-        let word = row_word(block, rows, k / ROW, k % ROW);
-        put_word(rows, k, word);
+    while k < end {
+        let word = row_word(block, words, k / ROW, k % ROW);
+        put_word(words, ROWS + k, word);
         k += 1;
     }
 }
 
 // Whether node j is a feeding point of node i.
-pub fn feeds(rows: &[u64], i: usize, j: usize) -> bool {
-    (get_word(rows, i % 256 * ROW + j / 64 % ROW) >> (j % 64)) % 2 == 1
+pub fn feeds(words: &[u64], i: usize, j: usize) -> bool {
+    (get_word(words, ROWS + i % 200 * ROW + j / 64 % ROW) >> (j % 64)) % 2 == 1
 }

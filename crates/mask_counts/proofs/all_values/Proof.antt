@@ -7,10 +7,10 @@ use Rattle.mask_counts.proofs.all_values.Statement.{statement}
 use Rattle.mask_counts.proofs.all_values.Tie as tie
 
 abbrev Inv-loop : tie.InvT-loop
-Inv-loop values₀ bytes count assignments node₀ values node = (length values ≡ length values₀)
+Inv-loop store₀ bytes count assignments node₀ store node = length store ≡ length store₀
 
 abbrev μ-loop : tie.MeasureT-loop
-μ-loop values₀ bytes count assignments node₀ values node = count - node
+μ-loop store₀ bytes count assignments node₀ store node = count - node
 
 loop-holds : tie.Need-loop-holds Inv-loop μ-loop
 loop-holds c = search needs

@@ -1,4 +1,4 @@
--- `mask_counts::count_block` is safe and ends: each turn leaves fewer nodes, and the slices keep their lengths. Assumes nothing.
+-- `mask_counts::count_block` is safe and ends: each turn leaves fewer nodes, and the slice keeps its length. Assumes nothing.
 use borrow.Author.Needs.{needs}
 use mathlib.Core.Path.{_≡_}
 use Prim.Native.Nat.{_-_}
@@ -7,12 +7,10 @@ use Rattle.mask_counts.proofs.count_block.Statement.{statement}
 use Rattle.mask_counts.proofs.count_block.Tie as tie
 
 abbrev Inv-loop : tie.InvT-loop
-Inv-loop bytes block assignments values patterns₀ counts₀ counted₀ node₀ patterns counts counted node =
-    (length patterns ≡ length patterns₀) × (length counts ≡ length counts₀)
+Inv-loop bytes block assignments store₀ counted₀ node₀ store counted node = length store ≡ length store₀
 
 abbrev μ-loop : tie.MeasureT-loop
-μ-loop bytes block assignments values patterns₀ counts₀ counted₀ node₀ patterns counts counted node =
-    block .count - node
+μ-loop bytes block assignments store₀ counted₀ node₀ store counted node = block .count - node
 
 loop-holds : tie.Need-loop-holds Inv-loop μ-loop
 loop-holds c = search needs
@@ -32,9 +30,6 @@ loop-again c = search needs
 same-length : tie.Need-same-length Inv-loop μ-loop
 same-length c = search needs
 
-same-length-2 : tie.Need-same-length-2 Inv-loop μ-loop
-same-length-2 c = search needs
-
 returns : tie.Need-returns Inv-loop μ-loop
 returns c = search needs
 
@@ -50,5 +45,4 @@ count-block-spec =
     loop-less
     loop-again
     same-length
-    same-length-2
     returns)

@@ -7,13 +7,13 @@ use Rattle.mask_counts.proofs.count_masks.Statement.{statement}
 use Rattle.mask_counts.proofs.count_masks.Tie as tie
 
 abbrev Inv-loop : tie.InvT-loop
-Inv-loop counts₀ patterns block x assignments y₀ counts y = (length counts ≡ length counts₀)
+Inv-loop store₀ block x assignments y₀ store y = length store ≡ length store₀
 
 abbrev μ-loop : tie.MeasureT-loop
-μ-loop counts₀ patterns block x assignments y₀ counts y = assignments - y
+μ-loop store₀ block x assignments y₀ store y = assignments - y
 
-clear-requires : tie.Need-clear-requires Inv-loop μ-loop
-clear-requires c κs = search needs
+no-counts-requires : tie.Need-no-counts-requires Inv-loop μ-loop
+no-counts-requires c κs = search needs
 
 loop-holds : tie.Need-loop-holds Inv-loop μ-loop
 loop-holds c = search needs
@@ -42,7 +42,7 @@ count-masks-spec =
     (tie.spec
     Inv-loop
     μ-loop
-    clear-requires
+    no-counts-requires
     loop-holds
     count-mask-requires
     add-y

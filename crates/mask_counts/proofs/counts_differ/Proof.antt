@@ -5,19 +5,19 @@ use Rattle.mask_counts.proofs.counts_differ.Statement.{statement}
 use Rattle.mask_counts.proofs.counts_differ.Tie as tie
 
 abbrev Inv-loop : tie.InvT-loop
-Inv-loop counts block assignments differ₀ s₀ differ s = Unit
+Inv-loop store block assignments differ₀ s₀ differ s = Unit
 
 abbrev μ-loop : tie.MeasureT-loop
-μ-loop counts block assignments differ₀ s₀ differ s = assignments - s
+μ-loop store block assignments differ₀ s₀ differ s = assignments - s
 
 loop-holds : tie.Need-loop-holds Inv-loop μ-loop
 loop-holds c = search needs
 
-get-requires : tie.Need-get-requires Inv-loop μ-loop
-get-requires c κs = search needs
+count-requires : tie.Need-count-requires Inv-loop μ-loop
+count-requires c κs = search needs
 
-get-requires-2 : tie.Need-get-requires-2 Inv-loop μ-loop
-get-requires-2 c κs = search needs
+count-requires-2 : tie.Need-count-requires-2 Inv-loop μ-loop
+count-requires-2 c κs = search needs
 
 add-s : tie.Need-add-s Inv-loop μ-loop
 add-s c = search needs
@@ -38,8 +38,8 @@ counts-differ-spec =
     Inv-loop
     μ-loop
     loop-holds
-    get-requires
-    get-requires-2
+    count-requires
+    count-requires-2
     add-s
     loop-less
     loop-again

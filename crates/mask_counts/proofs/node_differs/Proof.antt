@@ -7,10 +7,10 @@ use Rattle.mask_counts.proofs.node_differs.Statement.{statement}
 use Rattle.mask_counts.proofs.node_differs.Tie as tie
 
 abbrev Inv-loop : tie.InvT-loop
-Inv-loop counts₀ patterns block assignments differs₀ x₀ counts differs x = (length counts ≡ length counts₀)
+Inv-loop store₀ block assignments differs₀ x₀ store differs x = length store ≡ length store₀
 
 abbrev μ-loop : tie.MeasureT-loop
-μ-loop counts₀ patterns block assignments differs₀ x₀ counts differs x = assignments - x
+μ-loop store₀ block assignments differs₀ x₀ store differs x = assignments - x
 
 loop-holds : tie.Need-loop-holds Inv-loop μ-loop
 loop-holds c = search needs

@@ -7,10 +7,10 @@ use Rattle.mask_counts.proofs.node_patterns.Statement.{statement}
 use Rattle.mask_counts.proofs.node_patterns.Tie as tie
 
 abbrev Inv-loop : tie.InvT-loop
-Inv-loop patterns₀ values bytes node assignments marks x₀ patterns x = (length patterns ≡ length patterns₀)
+Inv-loop store₀ bytes node assignments marks x₀ store x = length store ≡ length store₀
 
 abbrev μ-loop : tie.MeasureT-loop
-μ-loop patterns₀ values bytes node assignments marks x₀ patterns x = assignments - x
+μ-loop store₀ bytes node assignments marks x₀ store x = assignments - x
 
 feeding-points-requires : tie.Need-feeding-points-requires Inv-loop μ-loop
 feeding-points-requires c κs = search needs
@@ -18,8 +18,11 @@ feeding-points-requires c κs = search needs
 loop-holds : tie.Need-loop-holds Inv-loop μ-loop
 loop-holds c = search needs
 
-pattern-requires : tie.Need-pattern-requires Inv-loop μ-loop
-pattern-requires c κs = search needs
+pattern-of-requires : tie.Need-pattern-of-requires Inv-loop μ-loop
+pattern-of-requires c κs = search needs
+
+add-put : tie.Need-add-put Inv-loop μ-loop
+add-put c = search needs
 
 put-requires : tie.Need-put-requires Inv-loop μ-loop
 put-requires c κs = search needs
@@ -47,7 +50,8 @@ node-patterns-spec =
     μ-loop
     feeding-points-requires
     loop-holds
-    pattern-requires
+    pattern-of-requires
+    add-put
     put-requires
     add-x
     loop-less

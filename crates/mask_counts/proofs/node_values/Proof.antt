@@ -7,10 +7,10 @@ use Rattle.mask_counts.proofs.node_values.Statement.{statement}
 use Rattle.mask_counts.proofs.node_values.Tie as tie
 
 abbrev Inv-loop : tie.InvT-loop
-Inv-loop values₀ bytes node assignments x₀ values x = (length values ≡ length values₀)
+Inv-loop store₀ bytes node assignments x₀ store x = length store ≡ length store₀
 
 abbrev μ-loop : tie.MeasureT-loop
-μ-loop values₀ bytes node assignments x₀ values x = assignments - x
+μ-loop store₀ bytes node assignments x₀ store x = assignments - x
 
 loop-holds : tie.Need-loop-holds Inv-loop μ-loop
 loop-holds c = search needs

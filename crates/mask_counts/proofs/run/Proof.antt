@@ -9,12 +9,10 @@ use Rattle.mask_counts.proofs.run.Statement.{statement}
 use Rattle.mask_counts.proofs.run.Tie as tie
 
 abbrev Inv-loop : tie.InvT-loop
-Inv-loop bytes₀ values₀ patterns₀ counts₀ tally₀ seed₀ turn₀ bytes values patterns counts tally seed turn =
-    (turn ≤ 1500) × (length bytes ≡ length bytes₀) × (length values ≡ length values₀) × (length patterns ≡ length patterns₀) × (length counts ≡ length counts₀)
+Inv-loop bytes₀ store₀ tally₀ seed₀ turn₀ bytes store tally seed turn = (turn ≤ 1500) × (length bytes ≡ length bytes₀) × (length store ≡ length store₀)
 
 abbrev μ-loop : tie.MeasureT-loop
-μ-loop bytes₀ values₀ patterns₀ counts₀ tally₀ seed₀ turn₀ bytes values patterns counts tally seed turn =
-    1500 - turn
+μ-loop bytes₀ store₀ tally₀ seed₀ turn₀ bytes store tally seed turn = 1500 - turn
 
 loop-holds : tie.Need-loop-holds Inv-loop μ-loop
 loop-holds c = search needs
@@ -52,12 +50,6 @@ same-length c = search needs
 same-length-2 : tie.Need-same-length-2 Inv-loop μ-loop
 same-length-2 c = search needs
 
-same-length-3 : tie.Need-same-length-3 Inv-loop μ-loop
-same-length-3 c = search needs
-
-same-length-4 : tie.Need-same-length-4 Inv-loop μ-loop
-same-length-4 c = search needs
-
 returns : tie.Need-returns Inv-loop μ-loop
 returns c = search needs
 
@@ -79,6 +71,4 @@ run-spec =
     loop-again
     same-length
     same-length-2
-    same-length-3
-    same-length-4
     returns)

@@ -7,12 +7,10 @@ use Rattle.random_blocks.proofs.all_blocks.Statement.{statement}
 use Rattle.random_blocks.proofs.all_blocks.Tie as tie
 
 abbrev Inv-loop : tie.InvT-loop
-Inv-loop bytes₀ lists₀ lengths₀ marks₀ tables₀ rows₀ work₀ run₀ turn₀ bytes lists lengths marks tables rows work run turn =
-    (turn ≤ 4000) × (length bytes ≡ length bytes₀) × (length lists ≡ length lists₀) × (length lengths ≡ length lengths₀) × (length marks ≡ length marks₀) × (length tables ≡ length tables₀) × (length rows ≡ length rows₀) × (length work ≡ length work₀)
+Inv-loop bytes₀ store₀ words₀ work₀ run₀ turn₀ bytes store words work run turn = (turn ≤ 4000) × (length bytes ≡ length bytes₀) × (length store ≡ length store₀) × (length words ≡ length words₀) × (length work ≡ length work₀)
 
 abbrev μ-loop : tie.MeasureT-loop
-μ-loop bytes₀ lists₀ lengths₀ marks₀ tables₀ rows₀ work₀ run₀ turn₀ bytes lists lengths marks tables rows work run turn =
-    4000 - turn
+μ-loop bytes₀ store₀ words₀ work₀ run₀ turn₀ bytes store words work run turn = 4000 - turn
 
 no-tally-requires : tie.Need-no-tally-requires Inv-loop μ-loop
 no-tally-requires c κs = search needs
@@ -44,15 +42,6 @@ same-length-3 c = search needs
 same-length-4 : tie.Need-same-length-4 Inv-loop μ-loop
 same-length-4 c = search needs
 
-same-length-5 : tie.Need-same-length-5 Inv-loop μ-loop
-same-length-5 c = search needs
-
-same-length-6 : tie.Need-same-length-6 Inv-loop μ-loop
-same-length-6 c = search needs
-
-same-length-7 : tie.Need-same-length-7 Inv-loop μ-loop
-same-length-7 c = search needs
-
 returns : tie.Need-returns Inv-loop μ-loop
 returns c = search needs
 
@@ -72,7 +61,4 @@ all-blocks-spec =
     same-length-2
     same-length-3
     same-length-4
-    same-length-5
-    same-length-6
-    same-length-7
     returns)

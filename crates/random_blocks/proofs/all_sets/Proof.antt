@@ -5,16 +5,16 @@ use Rattle.random_blocks.proofs.all_sets.Statement.{statement}
 use Rattle.random_blocks.proofs.all_sets.Tie as tie
 
 abbrev Inv-loop : tie.InvT-loop
-Inv-loop lengths sets₀ k₀ sets k = k ≤ 400
+Inv-loop store sets₀ k₀ sets k = k ≤ 400
 
 abbrev μ-loop : tie.MeasureT-loop
-μ-loop lengths sets₀ k₀ sets k = 400 - k
+μ-loop store sets₀ k₀ sets k = 400 - k
 
 loop-holds : tie.Need-loop-holds Inv-loop μ-loop
 loop-holds c = search needs
 
-get-requires : tie.Need-get-requires Inv-loop μ-loop
-get-requires c κs = search needs
+length-of-requires : tie.Need-length-of-requires Inv-loop μ-loop
+length-of-requires c κs = search needs
 
 sum-requires : tie.Need-sum-requires Inv-loop μ-loop
 sum-requires c κs = search needs
@@ -38,7 +38,7 @@ all-sets-spec =
     Inv-loop
     μ-loop
     loop-holds
-    get-requires
+    length-of-requires
     sum-requires
     add-k
     loop-less

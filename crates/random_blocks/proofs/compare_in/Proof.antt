@@ -1,4 +1,4 @@
--- `random_blocks::compare_in` is safe and ends: the part of the work bytes is no longer than they are. Assumes nothing.
+-- `random_blocks::compare_in` is safe and ends: no part is longer than the slice that it is of. Assumes nothing.
 use mathlib.Core.Path.{sym}
 use native.Mathlib.Omega.{arith}
 use lib.Seq.{length-take-le}

@@ -5,10 +5,10 @@ use Rattle.random_blocks.proofs.same_families.Statement.{statement}
 use Rattle.random_blocks.proofs.same_families.Tie as tie
 
 abbrev Inv-loop : tie.InvT-loop
-Inv-loop work lists lengths written same₀ i₀ same i = i ≤ 200
+Inv-loop work store written same₀ i₀ same i = i ≤ 200
 
 abbrev μ-loop : tie.MeasureT-loop
-μ-loop work lists lengths written same₀ i₀ same i = 200 - i
+μ-loop work store written same₀ i₀ same i = 200 - i
 
 loop-holds : tie.Need-loop-holds Inv-loop μ-loop
 loop-holds c = search needs

@@ -5,13 +5,13 @@ use Rattle.random_blocks.proofs.same_family.Statement.{statement}
 use Rattle.random_blocks.proofs.same_family.Tie as tie
 
 abbrev Inv-loop : tie.InvT-loop
-Inv-loop work at lists lengths list many same₀ k₀ same k = Unit
+Inv-loop work at store list many same₀ k₀ same k = Unit
 
 abbrev μ-loop : tie.MeasureT-loop
-μ-loop work at lists lengths list many same₀ k₀ same k = many - k
+μ-loop work at store list many same₀ k₀ same k = many - k
 
-get-requires : tie.Need-get-requires Inv-loop μ-loop
-get-requires c κs = search needs
+length-of-requires : tie.Need-length-of-requires Inv-loop μ-loop
+length-of-requires c κs = search needs
 
 sets-at-requires : tie.Need-sets-at-requires Inv-loop μ-loop
 sets-at-requires c κs = search needs
@@ -43,7 +43,7 @@ same-family-spec =
     (tie.spec
     Inv-loop
     μ-loop
-    get-requires
+    length-of-requires
     sets-at-requires
     loop-holds
     set-at-requires

@@ -5,10 +5,10 @@ use Rattle.random_blocks.proofs.same_points.Statement.{statement}
 use Rattle.random_blocks.proofs.same_points.Tie as tie
 
 abbrev Inv-loop : tie.InvT-loop
-Inv-loop expected rows node marks same₀ j₀ same j = j ≤ 200
+Inv-loop expected words node marks same₀ j₀ same j = j ≤ 200
 
 abbrev μ-loop : tie.MeasureT-loop
-μ-loop expected rows node marks same₀ j₀ same j = 200 - j
+μ-loop expected words node marks same₀ j₀ same j = 200 - j
 
 same-outcome-requires : tie.Need-same-outcome-requires Inv-loop μ-loop
 same-outcome-requires c κs = search needs

@@ -1,16 +1,16 @@
 -- `second::empty_all` is safe and ends: each turn leaves less of the slice. Assumes nothing.
 use borrow.Author.Needs.{needs}
 use mathlib.Core.Path.{_≡_}
-use Prim.Native.Nat.{_-_}
+use Prim.Native.Nat.{_-_, _≤_}
 use lib.ListN.{length}
 use Rattle.second.proofs.empty_all.Statement.{statement}
 use Rattle.second.proofs.empty_all.Tie as tie
 
 abbrev Inv-loop : tie.InvT-loop
-Inv-loop slice₀ end k₀ slice k = (length slice ≡ length slice₀)
+Inv-loop store₀ k₀ store k = (k ≤ 411024) × (length store ≡ length store₀)
 
 abbrev μ-loop : tie.MeasureT-loop
-μ-loop slice₀ end k₀ slice k = end - k
+μ-loop store₀ k₀ store k = 411024 - k
 
 loop-holds : tie.Need-loop-holds Inv-loop μ-loop
 loop-holds c = search needs

@@ -1,25 +1,28 @@
 -- `second::feeding_rows` is safe and ends: each turn leaves fewer words. Assumes nothing.
 use borrow.Author.Needs.{needs}
 use mathlib.Core.Path.{_≡_}
-use Prim.Native.Nat.{_-_}
+use Prim.Native.Nat.{_-_, _≤_}
 use lib.ListN.{length}
 use Rattle.second.proofs.feeding_rows.Statement.{statement}
 use Rattle.second.proofs.feeding_rows.Tie as tie
 
 abbrev Inv-loop : tie.InvT-loop
-Inv-loop block rows₀ count k₀ rows k = (length rows ≡ length rows₀)
+Inv-loop block words₀ end k₀ words k = (k ≤ end) × (length words ≡ length words₀)
 
 abbrev μ-loop : tie.MeasureT-loop
-μ-loop block rows₀ count k₀ rows k = count - k
+μ-loop block words₀ end k₀ words k = end - k
 
-mul-count : tie.Need-mul-count Inv-loop μ-loop
-mul-count c = search needs
+mul-end : tie.Need-mul-end Inv-loop μ-loop
+mul-end c = search needs
 
 loop-holds : tie.Need-loop-holds Inv-loop μ-loop
 loop-holds c = search needs
 
 row-word-requires : tie.Need-row-word-requires Inv-loop μ-loop
 row-word-requires c κs = search needs
+
+add-put-word : tie.Need-add-put-word Inv-loop μ-loop
+add-put-word c = search needs
 
 put-word-requires : tie.Need-put-word-requires Inv-loop μ-loop
 put-word-requires c κs = search needs
@@ -45,9 +48,10 @@ feeding-rows-spec =
     (tie.spec
     Inv-loop
     μ-loop
-    mul-count
+    mul-end
     loop-holds
     row-word-requires
+    add-put-word
     put-word-requires
     add-k
     loop-less

@@ -4,10 +4,10 @@ use Rattle.second.proofs.first_suspect.Statement.{statement}
 use Rattle.second.proofs.first_suspect.Tie as tie
 
 abbrev Inv-loop : tie.InvT-loop
-Inv-loop block lists lengths layer found₀ i₀ found i = Unit
+Inv-loop block store layer found₀ i₀ found i = Unit
 
 abbrev μ-loop : tie.MeasureT-loop
-μ-loop block lists lengths layer found₀ i₀ found i = i
+μ-loop block store layer found₀ i₀ found i = i
 
 loop-holds : tie.Need-loop-holds Inv-loop μ-loop
 loop-holds c = search needs

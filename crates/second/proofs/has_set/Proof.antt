@@ -5,13 +5,13 @@ use Rattle.second.proofs.has_set.Statement.{statement}
 use Rattle.second.proofs.has_set.Tie as tie
 
 abbrev Inv-loop : tie.InvT-loop
-Inv-loop lists lengths list set many has₀ k₀ has k = Unit
+Inv-loop store list set many has₀ k₀ has k = Unit
 
 abbrev μ-loop : tie.MeasureT-loop
-μ-loop lists lengths list set many has₀ k₀ has k = many - k
+μ-loop store list set many has₀ k₀ has k = many - k
 
-get-requires : tie.Need-get-requires Inv-loop μ-loop
-get-requires c κs = search needs
+length-of-requires : tie.Need-length-of-requires Inv-loop μ-loop
+length-of-requires c κs = search needs
 
 loop-holds : tie.Need-loop-holds Inv-loop μ-loop
 loop-holds c = search needs
@@ -37,7 +37,7 @@ has-set-spec =
     (tie.spec
     Inv-loop
     μ-loop
-    get-requires
+    length-of-requires
     loop-holds
     set-at-requires
     add-k

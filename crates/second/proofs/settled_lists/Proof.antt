@@ -1,4 +1,4 @@
--- `second::settled_lists` is safe and ends: each turn leaves fewer nodes, and the slices keep their lengths. Assumes nothing.
+-- `second::settled_lists` is safe and ends: each turn leaves fewer nodes, and the slice keeps its length. Assumes nothing.
 use borrow.Author.Needs.{needs}
 use mathlib.Core.Path.{_≡_}
 use Prim.Native.Nat.{_-_}
@@ -7,10 +7,10 @@ use Rattle.second.proofs.settled_lists.Statement.{statement}
 use Rattle.second.proofs.settled_lists.Tie as tie
 
 abbrev Inv-loop : tie.InvT-loop
-Inv-loop block lists₀ lengths₀ seen₀ i₀ lists lengths seen i = (length lists ≡ length lists₀) × (length lengths ≡ length lengths₀) × (length seen ≡ length seen₀)
+Inv-loop block store₀ i₀ store i = length store ≡ length store₀
 
 abbrev μ-loop : tie.MeasureT-loop
-μ-loop block lists₀ lengths₀ seen₀ i₀ lists lengths seen i = block .count - i
+μ-loop block store₀ i₀ store i = block .count - i
 
 loop-holds : tie.Need-loop-holds Inv-loop μ-loop
 loop-holds c = search needs
@@ -30,12 +30,6 @@ loop-again c = search needs
 same-length : tie.Need-same-length Inv-loop μ-loop
 same-length c = search needs
 
-same-length-2 : tie.Need-same-length-2 Inv-loop μ-loop
-same-length-2 c = search needs
-
-same-length-3 : tie.Need-same-length-3 Inv-loop μ-loop
-same-length-3 c = search needs
-
 returns : tie.Need-returns Inv-loop μ-loop
 returns c = search needs
 
@@ -51,6 +45,4 @@ settled-lists-spec =
     loop-less
     loop-again
     same-length
-    same-length-2
-    same-length-3
     returns)

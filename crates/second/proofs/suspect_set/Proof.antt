@@ -5,13 +5,13 @@ use Rattle.second.proofs.suspect_set.Statement.{statement}
 use Rattle.second.proofs.suspect_set.Tie as tie
 
 abbrev Inv-loop : tie.InvT-loop
-Inv-loop block lists lengths list many lowest₀ k₀ lowest k = Unit
+Inv-loop block store list many lowest₀ k₀ lowest k = Unit
 
 abbrev μ-loop : tie.MeasureT-loop
-μ-loop block lists lengths list many lowest₀ k₀ lowest k = many - k
+μ-loop block store list many lowest₀ k₀ lowest k = many - k
 
-get-requires : tie.Need-get-requires Inv-loop μ-loop
-get-requires c κs = search needs
+length-of-requires : tie.Need-length-of-requires Inv-loop μ-loop
+length-of-requires c κs = search needs
 
 loop-holds : tie.Need-loop-holds Inv-loop μ-loop
 loop-holds c = search needs
@@ -43,7 +43,7 @@ suspect-set-spec =
     (tie.spec
     Inv-loop
     μ-loop
-    get-requires
+    length-of-requires
     loop-holds
     set-at-requires
     is-suspect-requires

@@ -7,13 +7,13 @@ use Rattle.second.proofs.truth_tables.Statement.{statement}
 use Rattle.second.proofs.truth_tables.Tie as tie
 
 abbrev Inv-loop : tie.InvT-loop
-Inv-loop block tables₀ count k₀ tables k = (length tables ≡ length tables₀)
+Inv-loop block words₀ end k₀ words k = length words ≡ length words₀
 
 abbrev μ-loop : tie.MeasureT-loop
-μ-loop block tables₀ count k₀ tables k = count - k
+μ-loop block words₀ end k₀ words k = end - k
 
-mul-count : tie.Need-mul-count Inv-loop μ-loop
-mul-count c = search needs
+mul-end : tie.Need-mul-end Inv-loop μ-loop
+mul-end c = search needs
 
 loop-holds : tie.Need-loop-holds Inv-loop μ-loop
 loop-holds c = search needs
@@ -45,7 +45,7 @@ truth-tables-spec =
     (tie.spec
     Inv-loop
     μ-loop
-    mul-count
+    mul-end
     loop-holds
     table-word-requires
     put-word-requires

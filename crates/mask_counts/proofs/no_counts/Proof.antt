@@ -1,16 +1,16 @@
--- `mask_counts::clear` is safe and ends: each turn leaves less of the slice. Assumes nothing.
+-- `mask_counts::no_counts` is safe and ends: each turn leaves fewer counts. Assumes nothing.
 use borrow.Author.Needs.{needs}
 use mathlib.Core.Path.{_≡_}
-use Prim.Native.Nat.{_-_}
+use Prim.Native.Nat.{_-_, _≤_}
 use lib.ListN.{length}
-use Rattle.mask_counts.proofs.clear.Statement.{statement}
-use Rattle.mask_counts.proofs.clear.Tie as tie
+use Rattle.mask_counts.proofs.no_counts.Statement.{statement}
+use Rattle.mask_counts.proofs.no_counts.Tie as tie
 
 abbrev Inv-loop : tie.InvT-loop
-Inv-loop slice₀ end k₀ slice k = (length slice ≡ length slice₀)
+Inv-loop store₀ k₀ store k = (k ≤ 448) × (length store ≡ length store₀)
 
 abbrev μ-loop : tie.MeasureT-loop
-μ-loop slice₀ end k₀ slice k = end - k
+μ-loop store₀ k₀ store k = 448 - k
 
 loop-holds : tie.Need-loop-holds Inv-loop μ-loop
 loop-holds c = search needs
@@ -33,8 +33,8 @@ same-length c = search needs
 returns : tie.Need-returns Inv-loop μ-loop
 returns c = search needs
 
-pub clear-spec : {M : Type 1} → statement M
-clear-spec =
+pub no-counts-spec : {M : Type 1} → statement M
+no-counts-spec =
     tie.close
     (tie.spec
     Inv-loop
