@@ -1,0 +1,54 @@
+-- `random_blocks::compare::same_family` is safe and ends: each turn leaves fewer sets. Assumes nothing.
+use borrow.Author.Needs.{needs}
+use Prim.Native.Nat.{_-_}
+use Rattle.random_blocks.proofs.compare.same_family.Statement.{statement}
+use Rattle.random_blocks.proofs.compare.same_family.Tie as tie
+
+abbrev Inv-loop : tie.InvT-loop
+Inv-loop work at store list many same₀ k₀ same k = Unit
+
+abbrev μ-loop : tie.MeasureT-loop
+μ-loop work at store list many same₀ k₀ same k = many - k
+
+length-of-requires : tie.Need-length-of-requires Inv-loop μ-loop
+length-of-requires c κs = search needs
+
+sets-at-requires : tie.Need-sets-at-requires Inv-loop μ-loop
+sets-at-requires c κs = search needs
+
+loop-holds : tie.Need-loop-holds Inv-loop μ-loop
+loop-holds c = search needs
+
+set-at-requires : tie.Need-set-at-requires Inv-loop μ-loop
+set-at-requires c κs = search needs
+
+has-bit-requires : tie.Need-has-bit-requires Inv-loop μ-loop
+has-bit-requires c κs = search needs
+
+add-k : tie.Need-add-k Inv-loop μ-loop
+add-k c = search needs
+
+loop-less : tie.Need-loop-less Inv-loop μ-loop
+loop-less c = search needs
+
+loop-again : tie.Need-loop-again Inv-loop μ-loop
+loop-again c = search needs
+
+returns : tie.Need-returns Inv-loop μ-loop
+returns c = search needs
+
+pub same-family-spec : {M : Type 1} → statement M
+same-family-spec =
+    tie.close
+    (tie.spec
+    Inv-loop
+    μ-loop
+    length-of-requires
+    sets-at-requires
+    loop-holds
+    set-at-requires
+    has-bit-requires
+    add-k
+    loop-less
+    loop-again
+    returns)

@@ -1,0 +1,21 @@
+-- `random_blocks::generator::pick` meets its contract: a remainder is at most the number divided, here the upper half of 32 bits. Assumes nothing.
+use native.Mathlib.Nat.{mod-le, lt-of-le-of-lt}
+use native.Mathlib.Omega.{arith}
+use borrow.Author.Needs.{needs}
+use Rattle.random_blocks.proofs.generator.pick.Statement.{statement}
+use Rattle.random_blocks.proofs.generator.pick.Tie as tie
+
+returns : tie.Need-returns
+returns c = search needs
+
+cast-result : tie.Need-cast-result
+cast-result c = search needs
+
+rem-result : tie.Need-rem-result
+rem-result c = search needs
+
+returns-2 : tie.Need-returns-2
+returns-2 c = lt-of-le-of-lt (mod-le _ _) (omega arith)
+
+pub pick-spec : {M : Type 1} → statement M
+pick-spec = tie.close (tie.spec returns cast-result rem-result returns-2)
