@@ -39,12 +39,6 @@ struct Tally {
     contradictions: usize,
 }
 
-fn put(store: &mut [u16], i: usize, x: usize) {
-    if i < store.len() {
-        store[i] = (x % 65536) as u16;
-    }
-}
-
 // ---- values and feeding points, by the queries
 
 fn value(store: &[u16], node: usize, x: usize) -> usize {
@@ -56,7 +50,7 @@ fn node_values(store: &mut [u16], bytes: &[u8], node: usize, assignments: usize)
     let mut x = 0;
     while x < assignments {
         let reply = queries::settled_value(bytes, node, x);
-        put(
+        second::put(
             store,
             node % NODES * ASSIGNMENTS + x % ASSIGNMENTS,
             one_if(reply.value),
@@ -97,7 +91,7 @@ fn node_patterns(store: &mut [u16], bytes: &[u8], node: usize, assignments: usiz
     let mut x = 0;
     while x < assignments {
         let bits = pattern_of(store, marks, x);
-        put(store, PATTERNS + x % ASSIGNMENTS, bits);
+        second::put(store, PATTERNS + x % ASSIGNMENTS, bits);
         x += 1;
     }
 }
@@ -112,7 +106,7 @@ fn count(store: &[u16], s: usize) -> usize {
 fn no_counts(store: &mut [u16]) {
     let mut k = COUNTS;
     while k < STORE {
-        put(store, k, 0);
+        second::put(store, k, 0);
         k += 1;
     }
 }
@@ -126,7 +120,7 @@ fn count_mask(store: &mut [u16], block: Block, x: usize, y: usize) {
     if alike(store, block, x, y) {
         let s = y & block.secrets;
         let more = sum(count(store, s), 1);
-        put(store, COUNTS + s % ASSIGNMENTS, more);
+        second::put(store, COUNTS + s % ASSIGNMENTS, more);
     }
 }
 

@@ -62,7 +62,7 @@ pub(crate) fn get(slice: &[u16], i: usize) -> usize {
     if i < slice.len() { wide(slice[i]) } else { 0 }
 }
 
-fn put(slice: &mut [u16], i: usize, x: usize) {
+pub(crate) fn put(slice: &mut [u16], i: usize, x: usize) {
     if i < slice.len() {
         slice[i] = (x % 65536) as u16;
     }
