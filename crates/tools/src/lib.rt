@@ -1,5 +1,9 @@
 // What the test programs share: counts, and printing.
-ghost use Prim.Native.Nat.{_≤_};
+ghost use mathlib.Core.Path.{_≡_};
+ghost use mathlib.Core.Bool.{cond, _&&_};
+ghost use Prim.Native.Nat.{_+_, min};
+ghost use lib.Dec.{leb};
+ghost use Rattle.rules.specs.Lists.{digit};
 use libc::STDOUT_FILENO;
 use rules::Answer;
 use rules::Half;
@@ -7,7 +11,9 @@ use rules::Refusal;
 use rules::Reply;
 
 // A sum that stays where it is at a billion, which no count of these programs comes near.
-pub fn sum(x: usize, more: usize) -> usize {
+pub fn sum(x: usize, more: usize) -> usize
+    ensures { λ r. ⌜ r ≡ cond (leb x 1000000000 && leb more 1000000000) (x + more) x ⌝ }
+{
     if x > 1000000000 {
         return x;
     }
@@ -17,12 +23,14 @@ pub fn sum(x: usize, more: usize) -> usize {
     x + more
 }
 
-pub fn one_if(yes: bool) -> usize {
+pub fn one_if(yes: bool) -> usize
+    ensures { λ r. ⌜ r ≡ digit yes ⌝ }
+{
     if yes { 1 } else { 0 }
 }
 
 pub fn least(a: usize, b: usize) -> usize
-    ensures { λ r. ⌜ r ≤ b ⌝ }
+    ensures { λ r. ⌜ r ≡ min a b ⌝ }
 {
     if a < b { a } else { b }
 }

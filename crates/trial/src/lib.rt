@@ -2,9 +2,12 @@
 ghost use mathlib.Core.Path.{_≡_};
 ghost use mathlib.Core.List.{_++_};
 ghost use Prim.Native.Nat.{_-_, min};
-ghost use lib.ListN.{length, replicate};
+ghost use lib.Dec.{eqb};
+ghost use lib.ListN.{length, getD, replicate};
+ghost use Rattle.rules.specs.Lists.{tabulate};
 ghost use Rattle.rules.specs.Slices.{nodesAfter, workAfter, reply};
 ghost use Rattle.rules.specs.Paper.{replyOf};
+ghost use Rattle.trial.specs.Before.{entryBefore, byteBefore, isBefore, keptFrom};
 use rules::MOST_NODES;
 use rules::Node;
 use rules::Reply;
@@ -12,7 +15,9 @@ use rules::Reply;
 // ---- what stands in the slices before a check
 
 // No node has such a record.
-pub fn entry_before() -> Node {
+pub fn entry_before() -> Node
+    ensures { λ r. ⌜ r ≡ entryBefore ⌝ }
+{
     Node {
         kind: 9,
         first: 8,
@@ -22,31 +27,32 @@ pub fn entry_before() -> Node {
 }
 
 // No such byte is 0.
-pub fn byte_before(k: usize) -> u8 {
+pub fn byte_before(k: usize) -> u8
+    ensures { λ r. ⌜ r ≡ byteBefore k ⌝ }
+{
     (1 + k % 251) as u8
 }
 
-pub fn fill(work: &mut [u8]) {
-    let end = work.len();
+pub fn fill(work: &mut [u8])
+    ensures { λ _. ⌜ now (work .exit) ≡ tabulate byteBefore (length (now (work .entry))) ⌝ }
+{
     let mut k = 0;
-    while k < end {
-        put_before(work, k);
+    while k < work.len() {
+        work[k] = byte_before(k);
         k += 1;
     }
 }
 
-fn put_before(work: &mut [u8], k: usize) {
-    if k < work.len() {
-        work[k] = byte_before(k);
-    }
-}
-
-fn is_before(node: Node) -> bool {
-    node.kind == 9 && node.first == 8 && node.second == 7 && node.set == 6
+fn is_before(node: Node) -> bool
+    ensures { λ r. ⌜ r ≡ isBefore node ⌝ }
+{
+    node.kind == 9 && (node.first == 8 && (node.second == 7 && node.set == 6))
 }
 
 // The lowest number from which on all entries are as they were, and the same of the work bytes.
-pub fn entries_kept_from(nodes: [Node; MOST_NODES]) -> usize {
+pub fn entries_kept_from(nodes: [Node; MOST_NODES]) -> usize
+    ensures { λ r. ⌜ r ≡ keptFrom (λ k. isBefore (getD nodes k entryBefore)) 200 ⌝ }
+{
     let mut from = 0;
     let mut k = 0;
     while k < MOST_NODES {
@@ -58,7 +64,9 @@ pub fn entries_kept_from(nodes: [Node; MOST_NODES]) -> usize {
     from
 }
 
-pub fn work_kept_from(work: &[u8]) -> usize {
+pub fn work_kept_from(work: &[u8]) -> usize
+    ensures { λ r. ⌜ r ≡ keptFrom (λ k. eqb (getD (now (work .entry)) k 0) (byteBefore k)) (length (now (work .entry))) ⌝ }
+{
     let mut from = 0;
     let mut k = 0;
     while k < work.len() {
