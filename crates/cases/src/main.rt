@@ -246,9 +246,7 @@ fn bytes_after_the_end() {
 }
 
 // Block A, of five nodes, in slices of several lengths.
-fn room_enough() {
-    let a: &[u8] =
-        b"\x01\x00\x01\x01\x01\x01\x02\x03\x00\x02\x02\x00\x02\x04\x00\x04\x00\x02\x04\x03\x01\x00";
+fn room_enough(a: &[u8]) {
     check_tail(b"5 nodes in 5 entries and 1280 bytes", 0, 0, a, 5, 1280);
     check_tail(
         b"5 nodes in 200 entries and 51200 bytes",
@@ -260,9 +258,7 @@ fn room_enough() {
     );
 }
 
-fn room_too_short() {
-    let a: &[u8] =
-        b"\x01\x00\x01\x01\x01\x01\x02\x03\x00\x02\x02\x00\x02\x04\x00\x04\x00\x02\x04\x03\x01\x00";
+fn room_too_short(a: &[u8]) {
     check_tail(b"11, 1279 bytes", 0, 0, a, 5, 1279);
     check_tail(b"11, no bytes", 0, 0, a, 200, 0);
     check_tail(b"10, 4 entries", 0, 0, a, 4, 1280);
@@ -363,10 +359,8 @@ fn ask_tail(name: &[u8], masks: usize, inputs: usize, tail: &[u8], node: usize, 
     ask(name, &bytes[..n], node, number);
 }
 
-// Block A, whose node 4 is the exclusive-or of variables 0 and 2, and block B, whose register feeds node 5.
-fn queries_of_block_a() {
-    let a: &[u8] =
-        b"\x01\x00\x01\x01\x01\x01\x02\x03\x00\x02\x02\x00\x02\x04\x00\x04\x00\x02\x04\x03\x01\x00";
+// Block A, whose node 4 is the exclusive-or of variables 0 and 2.
+fn queries_of_block_a(a: &[u8]) {
     ask(b"block A, node 4, number 0", a, 4, 0);
     ask(b"block A, node 4, number 1", a, 4, 1);
     ask(b"block A, node 4, number 2", a, 4, 2);
@@ -375,6 +369,7 @@ fn queries_of_block_a() {
     ask(b"block A, node 0, number 3", a, 0, 3);
 }
 
+// Block B, whose register feeds node 5, and blocks at the limits.
 fn queries_of_block_b() {
     let b: &[u8] =
         b"\x01\x00\x01\x01\x01\x01\x02\x03\x00\x02\x02\x00\x02\x04\x00\x04\x00\x02\x07\x03\x04\x04\x01\x00";
@@ -385,10 +380,8 @@ fn queries_of_block_b() {
     ask_tail(b"200 nodes, node 199", 0, 200, b"\x00", 199, 0);
 }
 
-// A gate of each kind over an input of value 1 and one of value 0.
-fn gate_values() {
-    let gates: &[u8] =
-        b"\x01\x01\x01\x01\x02\x01\x00\x02\x02\x00\x03\x00\x04\x00\x01\x05\x00\x01\x06\x00\x01\x07\x00\x00";
+// A gate of each kind and a register, over an input of value 1 and one of value 0.
+fn gate_values(gates: &[u8]) {
     print(b"gates of each kind under 1\n");
     ask_value(gates, 0, 1);
     ask_value(gates, 1, 1);
@@ -399,9 +392,7 @@ fn gate_values() {
     ask_value(gates, 6, 1);
 }
 
-fn gate_points() {
-    let gates: &[u8] =
-        b"\x01\x01\x01\x01\x02\x01\x00\x02\x02\x00\x03\x00\x04\x00\x01\x05\x00\x01\x06\x00\x01\x07\x00\x00";
+fn gate_points(gates: &[u8]) {
     ask_points(gates, 2);
     ask_points(gates, 3);
     ask_points(gates, 4);
@@ -425,9 +416,7 @@ fn late_refusals() {
     ask_tail(b"8 and not 12 or 13", 0, 1, b"", 1, 1);
 }
 
-fn queries_too_high() {
-    let a: &[u8] =
-        b"\x01\x00\x01\x01\x01\x01\x02\x03\x00\x02\x02\x00\x02\x04\x00\x04\x00\x02\x04\x03\x01\x00";
+fn queries_too_high(a: &[u8]) {
     ask(b"12, node 5 of five", a, 5, 7);
     ask(b"12 and not 13", a, 5, 8);
     ask(b"13, number 8 of three variables", a, 4, 8);
@@ -490,6 +479,10 @@ fn other_listings() {
 }
 
 fn main() {
+    let a: &[u8] =
+        b"\x01\x00\x01\x01\x01\x01\x02\x03\x00\x02\x02\x00\x02\x04\x00\x04\x00\x02\x04\x03\x01\x00";
+    let gates: &[u8] =
+        b"\x01\x01\x01\x01\x02\x01\x00\x02\x02\x00\x03\x00\x04\x00\x01\x05\x00\x01\x06\x00\x01\x07\x00\x00";
     unknown_kinds();
     late_variables();
     many_variables();
@@ -500,17 +493,17 @@ fn main() {
     faulty_records();
     missing_ends();
     bytes_after_the_end();
-    room_enough();
-    room_too_short();
+    room_enough(a);
+    room_too_short(a);
     reading_before_room();
     most_room();
-    queries_of_block_a();
+    queries_of_block_a(a);
     queries_of_block_b();
-    gate_values();
-    gate_points();
+    gate_values(gates);
+    gate_points(gates);
     early_refusals();
     late_refusals();
-    queries_too_high();
+    queries_too_high(a);
     queries_at_the_edge();
     listings();
     other_listings();

@@ -6,7 +6,7 @@ use mathlib.Core.List.{List, _++_}
 use Prim.Native.Nat.{ℕ, _*_, _<_, _≤_}
 use lib.ListN.{length, drop}
 use borrow.Author.Tests.{lt-ltb, le-ltb}
-use Rattle.rules.specs.Records.{Netlist, empty, WellFormed}
+use Rattle.rules.specs.Records.{Netlist, empty}
 use Rattle.rules.specs.Families.{families, findings}
 use Rattle.rules.specs.Slices.{workBytes, filled, workAfter, reply}
 use Rattle.rules.specs.Checks.{answered, refused, andThen, judged, read, slicesFit, admitted}
@@ -19,7 +19,7 @@ use Rattle.rules.specs.declared.Reply.the-variants.{Refused, Answered}
 use Rattle.rules.proofs.Halves.{exactly-when}
 use Rattle.rules.proofs.Probe.{one-probe}
 use Rattle.records.specs.declared.Netlist as Value
-use Rattle.records.specs.Netlists.{tableOf, Formed, Ready}
+use Rattle.records.specs.Netlists.{tableOf, Ready}
 use Rattle.records.proofs.Netlists.{value-variables, value-count, well-formed}
 use Rattle.scan.specs.Suspects.{found}
 use Rattle.scan.proofs.Search.{found-half}
@@ -27,7 +27,7 @@ use Rattle.checker.specs.declared.Examined.{Examined}
 use Rattle.checker.specs.Work.{kept, Examines}
 
 -- a refusal, with nothing kept and nothing written
-pub refusal : (r : Refusal) (k p : ℕ) (examined : Examined) (work : List ℕ) → numberOf r ≡ k → placeOf r ≡ p
+refusal : (r : Refusal) (k p : ℕ) (examined : Examined) (work : List ℕ) → numberOf r ≡ k → placeOf r ≡ p
     → examined .reply ≡ Refused r → examined .netlist ≡ tableOf empty → Examines (refused k p) examined work work
 unfolding andThen kept filled
 refusal r k p examined work n w e t =

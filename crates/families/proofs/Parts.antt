@@ -109,7 +109,7 @@ past : (xs ys : List ℕ) (n j : ℕ) → length xs ≡ n → getD (xs ++ ys) (n
 past xs ys n j e = rw (← e) (getD-append-add xs ys j 0)
 
 -- outside the part
-abbrev pub Outside : (part j : ℕ) → Type 0
+abbrev Outside : (part j : ℕ) → Type 0
 Outside part j = (j < 128 * part) ⊎ (128 * part + 128 ≤ j)
 
 module _ (bytes : List ℕ) (part : ℕ) (F : Family) (has : HasPart bytes part) where

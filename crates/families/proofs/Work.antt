@@ -25,7 +25,7 @@ pub record Alike (F G : Family) : Type 0 where
   pub same : (A : ℕ) → member A F ≡ member A G
 
 -- families of sets of ten variables
-abbrev pub Small : Family → Type 0
+abbrev Small : Family → Type 0
 Small = All (λ A. A < 1024)
 
 -- a part whose bits are those of such a family

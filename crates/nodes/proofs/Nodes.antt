@@ -5,11 +5,10 @@ use Prim.Native.Nat.{ℕ, _+_, _*_, _≤_, _<_}
 use mathlib.Core.Path.{_≡_, refl, sym, ap, ap₂, _∙_}
 use mathlib.Core.List.{List, [], _∷_, _++_, append-assoc, append-nil}
 use native.Mathlib.Nat.{zero-add, le-refl}
-use native.Mathlib.Numerals.{add-one}
 use native.Mathlib.Omega.{arith}
 use lib.Dec.{T}
 use lib.ListN.{length, getD, take, drop, length-append, length-drop}
-use lib.Seq.{take-suc, take-all, take-at, drop-append-add, drop-drop, getD-take, length-take-le}
+use lib.Seq.{take-all, take-at, drop-append-add, drop-drop, getD-take}
 use Rattle.rules.specs.Lists.{member, insert, union}
 use Rattle.rules.specs.Tables.{table}
 use Rattle.rules.specs.Records.{Cell, input, NOT, XOR, AND, OR, register, Netlist, WellFormed, operands}
@@ -18,7 +17,7 @@ use Rattle.rules.specs.Slices.{entry, familyBytes, nodeBytes, workBytes}
 use Rattle.rules.proofs.Tests.{same-test}
 use Rattle.rules.proofs.Lists.{member-head, member-tail, member-insert, member-union, product-holds}
 use Rattle.rules.proofs.Bounds.{product-cases, set-small, families-small}
-use Rattle.rules.proofs.Tables.{table-length, table-snoc, table-take}
+use Rattle.rules.proofs.Tables.{table-length, first-length, first-next, table-take}
 use Rattle.rules.proofs.Packing.{tabulate-at, tabulate-same, family-length, work-length}
 use Rattle.families.specs.Parts.{HasPart, withFamily}
 use Rattle.families.proofs.Parts.{with-same, with-there}
@@ -160,9 +159,6 @@ firstFamilies n k = table familiesRule [] (take k (n .nodes))
 unfoldable pub nodesDone : Netlist → (before : List ℕ) → (k : ℕ) → List ℕ
 nodesDone n before k = workBytes (firstFamilies n k) ++ drop (256 * k) before
 
-first-length : (n : Netlist) (k : ℕ) → k ≤ length (n .nodes) → length (firstFamilies n k) ≡ k
-first-length n k h = omega (arith, table-length familiesRule [] (take k (n .nodes)), length-take-le k (n .nodes) h)
-
 pub none-done : (n : Netlist) (before : List ℕ) → nodesDone n before 0 ≡ before
 unfolding nodesDone table workBytes
 none-done n before = refl
@@ -176,7 +172,7 @@ done-length n before k h room =
       length-append (workBytes (firstFamilies n k)) (drop (256 * k) before),
       length-drop (256 * k) before,
       work-length (firstFamilies n k),
-      first-length n k h,
+      first-length familiesRule (n .nodes) k h,
     )
 
 module _ (n : Netlist) (formed : WellFormed n) where
@@ -199,7 +195,7 @@ module _ (n : Netlist) (formed : WellFormed n) where
       (λ a t. let l : a < k = formed .lower k h a t in rw (so-far-at bytes k a l) (held a l)))
       ∙ node-behind first before k (familiesRule first cell) there
       ∙ ap {B = List ℕ} (λ Fs. workBytes Fs ++ drop (256 * (k + 1)) before)
-      (rw (add-one k, take-suc (n .nodes) k (input 0) h) (sym (table-snoc familiesRule (take k (n .nodes)) cell)))
+      (first-next familiesRule (n .nodes) k (input 0) h)
     where
       first : List Families
       first = firstFamilies n k
@@ -211,7 +207,7 @@ module _ (n : Netlist) (formed : WellFormed n) where
       cell = getD (n .nodes) k (input 0)
 
       there : length first ≡ k
-      there = first-length n k (omega arith)
+      there = first-length familiesRule (n .nodes) k (omega arith)
 
       -- the bytes hold the families of the nodes that are done
       held : (a : ℕ) → a < k → BothAlike (familiesIn bytes a) (getD first a constant)

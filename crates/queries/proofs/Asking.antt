@@ -2,7 +2,7 @@
 -- netlist, the node and the number of a query that stands. Assumes nothing.
 use Prim.Native.Nat.{ℕ, _^_, _≤_, _<_}
 use mathlib.Core.Path.{_≡_, refl, sym, ap, _∙_}
-use mathlib.Core.Bool.{Bool, true, false}
+use mathlib.Core.Bool.{true, false}
 use mathlib.Core.List.{List, [], _∷_}
 use native.Mathlib.Omega.{arith}
 use borrow.Author.Tests.{leb-false}
@@ -15,6 +15,7 @@ use Rattle.rules.specs.Paper.{numberOf, placeOf, queryOf}
 use Rattle.rules.specs.declared.Refusal.{Refusal}
 use Rattle.rules.specs.declared.QueryOutcome.{QueryOutcome}
 use Rattle.rules.specs.declared.QueryOutcome.the-variants as Query
+use Rattle.rules.proofs.Records.{condition, passes, answer}
 use Rattle.rules.proofs.Reading.{read-well-formed}
 use Rattle.records.specs.Netlists.{tableOf, Formed}
 use Rattle.records.proofs.Netlists.{value-count}
@@ -71,19 +72,12 @@ module _ {asked : Asked} where
 
 -- ---- a query that stands
 
--- whether a row refuses
-condition : Check → Bool
-condition (check k b p) = b
-
 -- where a row behind an outcome leaves an answer, that is the outcome's, and the row does not refuse it
 through : (o : Outcome Netlist) (row : Netlist → Check) (n : Netlist) → andThen o (λ m. judged (row m ∷ []) m) ≡ answered n
     → (o ≡ answered n) × (condition (row n) ≡ false)
-unfolding andThen judged condition
-through (answered m) row n e = go (row m) refl e
-  where
-    go : (c : Check) → row m ≡ c → judged (c ∷ []) m ≡ answered n → (answered m ≡ answered n) × (condition (row n) ≡ false)
-    go (check k true p) q e = let z : _≡_ {A = ℕ} 0 1 = cc in absurd (omega arith)
-    go (check k false p) q e = let same : m ≡ n = cc in (e, rw (← same) (ap condition q))
+unfolding andThen
+through (answered m) row n e =
+    let same = answer (row m ∷ []) m n e in (ap answered same, rw (← same) (passes (row m ∷ []) m n e 0))
 through (refused k p) row n e = let z : _≡_ {A = ℕ} 0 1 = cc in absurd (omega arith)
 
 -- two rows are the second behind the first
@@ -104,13 +98,13 @@ module _ (bytes : List ℕ) (i : ℕ) where
   node-first x = two-rows (read bytes) (nodeCheck i) (numberCheck x)
 
   pub queried-read : (n : Netlist) → queried bytes i ≡ answered n → (read bytes ≡ answered n) × (i < length (n .nodes))
-  unfolding queried nodeCheck condition
+  unfolding queried nodeCheck
   queried-read n e =
       let (first, passes) = through (read bytes) (nodeCheck i) n e in
       (first, leb-false _ _ passes)
 
   pub queried-number : (x : ℕ) (n : Netlist) → queriedWith bytes i x ≡ answered n → (queried bytes i ≡ answered n) × (x < 2 ^ length (n .variables))
-  unfolding numberCheck condition undeclared
+  unfolding numberCheck undeclared
   queried-number x n e =
       let (first, passes) = through (queried bytes i) (numberCheck x) n (sym (node-first x) ∙ e) in
       (first, leb-false _ _ passes)

@@ -1,6 +1,6 @@
 // The three queries, over netlist bytes: the settled value of a node under an assignment, its feeding points, and
-// whether a set is in each of its two families. None writes to a lent slice, and each is answered for all input: where the
-// netlist, the node or the number is refused, it gives value 0 and every mark and membership no.
+// whether a set is in each of its two families. None writes to a lent slice, and each replies to all input: where the
+// netlist, the node or the number is refused, it gives value 0, and every mark and membership no.
 ghost use mathlib.Core.Path.{_≡_};
 ghost use mathlib.Core.Bool.{false};
 ghost use mathlib.Core.List.{[], _∷_};
@@ -12,7 +12,7 @@ ghost use Rattle.rules.specs.Records.{Cell, bits, most-nodes};
 ghost use Rattle.rules.specs.Values.{exclusiveOr, valueRule, values, feeding};
 ghost use Rattle.rules.specs.Families.{familiesAt};
 ghost use Rattle.rules.specs.Slices.{entry};
-ghost use Rattle.rules.specs.Checks.{queried, queriedWith, judged, nodeCheck, numberCheck};
+ghost use Rattle.rules.specs.Checks.{queried, queriedWith, judged, nodeCheck};
 ghost use Rattle.rules.specs.Queries.{valueQuery, feedingQuery, membershipQuery};
 ghost use Rattle.rules.specs.Paper.{valueOf, feedingOf, membershipOf};
 ghost use Rattle.records.specs.Netlists.{padded, tableOf, Formed};
@@ -21,14 +21,12 @@ use records::Netlist;
 use records::Stage;
 use rules::FeedingReply;
 use rules::MOST_NODES;
+use rules::MOST_WORK;
 use rules::MembershipReply;
 use rules::Node;
 use rules::QueryOutcome;
 use rules::Refusal;
 use rules::ValueReply;
-
-// How many work bytes hold the families of every netlist.
-const WORK: usize = 51200;
 
 // What is asked: whether the query is answered, and the netlist by value, which is empty on a refusal.
 struct Asked {
@@ -94,7 +92,7 @@ fn ask_with(bytes: &[u8], node: usize, number: usize) -> Asked
 
 // ---- the settled value
 
-// The exclusive-or of the variables of a set, of which there are so many.
+// The exclusive-or of the variables of a set, out of so many variables.
 fn exclusive_or(variables: usize, set: usize, assignment: usize) -> bool
     ensures { λ r. ⌜ r ≡ exclusiveOr set (bits variables assignment) ⌝ }
 {
@@ -193,8 +191,8 @@ fn hand_on(marks: [bool; MOST_NODES], i: usize, node: Node) -> [bool; MOST_NODES
     handed
 }
 
-// Marks the feeding points of a node: its own mark is handed on from each gate to its operands, from the highest node
-// down, until inputs and registers alone are marked.
+// Marks the feeding points of a node. The node is marked; from it down, each marked gate hands its mark on to its
+// operands, until inputs and registers alone are marked.
 fn feeding_marks(netlist: Netlist, node: usize) -> [bool; MOST_NODES]
     requires { ⌜ Formed netlist × (node < netlist .count) ⌝ }
     ensures { λ r. ⌜ ((n : Rules.Netlist) → netlist ≡ tableOf n →
@@ -237,7 +235,7 @@ fn in_families(netlist: Netlist, node: usize, set: usize) -> MembershipReply
     ensures { λ r. ⌜ ((n : Rules.Netlist) → netlist ≡ tableOf n → (r .outcome ≡ QueryOutcome.Answered)
         × (r .settled ≡ member set (familiesAt n node .settled)) × (r .glitch ≡ member set (familiesAt n node .glitch))) ⌝ }
 {
-    let mut work = [0u8; WORK];
+    let mut work = [0u8; MOST_WORK];
     nodes::all_families(netlist, &mut work);
     let settled = families::holds(&work, 2 * node, set);
     let glitch = families::holds(&work, 2 * node + 1, set);

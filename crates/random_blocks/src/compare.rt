@@ -1,6 +1,6 @@
 // Compares the checker and the queries with the second checker over random blocks, valid and damaged, in slices of many
 // lengths: replies with number and place, node records, families, what lies beyond them, and the three queries. Prints what it
-// saw, and how many blocks differ.
+// saw, and how many checks and queries differ.
 ghost use Prim.Native.Nat.{_≤_};
 use crate::generator;
 use crate::generator::Made;
@@ -398,7 +398,7 @@ fn after_two(seed: u32) -> u32 {
     generator::next(generator::next(seed))
 }
 
-// Four times.
+// Asks each query four times.
 fn ask_all(
     tally: Tally,
     seed: u32,

@@ -1,6 +1,6 @@
-// Counts mask settings by force over small random blocks and one false alarm, from the queries alone: the settled values of every node under all
-// assignments, and the feeding points of every tested node. Where the checker's glitch half is clear, the number of mask settings that
-// give a pattern must be the same for all settings of the secrets, at every tested node; where the counts of a node
+// Counts mask settings by force over small random blocks and one false alarm. Settled values and feeding points are those of the
+// queries, classes and kinds those that the second checker reads. Where the checker's glitch half is clear, the number of mask
+// settings that give a pattern must be the same for all settings of the secrets, at every tested node; where the counts of a node
 // differ, the checker must have named a suspect at that node or a lower one.
 use crate::generator;
 use crate::generator::Made;
@@ -15,7 +15,7 @@ use tools::sum;
 
 const BLOCKS: usize = 1500;
 
-// The most nodes and assignments of a block here.
+// A block here has fewer nodes than this, and at most so many assignments.
 const NODES: usize = 12;
 
 const ASSIGNMENTS: usize = 32;

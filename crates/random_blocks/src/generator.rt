@@ -187,7 +187,7 @@ fn bad_class(bytes: &mut [u8], seed: u32) {
     change(bytes, 1 + 2 * pick(seed, 3), 3 + pick(next(seed), 250));
 }
 
-// A block with one fault of eight, which may leave it valid.
+// Damages a block in one of eight ways, the last of which changes nothing. It may stay valid.
 pub(crate) fn damage(bytes: &mut [u8], made: Made) -> Made {
     let first = roll(made);
     let second = roll(first);

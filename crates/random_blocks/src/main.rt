@@ -1,5 +1,5 @@
 // The checker and the queries over random blocks: first against a second checker, then against mask settings that are counted by
-// force. Prints what was seen, so that it shows that every branch was.
+// force. Prints counts of what was seen, which show that every branch was taken.
 mod compare;
 mod counts;
 mod generator;

@@ -5,6 +5,7 @@
 //
 // It is tested and not proved right: what is proved of it is that it is safe and ends.
 use rules::Node;
+use tools::least;
 
 // How many lists of sets there are, two a node, and the longest one.
 pub(crate) const LISTS: usize = 400;
@@ -33,7 +34,7 @@ pub(crate) const NONE: usize = 204800;
 const ALL: u64 = 18446744073709551615;
 
 // A file as far as it is read. `fault` is the number of its refusal, or 0, and `place` that refusal's place. `missing` body bytes of
-// the record that begins at `start` are still to come.
+// the record of kind `begun` at `start` are still to come; `low` is the first of two, once it is there.
 pub(crate) struct Block {
     pub(crate) fault: usize,
     pub(crate) place: usize,
@@ -41,15 +42,15 @@ pub(crate) struct Block {
     pub(crate) count: usize,
     pub(crate) secrets: usize,
     pub(crate) masks: usize,
-    pub(crate) ended: bool,
+    ended: bool,
     start: usize,
     missing: usize,
     begun: u8,
     low: u8,
-    pub(crate) kinds: [u8; 256],
-    pub(crate) firsts: [u8; 256],
-    pub(crate) seconds: [u8; 256],
-    pub(crate) sets: [u16; 256],
+    kinds: [u8; 256],
+    firsts: [u8; 256],
+    seconds: [u8; 256],
+    sets: [u16; 256],
 }
 
 // ---- slices of numbers, 0 beyond their end
@@ -68,7 +69,7 @@ pub(crate) fn put(slice: &mut [u16], i: usize, x: usize) {
     }
 }
 
-pub(crate) fn get_word(words: &[u64], i: usize) -> u64 {
+fn get_word(words: &[u64], i: usize) -> u64 {
     if i < words.len() { words[i] } else { 0 }
 }
 
@@ -401,10 +402,6 @@ fn is_suspect(block: Block, set: usize) -> bool {
     set & block.secrets != 0 && set & block.masks == 0
 }
 
-fn lower(a: usize, b: usize) -> usize {
-    if a < b { a } else { b }
-}
-
 // The lowest suspect set of a list, or 1,024.
 fn suspect_set(block: Block, store: &[u16], list: usize) -> usize {
     let many = length_of(store, list);
@@ -413,7 +410,7 @@ fn suspect_set(block: Block, store: &[u16], list: usize) -> usize {
     while k < many {
         let set = set_at(store, list, k);
         if is_suspect(block, set) {
-            lowest = lower(lowest, set);
+            lowest = least(set, lowest);
         }
         k += 1;
     }

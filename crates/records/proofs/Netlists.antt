@@ -11,9 +11,10 @@ use Rattle.rules.specs.declared.Node.{Node}
 use Rattle.rules.specs.declared.Refusal.{Refusal}
 use Rattle.rules.specs.Records.{Class, secret, mask, public, Cell, input, NOT, XOR, AND, OR, register, Netlist, WellFormed, classOf, classByte, kindOf, operands, setOf}
 use Rattle.rules.specs.Slices.{entry}
-use Rattle.rules.specs.Checks.{Outcome, answered, refused, reading, finished}
+use Rattle.rules.specs.Checks.{Outcome, answered, refused, reading, finished, read}
 use Rattle.rules.specs.Paper.{numberOf, placeOf}
 use Rattle.rules.proofs.Members.{all-at}
+use Rattle.rules.proofs.Reading.{read-well-formed}
 use Rattle.records.specs.declared.Netlist.{Netlist as Table}
 use Rattle.records.specs.declared.Stage.{Stage}
 use Rattle.records.specs.declared.Stage.the-variants as Stage
@@ -125,7 +126,7 @@ cell-back (OR a b) = refl
 cell-back (register a) = refl
 
 -- no two netlists have the same table
-pub table-injective : (n m : Netlist) → tableOf n ≡ tableOf m → n ≡ m
+table-injective : (n m : Netlist) → tableOf n ≡ tableOf m → n ≡ m
 unfolding tableOf
 table-injective n m e =
     let variables =
@@ -205,6 +206,11 @@ module _ (s : Progress) where
   unfolding RefusedAs Reached
   read-ended (answered n) e t = record { netlist = n; is = refl; value = ap (λ (p : Progress). p .netlist) e }
   read-ended (refused k p) e t = absurd (subst (λ (x : Stage). RefusedAs x k p) t (e .stage))
+
+  -- which obeys the record rules
+  pub read-formed : (bytes : List ℕ) → Reached s (finished (read bytes)) → s .stage ≡ Stage.Ended → Formed (s .netlist)
+  read-formed bytes e t =
+      let ends = read-ended (read bytes) e t in record { netlist = ends .netlist; is = ends .value; obeys = read-well-formed bytes _ (ends .is) }
 
   pub read-refused : (o : Outcome Netlist) (r : Refusal) → Reached s (finished o) → s .stage ≡ Stage.Refused r → o ≡ refused (numberOf r) (placeOf r)
   unfolding RefusedAs Reached

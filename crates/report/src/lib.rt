@@ -16,14 +16,12 @@ use records::Netlist;
 use rules::Answer;
 use rules::Half;
 use rules::MOST_NODES;
+use rules::MOST_WORK;
 use rules::Refusal;
 use rules::Reply;
 
 // How many bytes have room for every listing: 203 lines of at most 18 bytes, or one refusal.
 pub const MOST_TEXT: usize = 3654;
-
-// How many work bytes hold the families of every netlist.
-const WORK: usize = 51200;
 
 // ---- words and numbers
 
@@ -201,7 +199,7 @@ fn put_listing(text: &mut [u8], bytes: &[u8]) -> usize
     requires { ⌜ Room (now text) 0 3654 ⌝ }
     ensures { λ r. ⌜ Appended (now (text .entry)) (now (text .exit)) 0 r (listing (now (bytes .entry))) ⌝ }
 {
-    let mut work = [0u8; WORK];
+    let mut work = [0u8; MOST_WORK];
     let examined = checker::examine(bytes, MOST_NODES, &mut work);
     let reply = examined.reply;
     let netlist = examined.netlist;

@@ -43,7 +43,7 @@ product-cases (A ∷ F) G C t =
 -- ---- the sets of the families
 
 -- where each input has a set of the first v variables, so has each node in both of its families
-pub sets-below : (n : Netlist) (v : ℕ) → ((i : ℕ) → i < length (n .nodes) → setOf (getD (n .nodes) i (input 0)) < 2 ^ v)
+sets-below : (n : Netlist) (v : ℕ) → ((i : ℕ) → i < length (n .nodes) → setOf (getD (n .nodes) i (input 0)) < 2 ^ v)
     → (i : ℕ)
     → ((A : ℕ) → T (member A (familiesAt n i .settled)) → A < 2 ^ v) × ((A : ℕ) → T (member A (familiesAt n i .glitch)) → A < 2 ^ v)
 sets-below n v inputs =

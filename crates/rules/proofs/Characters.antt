@@ -1,5 +1,5 @@
 -- The exclusive-or of a set's variables under symmetric difference, and over all mask settings: with a mask in the set it is 0 as often as 1,
--- and with no secret in it it does not see the secrets. Both by induction on the variables. Assumes nothing.
+-- and with no secret in it, it does not see the secrets. Both by induction on the variables. Assumes nothing.
 use Prim.Native.Nat.{ℕ, zero, suc, _+_, _/_, _%_, _<_}
 use mathlib.Core.Path.{_≡_, refl, sym, ap, ap₂, _∙_, subst}
 use mathlib.Core.Logic.{_⊎_, inl, inr}
@@ -72,15 +72,15 @@ exclusiveOr-empty (b ∷ x) = ap (λ (r : Bool). xor false r) (exclusiveOr-empty
 
 -- ---- over all mask settings
 
-xor-false : (b : Bool) → xor false b ≡ b
+pub false-xor : (b : Bool) → xor false b ≡ b
 unfolding xor
-xor-false true = refl
-xor-false false = refl
+false-xor true = refl
+false-xor false = refl
 
-xor-true : (b : Bool) → xor true b ≡ not b
+true-xor : (b : Bool) → xor true b ≡ not b
 unfolding xor
-xor-true true = refl
-xor-true false = refl
+true-xor true = refl
+true-xor false = refl
 
 -- A set with no secret in it: the secrets do not matter.
 pub no-secret : (variables : List Class) (A : ℕ) (s t m p : List Bool) → T (not (holds secret variables A))
@@ -107,26 +107,26 @@ Evenly test k = count test (settings k) ≡ count (λ m. not (test m)) (settings
 -- and so it does after a fixed bit
 evenly-after : (c : Bool) (test : List Bool → Bool) (k : ℕ) → Evenly test k → Evenly (λ m. xor c (test m)) k
 evenly-after false test k e =
-    count-ext _ test (settings k) (λ m. xor-false (test m))
+    count-ext _ test (settings k) (λ m. false-xor (test m))
     ∙ e
-    ∙ count-ext (λ m. not (test m)) _ (settings k) (λ m. ap not (sym (xor-false (test m))))
+    ∙ count-ext (λ m. not (test m)) _ (settings k) (λ m. ap not (sym (false-xor (test m))))
 evenly-after true test k e =
-    count-ext _ (λ m. not (test m)) (settings k) (λ m. xor-true (test m))
+    count-ext _ (λ m. not (test m)) (settings k) (λ m. true-xor (test m))
     ∙ sym e
-    ∙ count-ext test _ (settings k) (λ m. sym (Bool·not-not (test m)) ∙ ap not (sym (xor-true (test m))))
+    ∙ count-ext test _ (settings k) (λ m. sym (Bool·not-not (test m)) ∙ ap not (sym (true-xor (test m))))
 
 -- A test is met evenly over one mask more if that mask flips it, or if it is met evenly whatever the mask is.
 evenly-mask : (o : Bool) (test : List Bool → Bool) (k : ℕ) → (T (not o) → Evenly test k) → Evenly (λ m. xor (o && next m) (test (others m))) (suc k)
 unfolding next others
 evenly-mask true test k e =
     settings-more _ k
-    ∙ ap₂ _+_ (count-ext _ test (settings k) (λ m. xor-false (test m))) (count-ext _ (λ m. not (test m)) (settings k) (λ m. xor-true (test m)))
+    ∙ ap₂ _+_ (count-ext _ test (settings k) (λ m. false-xor (test m))) (count-ext _ (λ m. not (test m)) (settings k) (λ m. true-xor (test m)))
     ∙ add-comm (count test (settings k)) (count (λ m. not (test m)) (settings k))
     ∙ sym
     (settings-more (λ m. not (xor (next m) (test (others m)))) k
     ∙ ap₂ _+_
-    (count-ext _ (λ m. not (test m)) (settings k) (λ m. ap not (xor-false (test m))))
-    (count-ext _ test (settings k) (λ m. ap not (xor-true (test m)) ∙ Bool·not-not (test m))))
+    (count-ext _ (λ m. not (test m)) (settings k) (λ m. ap not (false-xor (test m))))
+    (count-ext _ test (settings k) (λ m. ap not (true-xor (test m)) ∙ Bool·not-not (test m))))
 evenly-mask false test k e =
     let even : Evenly (λ m. xor false (test m)) k = evenly-after false test k (e tt) in
     settings-more _ k ∙ ap₂ _+_ even even ∙ sym (settings-more (λ m. not (xor false (test (others m)))) k)

@@ -113,13 +113,13 @@ unfolding reply
 reply-read bytes = rw (admitted-all bytes most-nodes (256 * most-nodes) (le-refl _) (le-refl _))
 
 -- Where the listing ends in the line `glitch clear` the checker answers clear for glitching signals,
-pub clear-line-says : (bytes text : List ℕ) → listing bytes ≡ text ++ line (word "glitch" ∷ word "clear" ∷ [])
+clear-line-says : (bytes text : List ℕ) → listing bytes ≡ text ++ line (word "glitch" ∷ word "clear" ∷ [])
     → Clear (reply bytes most-nodes (256 * most-nodes))
 unfolding listing
 clear-line-says bytes text e = rw (reply-read bytes) (text-says (read bytes) text e)
 
 -- and where the checker answers so that is the listing's last line.
-pub clear-line-said : (bytes : List ℕ) → Clear (reply bytes most-nodes (256 * most-nodes)) → EndsClear bytes
+clear-line-said : (bytes : List ℕ) → Clear (reply bytes most-nodes (256 * most-nodes)) → EndsClear bytes
 unfolding listing
 clear-line-said bytes c =
     let (before, e) = text-said (read bytes) (rw (reply-read bytes) at c) in

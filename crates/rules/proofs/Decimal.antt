@@ -60,17 +60,17 @@ decimal-more x h = sym (digits-enough x (suc x) (omega arith)) ∙ rw (le-ltb x 
 -- ---- what holds of the digits
 
 -- the number that digits stand for, read from the left, behind those that stand for acc
-abbrev pub valueOf : List ℕ → (acc : ℕ) → ℕ
-valueOf [] acc = acc
-valueOf (d ∷ s) acc = valueOf s (acc * 10 + (d - 48))
+abbrev pub standsFor : List ℕ → (acc : ℕ) → ℕ
+standsFor [] acc = acc
+standsFor (d ∷ s) acc = standsFor s (acc * 10 + (d - 48))
 
-value-append : (s : List ℕ) (d acc : ℕ) → valueOf (s ++ (d ∷ [])) acc ≡ valueOf s acc * 10 + (d - 48)
+value-append : (s : List ℕ) (d acc : ℕ) → standsFor (s ++ (d ∷ [])) acc ≡ standsFor s acc * 10 + (d - 48)
 value-append [] d acc = refl
 value-append (c ∷ s) d acc = value-append s d (acc * 10 + (c - 48))
 
-pub decimal-value : (x : ℕ) → valueOf (decimal x) 0 ≡ x
+pub decimal-value : (x : ℕ) → standsFor (decimal x) 0 ≡ x
 decimal-value =
-    decimal-induction (λ x s. valueOf s 0 ≡ x)
+    decimal-induction (λ x s. standsFor s 0 ≡ x)
     (λ x h. omega arith)
     (λ x s h e. omega (arith, value-append s (48 + x % 10) 0))
 

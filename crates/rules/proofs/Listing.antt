@@ -17,11 +17,11 @@ use Rattle.rules.proofs.Bounds.{families-small}
 use Rattle.rules.proofs.Halves.{half-suspect}
 
 -- the line of node i
-abbrev pub nodeLine : (i : ℕ) → Cell → Families → List ℕ
+abbrev nodeLine : (i : ℕ) → Cell → Families → List ℕ
 nodeLine i c F = line (decimal i ∷ kindName c ∷ decimal (length (F .settled)) ∷ decimal (length (F .glitch)) ∷ [])
 
 -- one node more
-pub node-lines-snoc : (i : ℕ) (cells : List Cell) (Fs : List Families) (c : Cell) (F : Families) → length cells ≡ length Fs
+node-lines-snoc : (i : ℕ) (cells : List Cell) (Fs : List Families) (c : Cell) (F : Families) → length cells ≡ length Fs
     → nodeLines i (cells ++ (c ∷ [])) (Fs ++ (F ∷ [])) ≡ nodeLines i cells Fs ++ nodeLine (i + length cells) c F
 unfolding nodeLines
 node-lines-snoc i [] [] c F e = rw (add-zero i) (append-nil (nodeLine i c F))

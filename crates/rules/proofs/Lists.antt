@@ -1,6 +1,6 @@
 -- Laws of lists that name each number once: what is in them after `insert`, `union`, `product` and `spread`, some of it
 -- also as equations; and of counts. Assumes nothing.
-use Prim.Native.Nat.{ℕ, zero, suc, _+_, _*_, _/_, _%_, _<_}
+use Prim.Native.Nat.{ℕ, zero, suc, _+_, _*_, _/_, _%_, _<_, _≤_}
 use mathlib.Core.Path.{_≡_, refl, sym, ap, ap₂, _∙_, subst, fun-ext}
 use mathlib.Core.Logic.{_⊎_, inl, inr, ⊎-elim}
 use mathlib.Core.Bool.{Bool, true, false, cond, _||_, or-assoc}
@@ -178,6 +178,10 @@ unfolding spread
 spread-empty F G = insert-new 0 _
 
 -- ---- counts
+
+pub digit-small : (b : Bool) → digit b ≤ 1
+digit-small true = omega arith
+digit-small false = omega arith
 
 pub count-append {ℓ} : {A : Type ℓ} (test : A → Bool) (xs ys : List A) → count test (xs ++ ys) ≡ count test xs + count test ys
 unfolding count

@@ -51,13 +51,13 @@ tabulate-each P f (suc n) h = each-append P (tabulate f n) (f n ∷ []) (tabulat
 
 -- ---- a byte's worth: n bits, bit i for the set A + i
 
-pub packed-bit : (F : Family) (A n i : ℕ) → i < n → odd (packed F A n / 2 ^ i) ≡ member (A + i) F
+packed-bit : (F : Family) (A n i : ℕ) → i < n → odd (packed F A n / 2 ^ i) ≡ member (A + i) F
 unfolding packed
 packed-bit F A zero i h = absurd (omega arith)
 packed-bit F A (suc n) zero h = rw (div-one, lowest-bit, add-zero)
 packed-bit F A (suc n) (suc i) h = rw (other-bits, packed-bit F (A + 1) n i (omega arith), add-one, suc-add, add-suc)
 
-pub packed-below : (F : Family) (A n : ℕ) → packed F A n < 2 ^ n
+packed-below : (F : Family) (A n : ℕ) → packed F A n < 2 ^ n
 unfolding packed
 packed-below F A zero = omega arith
 packed-below F A (suc n) = one-more-below (member A F) (packed F (A + 1) n) n (packed-below F (A + 1) n)

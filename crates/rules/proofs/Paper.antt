@@ -57,10 +57,6 @@ told (ShortWork p) = refl
 told (NoSuchNode p) = refl
 told (UndeclaredBit p) = refl
 
--- a refusal is told by its number and place
-pub same-refusal : (r q : Refusal) → numberOf r ≡ numberOf q → placeOf r ≡ placeOf q → r ≡ q
-same-refusal r q e f = sym (told r) ∙ ap₂ refusalOf e f ∙ told q
-
 -- there are 13 refusals
 pub number-most : (r : Refusal) → numberOf r ≤ 13
 number-most (UnknownKind p) = omega arith
@@ -87,9 +83,6 @@ unfolding halfOf
 half-told Clear = refl
 half-told (Suspect i A) = refl
 
-pub same-half : (h k : Half) → findingOf h ≡ findingOf k → h ≡ k
-same-half h k e = sym (half-told h) ∙ ap halfOf e ∙ half-told k
-
 -- and a reply by what it says
 replySaying : Outcome Findings → Reply
 replySaying (refused k p) = Refused (refusalOf k p)
@@ -115,7 +108,7 @@ unfolding querySaying
 query-told Query.Answered = refl
 query-told (Query.Refused r) = ap Query.Refused (told r)
 
-pub same-query : (r q : QueryOutcome) → queryOf r ≡ queryOf q → r ≡ q
+same-query : (r q : QueryOutcome) → queryOf r ≡ queryOf q → r ≡ q
 same-query r q e = sym (query-told r) ∙ ap querySaying e ∙ query-told q
 
 pub same-value : (r q : ValueReply) → valueOf r ≡ valueOf q → r ≡ q

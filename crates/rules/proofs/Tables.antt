@@ -2,12 +2,13 @@
 -- are kept, and each entry is the step from those before it, whatever nodes come later. Assumes nothing.
 use Prim.Native.Nat.{ℕ, zero, suc, _+_, _≤_, _<_}
 use mathlib.Core.Path.{_≡_, refl, sym, ap, _∙_, subst}
-use mathlib.Core.List.{List, [], _∷_, _++_, append-assoc}
+use mathlib.Core.List.{List, [], _∷_, _++_, append-assoc, append-nil}
 use native.Mathlib.Nat.{add-zero, zero-add, not-suc-le-zero, le-of-suc-le-suc}
 use native.Mathlib.Decide.{decLe}
+use native.Mathlib.Numerals.{add-one}
 use native.Mathlib.Omega.{arith}
 use lib.ListN.{length, getD, take, drop, length-append, take-append-drop}
-use lib.Seq.{take-at, take-all, length-take-le, getD-at}
+use lib.Seq.{take-at, take-all, take-suc, length-take-le, getD-at}
 use Rattle.rules.specs.Tables.{table}
 
 module _ {ℓ κ} {A : Type ℓ} {B : Type κ} (step : List A → B → A) where
@@ -26,10 +27,6 @@ module _ {ℓ κ} {A : Type ℓ} {B : Type κ} (step : List A → B → A) where
   pub table-keeps : (done : List A) (nodes : List B) → (rest : List A) × (table step done nodes ≡ done ++ rest)
   unfolding table
   table-keeps done [] = ([], sym (append-nil done))
-    where
-      append-nil : (l : List A) → l ++ [] ≡ l
-      append-nil [] = refl
-      append-nil (x ∷ xs) = ap {B = List A} (λ r. x ∷ r) (append-nil xs)
   table-keeps done (b ∷ nodes) =
       let more = table-keeps (done ++ (step done b ∷ [])) nodes in
       (step done b ∷ more .0, more .1 ∙ append-assoc done (step done b ∷ []) (more .0))
@@ -38,6 +35,14 @@ module _ {ℓ κ} {A : Type ℓ} {B : Type κ} (step : List A → B → A) where
   pub table-snoc : (nodes : List B) (b : B) → table step [] (nodes ++ (b ∷ [])) ≡ table step [] nodes ++ (step (table step [] nodes) b ∷ [])
   unfolding table
   table-snoc nodes b = table-append [] nodes (b ∷ [])
+
+  -- those of the first i nodes: as many, and one more for the next node
+  pub first-length : (nodes : List B) (i : ℕ) → i ≤ length nodes → length (table step [] (take i nodes)) ≡ i
+  first-length nodes i h = omega (arith, table-length [] (take i nodes), length-take-le i nodes h)
+
+  pub first-next : (nodes : List B) (i : ℕ) (b : B) → i < length nodes
+      → table step [] (take i nodes) ++ (step (table step [] (take i nodes)) (getD nodes i b) ∷ []) ≡ table step [] (take (i + 1) nodes)
+  first-next nodes i b h = rw (add-one i, take-suc nodes i b h) (sym (table-snoc (take i nodes) (getD nodes i b)))
 
   -- the first entries are those of the first nodes
   pub table-take : (nodes : List B) (k : ℕ) → take k (table step [] nodes) ≡ table step [] (take k nodes)
@@ -52,7 +57,7 @@ module _ {ℓ κ} {A : Type ℓ} {B : Type κ} (step : List A → B → A) where
       go : Dec (k ≤ length nodes) → take k (table step [] nodes) ≡ first
       go (yes h) =
           let (rest, kept) = table-keeps first (drop k nodes) in
-          rw (all, kept) (take-at first rest k (omega (arith, table-length [] (take k nodes), length-take-le k nodes h)))
+          rw (all, kept) (take-at first rest k (first-length nodes k h))
       go (no h) = rw (take-all k nodes (omega arith)) (take-all k _ (omega (arith, table-length [] nodes)))
 
   -- from the entries `done` on, the entry of node i is the step from all those before it

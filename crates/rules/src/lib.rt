@@ -1,5 +1,5 @@
-// The types of the checker's answers. `specs/Paper.antt` gives each of their cases document 01's number and
-// values; the rules themselves are in the other files of `specs/`, and what is proved of them in `proofs/`.
+// The types of the checker's and the queries' answers, and the limits. `specs/Paper.antt` gives each of their cases document
+// 01's number and values; the rules themselves are in the other files of `specs/`, and what is proved of them in `proofs/`.
 ghost use mathlib.Core.Path.{_≡_};
 ghost use Rattle.rules.specs.Paper.{numberOf, placeOf};
 
@@ -7,6 +7,9 @@ ghost use Rattle.rules.specs.Paper.{numberOf, placeOf};
 pub const MOST_VARIABLES: usize = 10;
 
 pub const MOST_NODES: usize = 200;
+
+// How many work bytes hold the families of every netlist, 256 a node.
+pub const MOST_WORK: usize = 51200;
 
 // A node record: the kind, the first and second operand (0 where the kind has none) and an input's
 // set (0 for every other kind).

@@ -18,6 +18,7 @@ use Rattle.rules.specs.Records.{Class, secret, mask, public, classByte, number}
 use Rattle.rules.specs.Values.{same}
 use Rattle.rules.specs.Families.{Family, holds, suspect, reported}
 use Rattle.rules.proofs.Tests.{pass, and-left, and-right}
+use Rattle.rules.proofs.Lists.{digit-small}
 use Rattle.rules.proofs.Halves.{reported-none, reported-clear, reported-some}
 use Rattle.scan.specs.Suspects.{variablesOf}
 
@@ -26,14 +27,10 @@ use Rattle.scan.specs.Suspects.{variablesOf}
 -- the last bit of both numbers, and their other bits
 and-digit : (b : Bool) (s m : ℕ) → bitAnd s (digit b + 2 * m) ≡ bitAnd (s / 2) m * 2 + min (s % 2) (digit b)
 and-digit b s m =
-    let small : digit b < 2 = digit-small b in
+    let small = digit-small b in
     let half : (digit b + 2 * m) / 2 ≡ m = omega arith in
     let last : (digit b + 2 * m) % 2 ≡ digit b = omega arith in
     rw (and-step s (digit b + 2 * m), half, last)
-  where
-    digit-small : (b : Bool) → digit b < 2
-    digit-small true = omega arith
-    digit-small false = omega arith
 
 doubled : (x : ℕ) → eqb x 0 ≡ eqb (x * 2 + 0) 0
 doubled zero = refl

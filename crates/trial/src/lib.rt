@@ -1,4 +1,5 @@
-// A check over node records of its own, for programs that look at what a check leaves in a lent slice.
+// What stands in lent slices before a check, from where on it still stands there after one, and a check over node records of
+// its own. For test programs.
 ghost use mathlib.Core.Path.{_≡_};
 ghost use mathlib.Core.List.{_++_};
 ghost use Prim.Native.Nat.{_-_, min};
@@ -14,7 +15,7 @@ use rules::Reply;
 
 // ---- what stands in the slices before a check
 
-// No node has such a record.
+// What each entry holds before a check; no node has such a record.
 pub fn entry_before() -> Node
     ensures { λ r. ⌜ r ≡ entryBefore ⌝ }
 {
@@ -26,13 +27,14 @@ pub fn entry_before() -> Node
     }
 }
 
-// No such byte is 0.
-pub fn byte_before(k: usize) -> u8
+// What byte `k` holds before a check; it is never 0.
+fn byte_before(k: usize) -> u8
     ensures { λ r. ⌜ r ≡ byteBefore k ⌝ }
 {
     (1 + k % 251) as u8
 }
 
+// Fills a slice with these bytes.
 pub fn fill(work: &mut [u8])
     ensures { λ _. ⌜ now (work .exit) ≡ tabulate byteBefore (length (now (work .entry))) ⌝ }
 {

@@ -1,8 +1,7 @@
 -- `checker::examine` meets its contract: what is examined is what the rules admit, whether reading refuses, the slices are too short, or
 -- neither. Assumes nothing.
 use borrow.Author.Needs.{needs}
-use Rattle.rules.proofs.Reading.{read-well-formed}
-use Rattle.records.proofs.Netlists.{read-ended, read-refused, read-over}
+use Rattle.records.proofs.Netlists.{read-ended, read-formed, read-refused, read-over}
 use Rattle.checker.proofs.Core.{of-read, of-refused, promises}
 use Rattle.checker.proofs.examine.Statement.{statement}
 use Rattle.checker.proofs.examine.Tie as tie
@@ -26,9 +25,7 @@ enum-told-2 : tie.Need-enum-told-2
 enum-told-2 c = search needs
 
 admit-requires : tie.Need-admit-requires
-admit-requires c κs =
-    let ends = read-ended _ _ (c .before .before .before .before .read .ensures) (c .before .enum-told2 .given .1) in
-    record { netlist = ends .netlist; is = ends .value; obeys = read-well-formed _ _ (ends .is) }
+admit-requires c κs = read-formed _ _ (c .before .before .before .before .read .ensures) (c .before .enum-told2 .given .1)
 
 returns : tie.Need-returns
 returns c =

@@ -12,7 +12,7 @@ use denote.Ref.{now}
 use lib.Dec.{eqb, eqb→eq}
 use lib.ListN.{getD, set, length-set}
 use lib.Seq.{getD-set-same, getD-set-other}
-use Rattle.rules.specs.Lists.{member, insert}
+use Rattle.rules.specs.Lists.{insert}
 use Rattle.rules.specs.Records.{odd}
 use Rattle.rules.proofs.Tests.{same-test, pass}
 use Rattle.rules.proofs.Lists.{member-insert}

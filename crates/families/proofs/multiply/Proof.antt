@@ -1,5 +1,5 @@
 -- `families::multiply` meets its contract. The loop's invariant: the part has the product of those sets of the first family that are below
--- `set` with the second family, and all else is as it was after clearing. The measure is what is left of the 1024 sets. Assumes nothing.
+-- `set` with the second family, and all else is as it was after clearing. The measure is what is left of the 1,024 sets. Assumes nothing.
 use Prim.Native.Nat.{ℕ, _+_, _-_, _≤_, _<_}
 use mathlib.Core.Path.{_≡_, refl, sym, ap, _∙_}
 use mathlib.Core.Bool.{Bool, true, false, cond}

@@ -9,6 +9,7 @@ use native.Mathlib.Omega.{arith}
 use lib.ListN.{length}
 use Rattle.rules.specs.Lists.{digit}
 use Rattle.rules.specs.Families.{Family}
+use Rattle.rules.proofs.Lists.{digit-small}
 use Rattle.families.specs.Parts.{holdsAt, setsBelow, familyAt}
 use Rattle.families.proofs.Parts.{member-at}
 use Rattle.families.proofs.size.Statement.{statement}
@@ -25,10 +26,6 @@ one-more bytes part k = rw (add-one k) (go (holdsAt bytes part k))
     go : (b : Bool) → length (cond b (k ∷ F) F) ≡ length F + digit b
     go true = omega arith
     go false = omega arith
-
-digit-small : (b : Bool) → digit b ≤ 1
-digit-small true = omega arith
-digit-small false = omega arith
 
 abbrev Inv-loop : tie.InvT-loop
 Inv-loop work part sets₀ set₀ sets set = (set ≤ 1024) × (sets ≤ set) × (sets ≡ length (setsBelow work part set))

@@ -2,26 +2,13 @@
 -- lower nodes, so their parts are lower. For NOT the part is written twice. Assumes nothing.
 use Prim.Native.Nat.{ℕ}
 use mathlib.Core.Path.{_≡_, _∙_}
-use mathlib.Core.List.{List}
 use mathlib.Core.Logic.{inl, inr}
 use native.Mathlib.Omega.{arith}
 use borrow.Author.Needs.{needs}
-use Rattle.rules.specs.Lists.{insert}
-use Rattle.rules.specs.Families.{Family}
-use Rattle.rules.proofs.Lists.{member-insert}
-use Rattle.families.specs.Parts.{HasPart, familyAt, withFamily}
-use Rattle.families.proofs.Parts.{with-same, with-here, with-twice}
+use Rattle.families.proofs.Parts.{with-one}
 use Rattle.nodes.proofs.Operands.{TwoOperands, one-operand, placed-set, placed-first, placed-second, glitch-input, glitch-not, glitch-register, glitch-gate}
 use Rattle.nodes.proofs.glitch_family.Statement.{statement}
 use Rattle.nodes.proofs.glitch_family.Tie as tie
-
--- a family that is copied to a part, and then the empty set inserted there
-copied-inserted : (before copied after : List ℕ) (part : ℕ) (F : Family) → HasPart before part → copied ≡ withFamily before part F
-    → after ≡ withFamily copied part (insert 0 (familyAt copied part)) → after ≡ withFamily before part (insert 0 F)
-copied-inserted before copied after part F has p q =
-    q ∙ rw p (with-twice before part F (insert 0 (familyAt (withFamily before part F) part)) has)
-    ∙ with-same before part (insert 0 (familyAt (withFamily before part F) part)) (insert 0 F)
-    (λ A l. rw (member-insert A 0 (familyAt (withFamily before part F) part), member-insert A 0 F, with-here before part F has A l))
 
 -- in the last arm the kind is none of the others
 gate : {k : ℕ} → ((Unit {0} × (k ≡ 2 → ⊥)) × (k ≡ 3 → ⊥)) × (k ≡ 7 → ⊥) → TwoOperands k
@@ -93,7 +80,7 @@ returns-2 c =
     let start = m .before .before .before .before in
     λ cell e.
     rw (glitch-not _ (start .pre .1) cell e (m .match .keys2))
-    (copied-inserted _ _ _ _ _ (start .pre .0) (c .before .before .before .before .before .before .copy .ensures) (c .before .before .insert .ensures))
+    (c .before .before .insert .ensures ∙ with-one _ _ _ _ (start .pre .0) (c .before .before .before .before .before .before .copy .ensures) 0)
 
 same-length-3 : tie.Need-same-length-3
 same-length-3 c = search needs

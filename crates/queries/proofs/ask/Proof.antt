@@ -5,8 +5,7 @@ use mathlib.Core.List.{List, [], _∷_}
 use borrow.Author.Needs.{needs}
 use Rattle.rules.specs.Records.{Netlist}
 use Rattle.rules.specs.Checks.{andThen, judged, read, answered, refused, nodeCheck, queried}
-use Rattle.rules.proofs.Reading.{read-well-formed}
-use Rattle.records.proofs.Netlists.{read-ended, read-refused, read-over}
+use Rattle.records.proofs.Netlists.{read-ended, read-formed, read-refused, read-over}
 use Rattle.queries.specs.declared.Asked.{Asked}
 use Rattle.queries.specs.Replies.{Asks}
 use Rattle.queries.proofs.Asking.{asks-refused}
@@ -41,9 +40,7 @@ enum-told-2 : tie.Need-enum-told-2
 enum-told-2 c = search needs
 
 of-node-requires : tie.Need-of-node-requires
-of-node-requires c κs =
-    let ends = read-ended _ _ (c .before .before .before .read .ensures) (c .enum-told2 .given .1) in
-    record { netlist = ends .netlist; is = ends .value; obeys = read-well-formed _ _ (ends .is) }
+of-node-requires c κs = read-formed _ _ (c .before .before .before .read .ensures) (c .enum-told2 .given .1)
 
 returns : tie.Need-returns
 returns c =

@@ -8,13 +8,9 @@ use native.Mathlib.Omega.{arith}
 use borrow.Author.Tests.{eq-eqb, ne-eqb}
 use Rattle.rules.specs.Records.{odd, bits}
 use Rattle.rules.specs.Values.{exclusiveOr}
+use Rattle.rules.proofs.Characters.{false-xor}
 use Rattle.queries.proofs.exclusive_or.Statement.{statement}
 use Rattle.queries.proofs.exclusive_or.Tie as tie
-
-false-xor : (a : Bool) → xor false a ≡ a
-unfolding xor
-false-xor true = refl
-false-xor false = refl
 
 xor-false : (a : Bool) → xor a false ≡ a
 unfolding xor

@@ -1,7 +1,7 @@
 -- `queries::feeding_marks` meets its contract. The invariant: the marks lead to the points that feed the node, with i nodes to go. The measure
 -- is i. Assumes nothing.
 use Prim.Native.Nat.{ℕ, _+_, _≤_, _<_}
-use mathlib.Core.Path.{_≡_, sym, ap, _∙_}
+use mathlib.Core.Path.{_≡_, ap, _∙_}
 use mathlib.Core.Bool.{Bool, false, true}
 use mathlib.Core.List.{List}
 use native.Mathlib.Omega.{arith}

@@ -1,13 +1,13 @@
 -- `queries::in_families` meets its contract: the work bytes hold the families of all nodes, and a part of them holds just the sets of one of a
 -- node's two families. They are 51,200, which have room for 200 nodes. Assumes nothing.
 use Prim.Native.Nat.{ℕ, _+_, _*_, _≤_, _<_}
-use mathlib.Core.Path.{_≡_, refl, sym, subst, _∙_}
+use mathlib.Core.Path.{_≡_, refl, _∙_}
 use mathlib.Core.List.{List, _++_}
 use native.Mathlib.Omega.{arith}
 use lib.ListN.{length, length-replicate}
 use borrow.Author.Needs.{needs}
 use Rattle.rules.specs.Lists.{member}
-use Rattle.rules.specs.Records.{Netlist, WellFormed}
+use Rattle.rules.specs.Records.{Netlist}
 use Rattle.rules.specs.Families.{families, familiesAt}
 use Rattle.rules.specs.Slices.{workBytes}
 use Rattle.records.specs.declared.Netlist as Value

@@ -4,16 +4,15 @@
 use Prim.Native.Nat.{ℕ, _+_, _-_, _≤_, _<_}
 use mathlib.Core.Path.{_≡_, refl, sym, _∙_}
 use mathlib.Core.Bool.{Bool, false}
-use mathlib.Core.List.{List, [], _∷_, _++_}
-use native.Mathlib.Numerals.{add-one}
+use mathlib.Core.List.{List, []}
 use native.Mathlib.Omega.{arith}
 use lib.ListN.{length, getD, take, set, replicate, length-set, length-replicate}
-use lib.Seq.{take-suc, take-all, length-take-le}
+use lib.Seq.{take-all}
 use Rattle.rules.specs.Tables.{table}
 use Rattle.rules.specs.Records.{Cell, input, NOT, XOR, AND, OR, register, Netlist, bits}
 use Rattle.rules.specs.Values.{Assignment, valueRule, values}
 use Rattle.rules.specs.Slices.{entry}
-use Rattle.rules.proofs.Tables.{table-length, table-snoc}
+use Rattle.rules.proofs.Tables.{first-length, first-next}
 use Rattle.records.specs.declared.Netlist as Value
 use Rattle.records.specs.Netlists.{padded, blank, tableOf, Formed}
 use Rattle.records.proofs.Netlists.{padded-none, padded-set, padded-same, value-variables, value-count, value-entry, few-nodes, one-netlist, operands-below}
@@ -37,7 +36,7 @@ abbrev under : Netlist → ℕ → Assignment
 under n x = bits (length (n .variables)) x
 
 -- of the first i
-first : Netlist → Assignment → ℕ → List Bool
+abbrev first : Netlist → Assignment → ℕ → List Bool
 first n x i = table (valueRule x) [] (take i (n .nodes))
 
 abbrev valuesDone : Netlist → ℕ → ℕ → List Bool
@@ -45,19 +44,11 @@ valuesDone n x i = padded 200 false (first n (under n x) i)
 
 module _ (n : Netlist) (x : Assignment) where
   none-first : (k : ℕ) → replicate k false ≡ padded k false (first n x 0)
-  unfolding first table
+  unfolding table
   none-first k = sym (padded-none k false)
 
-  first-length : (i : ℕ) → i ≤ length (n .nodes) → length (first n x i) ≡ i
-  unfolding first
-  first-length i h = omega (arith, table-length (valueRule x) [] (take i (n .nodes)), length-take-le i (n .nodes) h)
-
-  next-first : (i : ℕ) → i < length (n .nodes) → first n x i ++ (valueRule x (first n x i) (getD (n .nodes) i (input 0)) ∷ []) ≡ first n x (i + 1)
-  unfolding first
-  next-first i h = rw (add-one i, take-suc (n .nodes) i (input 0) h) (sym (table-snoc (valueRule x) (take i (n .nodes)) (getD (n .nodes) i (input 0))))
-
   all-first : (i : ℕ) → length (n .nodes) ≤ i → first n x i ≡ values n x
-  unfolding first values
+  unfolding values
   all-first i h = rw (take-all i (n .nodes) h)
 
 -- ---- a netlist by value
@@ -73,9 +64,9 @@ module _ {value : Value.Netlist} (f : Formed value) where
       let here : i < length (n .nodes) = omega (arith, value-count n (f .is)) in
       let value : r ≡ valueRule (under n x) before own =
       is own (value-entry n (f .is) i h) ∙ rw (value-variables n (f .is), e) (rule-padded (under n x) 200 before own) in
-      let long : length before ≡ i = first-length n (under n x) i (omega arith) in
+      let long : length before ≡ i = first-length (valueRule (under n x)) (n .nodes) i (omega arith) in
       let stored = padded-set 200 false before r (omega (arith, f .obeys .few-nodes)) in
-      rw (e, ← next-first n (under n x) i here, ← value) (rw long at stored)
+      rw (e, ← first-next (valueRule (under n x)) (n .nodes) i (input 0) here, ← value) (rw long at stored)
 
   finished : (x : ℕ) (done : List Bool) (i : ℕ) → value .count ≤ i → done ≡ valuesDone (f .netlist) x i
       → (n : Netlist) → value ≡ tableOf n → done ≡ padded 200 false (values n (under n x))

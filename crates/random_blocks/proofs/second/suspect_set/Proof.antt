@@ -22,8 +22,8 @@ set-at-requires c κs = search needs
 is-suspect-requires : tie.Need-is-suspect-requires Inv-loop μ-loop
 is-suspect-requires c κs = search needs
 
-lower-requires : tie.Need-lower-requires Inv-loop μ-loop
-lower-requires c κs = search needs
+least-requires : tie.Need-least-requires Inv-loop μ-loop
+least-requires c κs = search needs
 
 add-k : tie.Need-add-k Inv-loop μ-loop
 add-k c = search needs
@@ -47,7 +47,7 @@ suspect-set-spec =
     loop-holds
     set-at-requires
     is-suspect-requires
-    lower-requires
+    least-requires
     add-k
     loop-less
     loop-again
