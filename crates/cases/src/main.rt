@@ -1,5 +1,5 @@
-// The cases and edges of document 01 that are not in its table, one line to each: what a check, a query or the listing answers, and
-// what the lent slices hold after it. Where two conditions meet, the case shows which is checked first.
+// The cases and edges of document 01 that are not in its table: what a check, a query or the listing answers, and what the lent
+// slices hold after it. Where two conditions meet, the case shows which is checked first.
 use rules::QueryOutcome;
 use tools::least;
 use tools::print;
@@ -112,6 +112,7 @@ fn check(name: &[u8], masks: usize, inputs: usize, tail: &[u8]) {
 fn unknown_kinds() {
     check(b"1, kind 255", 0, 0, b"\xff\x00");
     check(b"1 and not 3, kind 8 behind 200 nodes", 0, 200, b"\x08");
+    check(b"1 and not 3, kind 8 behind ten variables", 10, 0, b"\x08");
 }
 
 fn late_variables() {
@@ -138,6 +139,12 @@ fn late_variables() {
         0,
         1,
         b"\x01\x03\x00",
+    );
+    check(
+        b"2 and not 3, a variable behind 200 nodes",
+        0,
+        200,
+        b"\x01\x01\x00",
     );
 }
 
@@ -174,6 +181,14 @@ fn many_nodes() {
         200,
         b"\x03\xc8\x00",
     );
+}
+
+// The largest file has 621 bytes.
+fn largest_file() {
+    check(b"10 variables and 200 nodes", 10, 200, b"\x00");
+    check(b"3, 10 variables and 201 nodes", 10, 201, b"\x00");
+    check(b"8, 10 variables and 200 nodes", 10, 200, b"");
+    check(b"9, 10 variables and 200 nodes", 10, 200, b"\x00\x00");
 }
 
 fn cut_bodies() {
@@ -231,6 +246,25 @@ fn faulty_records() {
         0,
         b"\x01\x03\x08",
     );
+    check(
+        b"7 and not 1, the first faulty record",
+        0,
+        1,
+        b"\x03\x01\x08",
+    );
+    check(
+        b"7 and not 9, a byte after the end",
+        0,
+        1,
+        b"\x03\x01\x00\x00",
+    );
+}
+
+// A faulty last record, and no end.
+fn faulty_ends() {
+    check(b"5 and not 8", 0, 0, b"\x01\x03");
+    check(b"6 and not 8", 0, 0, b"\x02\x01\x00");
+    check(b"7 and not 8", 0, 1, b"\x03\x01");
 }
 
 fn missing_ends() {
@@ -266,28 +300,35 @@ fn room_too_short(a: &[u8]) {
     check_tail(b"10 and not 11, no entry and no byte", 0, 0, a, 0, 0);
 }
 
-fn reading_before_room() {
-    check_tail(b"no node in no entry and no byte", 0, 0, b"\x00", 0, 0);
+// In no entry and no byte.
+fn records_before_room() {
+    check_tail(b"1 and not 10", 0, 1, b"\x08", 0, 0);
+    check_tail(b"2 and not 10", 0, 1, b"\x01\x01\x00", 0, 0);
+    check_tail(b"3 and not 10", 0, 201, b"\x00", 0, 0);
+    check_tail(b"4 and not 10", 0, 1, b"\x05\x00", 0, 0);
+}
+
+fn bodies_before_room() {
+    check_tail(b"5 and not 10", 0, 0, b"\x01\x03\x02\x00\x00\x00", 0, 0);
+    check_tail(b"6 and not 10", 0, 1, b"\x02\x01\x00\x00", 0, 0);
+    check_tail(b"7 and not 10", 0, 1, b"\x03\x01\x00", 0, 0);
     check_tail(
-        b"7 and not 10, no entry and no byte",
+        b"7 and not 11, in 200 entries",
         0,
         1,
         b"\x03\x01\x00",
-        0,
-        0,
-    );
-    check_tail(b"8 and not 10, no entry and no byte", 0, 5, b"", 0, 0);
-    check_tail(
-        b"9 and not 10, no entry and no byte",
-        0,
-        5,
-        b"\x00\x00",
-        0,
+        200,
         0,
     );
 }
 
+fn ends_before_room() {
+    check_tail(b"8 and not 10", 0, 5, b"", 0, 0);
+    check_tail(b"9 and not 10", 0, 5, b"\x00\x00", 0, 0);
+}
+
 fn most_room() {
+    check_tail(b"no node in no entry and no byte", 0, 0, b"\x00", 0, 0);
     check_tail(b"10, 200 nodes in 199 entries", 0, 200, b"\x00", 199, 51200);
     check_tail(b"11, 200 nodes in 51199 bytes", 0, 200, b"\x00", 200, 51199);
 }
@@ -401,19 +442,18 @@ fn gate_points(gates: &[u8]) {
 }
 
 fn early_refusals() {
-    ask_tail(b"refusal 1", 0, 0, b"\x08", 0, 0);
-    ask_tail(b"refusal 2", 0, 1, b"\x01\x00\x00", 0, 0);
-    ask_tail(b"refusal 3", 11, 0, b"\x00", 0, 0);
-    ask_tail(b"refusal 4", 0, 0, b"\x05\x00", 0, 0);
-    ask_tail(b"refusal 5", 0, 0, b"\x01\x03\x00", 0, 0);
+    ask_tail(b"1 and not 12 or 13", 0, 0, b"\x08", 200, 1024);
+    ask_tail(b"2 and not 12 or 13", 0, 1, b"\x01\x00\x00", 200, 1024);
+    ask_tail(b"3 and not 12 or 13", 11, 0, b"\x00", 200, 1024);
+    ask_tail(b"4 and not 12 or 13", 0, 0, b"\x05\x00", 200, 1024);
+    ask_tail(b"5 and not 12 or 13", 0, 0, b"\x01\x03\x00", 200, 1024);
 }
 
 fn late_refusals() {
-    ask_tail(b"refusal 6", 0, 0, b"\x02\x01\x00\x00", 0, 0);
-    ask_tail(b"refusal 7", 0, 1, b"\x03\x01\x00", 0, 0);
-    ask_tail(b"refusal 8", 0, 1, b"", 0, 0);
-    ask_tail(b"refusal 9", 0, 1, b"\x00\x00", 0, 0);
-    ask_tail(b"8 and not 12 or 13", 0, 1, b"", 1, 1);
+    ask_tail(b"6 and not 12 or 13", 0, 0, b"\x02\x01\x00\x00", 200, 1024);
+    ask_tail(b"7 and not 12 or 13", 0, 1, b"\x03\x01\x00", 200, 1024);
+    ask_tail(b"8 and not 12 or 13", 0, 1, b"", 200, 1024);
+    ask_tail(b"9 and not 12 or 13", 0, 1, b"\x00\x00", 200, 1024);
 }
 
 fn queries_too_high(a: &[u8]) {
@@ -487,15 +527,19 @@ fn main() {
     late_variables();
     many_variables();
     many_nodes();
+    largest_file();
     cut_bodies();
     classes_and_sets();
     operands();
     faulty_records();
+    faulty_ends();
     missing_ends();
     bytes_after_the_end();
     room_enough(a);
     room_too_short(a);
-    reading_before_room();
+    records_before_room();
+    bodies_before_room();
+    ends_before_room();
     most_room();
     queries_of_block_a(a);
     queries_of_block_b();

@@ -1,4 +1,4 @@
--- Document 01 as definitions, a file for each of its sections, in its order; before them the two shapes that the sections share.
+-- Document 01 as definitions, in the order of its sections; before them the two shapes that the sections share.
 pub mod Lists
 pub mod Tables
 pub mod Records
