@@ -16,70 +16,47 @@ use rules::Reply;
 use rules::ValueReply;
 use tools::least;
 use tools::one_if;
-use tools::print;
-use tools::print_count;
-use tools::print_number;
+use tools::print_counts;
 use tools::sum;
 use trial::Seen;
 
 const BLOCKS: usize = 4000;
 
-// What was seen. Refusals are counted by number, those of checks and those of queries.
-struct Tally {
-    blocks: usize,
-    answers: usize,
-    nodes: usize,
-    sets: usize,
-    settled: usize,
-    glitch: usize,
-    clear: usize,
-    values: usize,
-    points: usize,
-    members: usize,
-    queries: usize,
-    differences: usize,
-    check_refusals: [usize; 14],
-    query_refusals: [usize; 14],
-}
+// What was seen: counts, in the order of the names that `run` prints. A check is never refused with 12 or 13, and a query never with
+// 10 or 11.
+type Tally = [usize; 38];
+
+const ANSWERS: usize = 1;
+
+const NODES: usize = 2;
+
+const SETS: usize = 3;
+
+const SETTLED: usize = 4;
+
+const GLITCH: usize = 5;
+
+const CLEAR: usize = 6;
+
+const QUERIES: usize = 7;
+
+const VALUES: usize = 8;
+
+const POINTS: usize = 9;
+
+const MEMBERS: usize = 10;
+
+const CHECK_REFUSALS: usize = 10;
+
+const QUERY_REFUSALS: usize = 23;
+
+const DIFFERENCES: usize = 37;
 
 // ---- counting
 
-fn no_tally() -> Tally {
-    Tally {
-        blocks: 0,
-        answers: 0,
-        nodes: 0,
-        sets: 0,
-        settled: 0,
-        glitch: 0,
-        clear: 0,
-        values: 0,
-        points: 0,
-        members: 0,
-        queries: 0,
-        differences: 0,
-        check_refusals: [0; 14],
-        query_refusals: [0; 14],
-    }
-}
-
-fn with_refused_check(tally: Tally, number: usize) -> Tally {
+fn add(tally: Tally, at: usize, more: usize) -> Tally {
     let mut next = tally;
-    let at = number % 14;
-    next.check_refusals[at] = sum(next.check_refusals[at], 1);
-    next
-}
-
-fn with_refused_query(tally: Tally, number: usize) -> Tally {
-    let mut next = tally;
-    let at = number % 14;
-    next.query_refusals[at] = sum(next.query_refusals[at], 1);
-    next
-}
-
-fn with_difference(tally: Tally, same: bool) -> Tally {
-    let mut next = tally;
-    next.differences = sum(tally.differences, one_if(!same));
+    next[at % 38] = sum(tally[at % 38], more);
     next
 }
 
@@ -328,12 +305,11 @@ fn same_memberships(
 }
 
 fn with_query(tally: Tally, expected: Expected, same: bool) -> Tally {
-    let mut next = with_difference(tally, same);
-    next.queries = sum(next.queries, 1);
+    let asked = add(add(tally, DIFFERENCES, one_if(!same)), QUERIES, 1);
     if expected.number > 0 {
-        return with_refused_query(next, expected.number);
+        return add(asked, QUERY_REFUSALS + expected.number % 14, 1);
     }
-    next
+    asked
 }
 
 fn ask_value(
@@ -346,17 +322,15 @@ fn ask_value(
 ) -> Tally {
     let expected = expected_with(block, node, x);
     let reply = queries::settled_value(bytes, node, x);
-    let mut next = with_query(tally, expected, same_value(reply, expected, words, node, x));
-    next.values = sum(next.values, one_if(reply.value));
-    next
+    let next = with_query(tally, expected, same_value(reply, expected, words, node, x));
+    add(next, VALUES, one_if(reply.value))
 }
 
 fn ask_points(tally: Tally, bytes: &[u8], block: Block, words: &[u64], node: usize) -> Tally {
     let expected = expected_of(block, node);
     let reply = queries::feeding_points(bytes, node);
-    let mut next = with_query(tally, expected, same_points(reply, expected, words, node));
-    next.points = sum(next.points, one_if(expected.number == 0));
-    next
+    let next = with_query(tally, expected, same_points(reply, expected, words, node));
+    add(next, POINTS, one_if(expected.number == 0))
 }
 
 fn ask_memberships(
@@ -370,12 +344,12 @@ fn ask_memberships(
     let expected = expected_with(block, node, set);
     let reply = queries::memberships(bytes, node, set);
     let same = same_memberships(reply, expected, store, node, set);
-    let mut next = with_query(tally, expected, same);
-    next.members = sum(
-        sum(next.members, one_if(reply.settled)),
+    let next = with_query(tally, expected, same);
+    add(
+        add(next, MEMBERS, one_if(reply.settled)),
+        MEMBERS,
         one_if(reply.glitch),
-    );
-    next
+    )
 }
 
 // Asks each query once, of a node and a number that may be too high.
@@ -419,16 +393,13 @@ fn ask_all(
 // ---- one block
 
 fn with_answer(tally: Tally, block: Block, store: &[u16]) -> Tally {
-    let mut next = tally;
     let settled = second::first_suspect(block, store, 0);
     let glitch = second::first_suspect(block, store, 1);
-    next.answers = sum(tally.answers, 1);
-    next.nodes = sum(tally.nodes, block.count);
-    next.sets = sum(tally.sets, all_sets(store));
-    next.settled = sum(tally.settled, one_if(settled != second::NONE));
-    next.glitch = sum(tally.glitch, one_if(glitch != second::NONE));
-    next.clear = sum(tally.clear, one_if(glitch == second::NONE));
-    next
+    let counted = add(add(tally, ANSWERS, 1), NODES, block.count);
+    let sets = add(counted, SETS, all_sets(store));
+    let suspects = add(sets, SETTLED, one_if(settled != second::NONE));
+    let halves = add(suspects, GLITCH, one_if(glitch != second::NONE));
+    add(halves, CLEAR, one_if(glitch == second::NONE))
 }
 
 // How many entries are written.
@@ -460,9 +431,9 @@ fn check_filled(bytes: &[u8], entries: usize, work: &mut [u8]) -> Seen {
 }
 
 fn with_check(tally: Tally, expected: Expected, same: bool, block: Block, store: &[u16]) -> Tally {
-    let next = with_difference(tally, same);
+    let next = add(tally, DIFFERENCES, one_if(!same));
     if expected.number > 0 {
-        return with_refused_check(next, expected.number);
+        return add(next, CHECK_REFUSALS + expected.number % 14, 1);
     }
     with_answer(next, block, store)
 }
@@ -572,12 +543,6 @@ fn compare_in(
     compare_check(tally, bytes, block, store, entries, &mut work[..m])
 }
 
-fn with_block(tally: Tally) -> Tally {
-    let mut next = tally;
-    next.blocks = sum(tally.blocks, 1);
-    next
-}
-
 // Compares the check and the queries.
 fn compare_all(
     tally: Tally,
@@ -588,7 +553,7 @@ fn compare_all(
     words: &[u64],
     work: &mut [u8],
 ) -> Tally {
-    let checked = compare_in(with_block(tally), seed, bytes, block, store, work);
+    let checked = compare_in(add(tally, 0, 1), seed, bytes, block, store, work);
     ask_all(checked, after_two(seed), bytes, block, store, words)
 }
 
@@ -650,7 +615,7 @@ fn one_block(
 // All blocks.
 fn all_blocks(bytes: &mut [u8], store: &mut [u16], words: &mut [u64], work: &mut [u8]) -> Tally {
     let mut run = State {
-        tally: no_tally(),
+        tally: [0; 38],
         seed: 1,
     };
     let mut turn = 0;
@@ -661,38 +626,6 @@ fn all_blocks(bytes: &mut [u8], store: &mut [u16], words: &mut [u64], work: &mut
     run.tally
 }
 
-// ---- what was seen
-
-fn print_refusals(checks: [usize; 14], queries: [usize; 14]) {
-    let mut k = 1;
-    while k < 14 {
-        print(b"refused");
-        print_number(k);
-        print(b" checks");
-        print_number(checks[k]);
-        print_count(b" queries", queries[k]);
-        k += 1;
-    }
-}
-
-fn print_tally(tally: Tally) {
-    let checks = tally.check_refusals;
-    let queries = tally.query_refusals;
-    print_count(b"blocks", tally.blocks);
-    print_count(b"answered", tally.answers);
-    print_count(b"nodes", tally.nodes);
-    print_count(b"sets in their families", tally.sets);
-    print_count(b"settled suspects", tally.settled);
-    print_count(b"glitch suspects", tally.glitch);
-    print_count(b"clear for glitches", tally.clear);
-    print_count(b"queries", tally.queries);
-    print_count(b"values 1", tally.values);
-    print_count(b"feeding points asked of a node", tally.points);
-    print_count(b"memberships yes", tally.members);
-    print_refusals(checks, queries);
-    print_count(b"differences", tally.differences);
-}
-
 // Compares all blocks, and prints what was seen.
 pub(crate) fn run() {
     let mut bytes = [0u8; 1024];
@@ -700,5 +633,8 @@ pub(crate) fn run() {
     let mut words = [0u64; second::WORDS];
     let mut work = [0u8; 51200];
     let tally = all_blocks(&mut bytes, &mut store, &mut words, &mut work);
-    print_tally(tally);
+    print_counts(
+        b"blocks\nanswered\nnodes\nsets in their families\nsettled suspects\nglitch suspects\nclear for glitches\nqueries\nvalues 1\nfeeding points asked of a node\nmemberships yes\nchecks refused with 1:\nchecks refused with 2:\nchecks refused with 3:\nchecks refused with 4:\nchecks refused with 5:\nchecks refused with 6:\nchecks refused with 7:\nchecks refused with 8:\nchecks refused with 9:\nchecks refused with 10:\nchecks refused with 11:\nchecks refused with 12:\nchecks refused with 13:\nqueries refused with 1:\nqueries refused with 2:\nqueries refused with 3:\nqueries refused with 4:\nqueries refused with 5:\nqueries refused with 6:\nqueries refused with 7:\nqueries refused with 8:\nqueries refused with 9:\nqueries refused with 10:\nqueries refused with 11:\nqueries refused with 12:\nqueries refused with 13:\ndifferences\n",
+        &tally,
+    );
 }

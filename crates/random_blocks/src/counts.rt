@@ -10,7 +10,7 @@ use rules::Half;
 use rules::Reply;
 use tools::least;
 use tools::one_if;
-use tools::print_count;
+use tools::print_counts;
 use tools::sum;
 
 const BLOCKS: usize = 1500;
@@ -27,16 +27,9 @@ const COUNTS: usize = 416;
 
 const STORE: usize = 448;
 
-// What was seen.
+// What was seen: counts, in the order of the names that `run` prints.
 struct Tally {
-    blocks: usize,
-    clear: usize,
-    clear_nodes: usize,
-    suspect: usize,
-    tested: usize,
-    differ: usize,
-    cautious: usize,
-    contradictions: usize,
+    counts: [usize; 8],
 }
 
 // ---- values and feeding points, by the queries
@@ -229,19 +222,26 @@ fn suspect_node(bytes: &[u8]) -> usize {
     }
 }
 
+// The count where the answer is 1, and 0 where it is 0.
+fn if_so(yes: usize, count: usize) -> usize {
+    if yes == 1 { count } else { 0 }
+}
+
 fn with_block(tally: Tally, suspect: usize, counted: Counted) -> Tally {
-    let is_clear = suspect == NODES;
+    let is_clear = one_if(suspect == NODES);
+    let is_suspect = one_if(suspect != NODES);
     let mut next = tally;
-    next.blocks = sum(tally.blocks, 1);
-    next.tested = sum(tally.tested, counted.tested);
-    next.differ = sum(tally.differ, counted.differ);
-    next.clear = sum(tally.clear, one_if(is_clear));
-    next.suspect = sum(tally.suspect, one_if(!is_clear));
-    next.cautious = sum(tally.cautious, one_if(!is_clear && counted.differ == 0));
-    next.contradictions = sum(tally.contradictions, one_if(counted.lowest < suspect));
-    if is_clear {
-        next.clear_nodes = sum(tally.clear_nodes, counted.tested);
-    }
+    next.counts[0] = sum(next.counts[0], 1);
+    next.counts[1] = sum(next.counts[1], is_clear);
+    next.counts[2] = sum(next.counts[2], if_so(is_clear, counted.tested));
+    next.counts[3] = sum(next.counts[3], is_suspect);
+    next.counts[4] = sum(next.counts[4], counted.tested);
+    next.counts[5] = sum(next.counts[5], counted.differ);
+    next.counts[6] = sum(
+        next.counts[6],
+        if_so(is_suspect, one_if(counted.differ == 0)),
+    );
+    next.counts[7] = sum(next.counts[7], one_if(counted.lowest < suspect));
     next
 }
 
@@ -271,16 +271,7 @@ fn make(bytes: &mut [u8], seed: u32) -> Made {
 }
 
 fn random_blocks(bytes: &mut [u8], store: &mut [u16]) -> Tally {
-    let mut tally = Tally {
-        blocks: 0,
-        clear: 0,
-        clear_nodes: 0,
-        suspect: 0,
-        tested: 0,
-        differ: 0,
-        cautious: 0,
-        contradictions: 0,
-    };
+    let mut tally = Tally { counts: [0; 8] };
     let mut seed = 1;
     let mut turn = 0;
     while turn < BLOCKS {
@@ -307,12 +298,9 @@ pub(crate) fn run() {
     let mut store = [0u16; STORE];
     let random = random_blocks(&mut bytes, &mut store);
     let tally = false_alarm(random, &mut store);
-    print_count(b"blocks", tally.blocks);
-    print_count(b"clear for glitches", tally.clear);
-    print_count(b"tested nodes of those", tally.clear_nodes);
-    print_count(b"suspect for glitches", tally.suspect);
-    print_count(b"tested nodes", tally.tested);
-    print_count(b"nodes whose counts differ", tally.differ);
-    print_count(b"suspect though no counts differ", tally.cautious);
-    print_count(b"contradictions", tally.contradictions);
+    let counts = tally.counts;
+    print_counts(
+        b"blocks\nclear for glitches\ntested nodes of those\nsuspect for glitches\ntested nodes\nnodes whose counts differ\nsuspect though no counts differ\ncontradictions\n",
+        &counts,
+    );
 }

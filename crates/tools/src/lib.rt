@@ -47,11 +47,37 @@ pub fn print_number(x: usize) {
     io::print_decimal(STDOUT_FILENO, x as u64);
 }
 
-// A line with a name and a count.
-pub fn print_count(name: &[u8], count: usize) {
-    print(name);
-    print_number(count);
+fn print_byte(byte: u8) {
+    let one = [byte; 1];
+    print(&one);
+}
+
+// The count at `k`, where there is one, and the end of its line.
+fn print_count(counts: &[usize], k: usize) {
+    if k < counts.len() {
+        print_number(counts[k]);
+    }
     print(b"\n");
+}
+
+// Lines with a name and a count: a line feed ends each name.
+pub fn print_counts(names: &[u8], counts: &[usize]) {
+    let mut k: usize = 0;
+    let mut i = 0;
+    while i < names.len() {
+        k = print_letter(names[i], counts, k);
+        i += 1;
+    }
+}
+
+// A letter of name `k`, or its count where the name is out: the name of the next letter.
+fn print_letter(letter: u8, counts: &[usize], k: usize) -> usize {
+    if letter == 10 {
+        print_count(counts, k);
+        return sum(k, 1);
+    }
+    print_byte(letter);
+    k
 }
 
 // The words of a reply, with a blank before each.

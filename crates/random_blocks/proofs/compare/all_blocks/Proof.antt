@@ -12,9 +12,6 @@ Inv-loop bytes₀ store₀ words₀ work₀ run₀ turn₀ bytes store words wor
 abbrev μ-loop : tie.MeasureT-loop
 μ-loop bytes₀ store₀ words₀ work₀ run₀ turn₀ bytes store words work run turn = 4000 - turn
 
-no-tally-requires : tie.Need-no-tally-requires Inv-loop μ-loop
-no-tally-requires c κs = search needs
-
 loop-holds : tie.Need-loop-holds Inv-loop μ-loop
 loop-holds c = search needs
 
@@ -51,7 +48,6 @@ all-blocks-spec =
     (tie.spec
     Inv-loop
     μ-loop
-    no-tally-requires
     loop-holds
     one-block-requires
     add-turn
