@@ -10,7 +10,7 @@ use Rattle.rules.specs.Records.{Netlist, empty}
 use Rattle.rules.specs.Families.{families, findings}
 use Rattle.rules.specs.Slices.{workBytes, filled, workAfter, reply}
 use Rattle.rules.specs.Checks.{answered, refused, andThen, judged, read, slicesFit, admitted}
-use Rattle.rules.specs.Demands.{Clear, NothingSuspect, OneProbe}
+use Rattle.rules.specs.Demands.{GlitchClear, NothingSuspect, OneProbe}
 use Rattle.rules.specs.Paper.{numberOf, placeOf, findingOf, replyOf}
 use Rattle.rules.specs.declared.Half.{Half}
 use Rattle.rules.specs.declared.Refusal.{Refusal}
@@ -19,7 +19,7 @@ use Rattle.rules.specs.declared.Reply.the-variants.{Refused, Answered}
 use Rattle.rules.proofs.Halves.{exactly-when}
 use Rattle.rules.proofs.Probe.{one-probe}
 use Rattle.records.specs.declared.Netlist as Value
-use Rattle.records.specs.Netlists.{tableOf, Ready}
+use Rattle.records.specs.Netlists.{flatOf, Ready}
 use Rattle.records.proofs.Netlists.{value-variables, value-count, well-formed}
 use Rattle.scan.specs.Suspects.{found}
 use Rattle.scan.proofs.Search.{found-half}
@@ -28,13 +28,13 @@ use Rattle.checker.specs.Work.{kept, Examines}
 
 -- a refusal, with nothing kept and nothing written
 refusal : (r : Refusal) (k p : ℕ) (examined : Examined) (work : List ℕ) → numberOf r ≡ k → placeOf r ≡ p
-    → examined .reply ≡ Refused r → examined .netlist ≡ tableOf empty → Examines (refused k p) examined work work
+    → examined .reply ≡ Refused r → examined .netlist ≡ flatOf empty → Examines (refused k p) examined work work
 unfolding andThen kept filled
 refusal r k p examined work n w e t =
     record { reply = subst (λ x. replyOf x ≡ refused k p) (sym e) (rw (n, w)); netlist = t; work = refl }
 
 -- the answer of a netlist whose families stand in the work slice
-pub answers : (value : Value.Netlist) (work : ℕ) → Ready value work → (n : Netlist) → value ≡ tableOf n → (settled glitch : Half) (before : List ℕ) {after : List ℕ}
+pub answers : (value : Value.Netlist) (work : ℕ) → Ready value work → (n : Netlist) → value ≡ flatOf n → (settled glitch : Half) (before : List ℕ) {after : List ℕ}
     → after ≡ workBytes (families n) ++ drop (length (workBytes (families n))) before → findingOf settled ≡ found n 0 after → findingOf glitch ≡ found n 1 after
     → Examines (answered n) (record {
       reply = Answered (record { variables = value .variables; nodes = value .count; settled = settled; glitch = glitch });
@@ -52,12 +52,12 @@ answers value work ready n e settled glitch before w s g =
 
 -- the slices are too short, or hold a netlist of so many nodes
 module _ (entries count : ℕ) (n : Netlist) (examined : Examined) (before : List ℕ) (same : count ≡ length (n .nodes)) where
-  pub few-entries : entries < count → examined .reply ≡ Refused (FewEntries count) → examined .netlist ≡ tableOf empty
+  pub few-entries : entries < count → examined .reply ≡ Refused (FewEntries count) → examined .netlist ≡ flatOf empty
       → Examines (slicesFit entries (length before) n) examined before before
   unfolding slicesFit judged
   few-entries h r t = rw (← same, lt-ltb _ _ h) (refusal _ _ _ examined before refl refl r t)
 
-  pub short-work : count ≤ entries → length before < 256 * count → examined .reply ≡ Refused (ShortWork (256 * count)) → examined .netlist ≡ tableOf empty
+  pub short-work : count ≤ entries → length before < 256 * count → examined .reply ≡ Refused (ShortWork (256 * count)) → examined .netlist ≡ flatOf empty
       → Examines (slicesFit entries (length before) n) examined before before
   unfolding slicesFit judged
   short-work h l r t = rw (← same, le-ltb _ _ h, lt-ltb _ _ l) (refusal _ _ _ examined before refl refl r t)
@@ -75,17 +75,17 @@ module _ (bytes : List ℕ) (entries : ℕ) where
   of-read n examined before after e x = rw e x
 
   pub of-refused : (r : Refusal) (examined : Examined) (before : List ℕ) → read bytes ≡ refused (numberOf r) (placeOf r)
-      → examined .reply ≡ Refused r → examined .netlist ≡ tableOf empty → Examines (admitted bytes entries (length before)) examined before before
+      → examined .reply ≡ Refused r → examined .netlist ≡ flatOf empty → Examines (admitted bytes entries (length before)) examined before before
   unfolding admitted andThen
   of-refused r examined before e q t = rw e (refusal r _ _ examined before refl refl q t)
 
   -- the promises of `examine`, in their order
   pub promises : (examined : Examined) (before after : List ℕ) → Examines (admitted bytes entries (length before)) examined before after
       → (replyOf (examined .reply) ≡ reply bytes entries (length before))
-      × ((examined .netlist ≡ tableOf (kept (admitted bytes entries (length before))))
+      × ((examined .netlist ≡ flatOf (kept (admitted bytes entries (length before))))
       × ((after ≡ workAfter bytes entries before)
-      × ((Clear (replyOf (examined .reply)) ↔ NothingSuspect bytes entries (length before))
-      × (Clear (replyOf (examined .reply)) → OneProbe bytes))))
+      × ((GlitchClear (replyOf (examined .reply)) ↔ NothingSuspect bytes entries (length before))
+      × (GlitchClear (replyOf (examined .reply)) → OneProbe bytes))))
   unfolding reply workAfter
   promises examined before after e =
       let is : replyOf (examined .reply) ≡ reply bytes entries (length before) = e .reply in (
@@ -95,8 +95,8 @@ module _ (bytes : List ℕ) (entries : ℕ) where
           (
             e .work,
             (
-              subst (λ r. Clear r ↔ NothingSuspect bytes entries (length before)) (sym is) (exactly-when bytes entries (length before)),
-              subst (λ r. Clear r → OneProbe bytes) (sym is) (one-probe bytes entries (length before)),
+              subst (λ r. GlitchClear r ↔ NothingSuspect bytes entries (length before)) (sym is) (exactly-when bytes entries (length before)),
+              subst (λ r. GlitchClear r → OneProbe bytes) (sym is) (one-probe bytes entries (length before)),
             ),
           ),
         ),

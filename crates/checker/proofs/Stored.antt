@@ -13,7 +13,7 @@ use Rattle.rules.specs.Slices.{entry, filled, nodesAfter}
 use Rattle.rules.specs.Checks.{Outcome, answered, refused, admitted}
 use Rattle.rules.proofs.Reading.{read-well-formed}
 use Rattle.rules.proofs.Room.{admitted-says}
-use Rattle.records.specs.Netlists.{padded, blank, tableOf}
+use Rattle.records.specs.Netlists.{padded, blank, flatOf}
 use Rattle.checker.specs.Work.{kept, stored}
 
 -- an element behind those that stand at the front
@@ -45,12 +45,12 @@ module _ (records before : List Node) where
       ap (λ (zs : List Node). set zs k (getD records k blank)) (stored-front k (le-of-lt h) (le-of-lt h′)) ∙ one-more blank k records before h h′
 
 -- all records of a netlist by value
-table-stored : (n : Netlist) (before : List Node) → length (n .nodes) ≤ length before
-    → stored (tableOf n .nodes) before (tableOf n .count) ≡ map entry (n .nodes) ++ drop (length (map entry (n .nodes))) before
-unfolding tableOf padded
-table-stored n before enough =
-    subst (λ (k : ℕ). stored (tableOf n .nodes) before k ≡ entries ++ drop (length entries) before) count
-    (stored-front (tableOf n .nodes) before (length entries) within (subst (λ (k : ℕ). k ≤ length before) (sym count) enough)
+flat-stored : (n : Netlist) (before : List Node) → length (n .nodes) ≤ length before
+    → stored (flatOf n .nodes) before (flatOf n .count) ≡ map entry (n .nodes) ++ drop (length (map entry (n .nodes))) before
+unfolding flatOf padded
+flat-stored n before enough =
+    subst (λ (k : ℕ). stored (flatOf n .nodes) before k ≡ entries ++ drop (length entries) before) count
+    (stored-front (flatOf n .nodes) before (length entries) within (subst (λ (k : ℕ). k ≤ length before) (sym count) enough)
     ∙ ap (λ (zs : List Node). zs ++ drop (length entries) before) (take-append-seam entries _))
   where
     entries : List Node
@@ -59,16 +59,16 @@ table-stored n before enough =
     count : length entries ≡ length (n .nodes)
     count = length-map (n .nodes) entry
 
-    within : length entries ≤ length (tableOf n .nodes)
+    within : length entries ≤ length (flatOf n .nodes)
     within = subst (λ (k : ℕ). length entries ≤ k) (sym (length-append entries _)) (le-add-right _ _)
 
 -- the count of what is kept
 pub kept-fits : (bytes : List ℕ) (entries work : ℕ)
-    → (tableOf (kept (admitted bytes entries work)) .count ≤ entries) × (tableOf (kept (admitted bytes entries work)) .count ≤ 200)
-unfolding tableOf kept
+    → (flatOf (kept (admitted bytes entries work)) .count ≤ entries) × (flatOf (kept (admitted bytes entries work)) .count ≤ 200)
+unfolding flatOf kept
 kept-fits bytes entries work = go (admitted bytes entries work) refl
   where
-    go : (o : Outcome Netlist) → admitted bytes entries work ≡ o → (tableOf (kept o) .count ≤ entries) × (tableOf (kept o) .count ≤ 200)
+    go : (o : Outcome Netlist) → admitted bytes entries work ≡ o → (flatOf (kept o) .count ≤ entries) × (flatOf (kept o) .count ≤ 200)
     go (answered n) e =
         let says = admitted-says bytes entries work n e in
         (says .room .enough-entries, read-well-formed bytes n (says .is-read) .few-nodes)
@@ -76,11 +76,11 @@ kept-fits bytes entries work = go (admitted bytes entries work) refl
 
 -- the slice at exit, where what is kept is stored
 pub kept-stored : (bytes : List ℕ) (before : List Node) (work : ℕ)
-    → stored (tableOf (kept (admitted bytes (length before) work)) .nodes) before (tableOf (kept (admitted bytes (length before) work)) .count) ≡ nodesAfter bytes before work
+    → stored (flatOf (kept (admitted bytes (length before) work)) .nodes) before (flatOf (kept (admitted bytes (length before) work)) .count) ≡ nodesAfter bytes before work
 unfolding kept filled nodesAfter
 kept-stored bytes before work = go (admitted bytes (length before) work) refl
   where
     go : (o : Outcome Netlist) → admitted bytes (length before) work ≡ o
-        → stored (tableOf (kept o) .nodes) before (tableOf (kept o) .count) ≡ filled (λ n. map entry (n .nodes)) o before
-    go (answered n) e = table-stored n before (admitted-says bytes (length before) work n e .room .enough-entries)
-    go (refused number place) e = table-stored empty before zero-le
+        → stored (flatOf (kept o) .nodes) before (flatOf (kept o) .count) ≡ filled (λ n. map entry (n .nodes)) o before
+    go (answered n) e = flat-stored n before (admitted-says bytes (length before) work n e .room .enough-entries)
+    go (refused number place) e = flat-stored empty before zero-le

@@ -9,7 +9,7 @@ use Rattle.rules.specs.Families.{families, findings}
 use Rattle.rules.specs.Slices.{workBytes, filled}
 use Rattle.rules.specs.Checks.{Outcome, answered, refused, andThen}
 use Rattle.rules.specs.Paper.{replyOf}
-use Rattle.records.specs.Netlists.{blank, tableOf}
+use Rattle.records.specs.Netlists.{blank, flatOf}
 use Rattle.checker.specs.declared.Examined.{Examined}
 
 -- the netlist of which records are kept: none on a refusal
@@ -20,7 +20,7 @@ kept (refused k p) = empty
 -- what is examined where the outcome of reading and of the slices is `outcome`, and the work slice held `before` and then holds `after`
 pub record Examines (outcome : Outcome Netlist) (examined : Examined) (before after : List ℕ) : Type 0 where
   pub reply : replyOf (examined .reply) ≡ andThen outcome (λ n. answered (findings n))
-  pub netlist : examined .netlist ≡ tableOf (kept outcome)
+  pub netlist : examined .netlist ≡ flatOf (kept outcome)
   pub work : after ≡ filled (λ n. workBytes (families n)) outcome before
 
 -- the entries `before` once the first k of the records stand at their front

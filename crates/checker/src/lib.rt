@@ -4,12 +4,13 @@ ghost use mathlib.Core.Path.{_≡_};
 ghost use mathlib.Core.Logic.{_↔_};
 ghost use Prim.Native.Nat.{_<_, _≤_};
 ghost use lib.ListN.{length, getD};
-ghost use Rattle.rules.specs.Records as Rules;
+ghost use Rattle.rules.specs.Records as Records;
+ghost use Rattle.rules.specs.Records.{most-nodes};
 ghost use Rattle.rules.specs.Slices.{nodesAfter, workAfter, reply};
 ghost use Rattle.rules.specs.Checks.{answered, slicesFit, admitted};
-ghost use Rattle.rules.specs.Demands.{Clear, NothingSuspect, OneProbe};
+ghost use Rattle.rules.specs.Demands.{GlitchClear, NothingSuspect, OneProbe};
 ghost use Rattle.rules.specs.Paper.{replyOf};
-ghost use Rattle.records.specs.Netlists.{blank, tableOf, Formed, Ready};
+ghost use Rattle.records.specs.Netlists.{blank, flatOf, Formed, Ready};
 ghost use Rattle.checker.specs.Work.{kept, Examines, stored};
 use records::Netlist;
 use records::Stage;
@@ -26,7 +27,7 @@ pub struct Examined {
 
 // A refusal, with nothing kept.
 fn refused(refusal: Refusal) -> Examined
-    ensures { λ r. ⌜ (r .reply ≡ Reply.Refused refusal) × (r .netlist ≡ tableOf Rules.empty) ⌝ }
+    ensures { λ r. ⌜ (r .reply ≡ Reply.Refused refusal) × (r .netlist ≡ flatOf Records.empty) ⌝ }
 {
     Examined {
         reply: Reply::Refused(refusal),
@@ -37,7 +38,7 @@ fn refused(refusal: Refusal) -> Examined
 // The answer for a netlist that both slices have room for.
 fn answer(netlist: Netlist, work: &mut [u8]) -> Examined
     requires { ⌜ Ready netlist (length (now work)) ⌝ }
-    ensures { λ r. ⌜ ((n : Rules.Netlist) → netlist ≡ tableOf n →
+    ensures { λ r. ⌜ ((n : Records.Netlist) → netlist ≡ flatOf n →
         Examines (answered n) r (now (work .entry)) (now (work .exit))) ⌝ }
 {
     nodes::all_families(netlist, work);
@@ -58,7 +59,7 @@ fn answer(netlist: Netlist, work: &mut [u8]) -> Examined
 // The answer for a netlist that was read, or the refusal of slices that are too short for it.
 fn admit(netlist: Netlist, entries: usize, work: &mut [u8]) -> Examined
     requires { ⌜ Formed netlist ⌝ }
-    ensures { λ r. ⌜ ((n : Rules.Netlist) → netlist ≡ tableOf n →
+    ensures { λ r. ⌜ ((n : Records.Netlist) → netlist ≡ flatOf n →
         Examines (slicesFit entries (length (now (work .entry))) n) r (now (work .entry)) (now (work .exit))) ⌝ }
 {
     let count = netlist.count;
@@ -75,11 +76,11 @@ fn admit(netlist: Netlist, entries: usize, work: &mut [u8]) -> Examined
 // The same as `check` for a slice of so many entries, with the node records by value.
 pub fn examine(bytes: &[u8], entries: usize, work: &mut [u8]) -> Examined
     ensures reply { λ r. ⌜ replyOf (r .reply) ≡ reply (now (bytes .entry)) entries (length (now (work .entry))) ⌝ }
-    ensures netlist { λ r. ⌜ r .netlist ≡ tableOf (kept (admitted (now (bytes .entry)) entries (length (now (work .entry))))) ⌝ }
+    ensures netlist { λ r. ⌜ r .netlist ≡ flatOf (kept (admitted (now (bytes .entry)) entries (length (now (work .entry))))) ⌝ }
     ensures work { λ _. ⌜ now (work .exit) ≡ workAfter (now (bytes .entry)) entries (now (work .entry)) ⌝ }
-    ensures clear { λ r. ⌜ Clear (replyOf (r .reply)) ↔
+    ensures clear { λ r. ⌜ GlitchClear (replyOf (r .reply)) ↔
         NothingSuspect (now (bytes .entry)) entries (length (now (work .entry))) ⌝ }
-    ensures probe { λ r. ⌜ (Clear (replyOf (r .reply)) → OneProbe (now (bytes .entry))) ⌝ }
+    ensures probe { λ r. ⌜ (GlitchClear (replyOf (r .reply)) → OneProbe (now (bytes .entry))) ⌝ }
 {
     let progress = records::read(bytes);
     let stage = progress.stage;
@@ -102,7 +103,7 @@ fn count_of(examined: Examined) -> usize
 }
 
 fn record_of(examined: Examined, i: usize) -> Node
-    requires { ⌜ i < 200 ⌝ }
+    requires { ⌜ i < most-nodes ⌝ }
     ensures { λ r. ⌜ r ≡ getD (examined .netlist .nodes) i blank ⌝ }
 {
     let netlist = examined.netlist;
@@ -117,7 +118,7 @@ fn reply_of(examined: Examined) -> Reply
 
 // Writes the node records that were examined to the front of the slice.
 fn store(nodes: &mut [Node], examined: Examined)
-    requires { ⌜ (examined .netlist .count ≤ length (now nodes)) × (examined .netlist .count ≤ 200) ⌝ }
+    requires { ⌜ (examined .netlist .count ≤ length (now nodes)) × (examined .netlist .count ≤ most-nodes) ⌝ }
     ensures { λ _. ⌜ now (nodes .exit) ≡ stored (examined .netlist .nodes) (now (nodes .entry)) (examined .netlist .count) ⌝ }
 {
     let count = count_of(examined);
@@ -145,9 +146,9 @@ pub fn check(bytes: &[u8], nodes: &mut [Node], work: &mut [u8]) -> Reply
     ensures nodes { λ _. ⌜ now (nodes .exit) ≡
         nodesAfter (now (bytes .entry)) (now (nodes .entry)) (length (now (work .entry))) ⌝ }
     ensures work { λ _. ⌜ now (work .exit) ≡ workAfter (now (bytes .entry)) (length (now (nodes .entry))) (now (work .entry)) ⌝ }
-    ensures clear { λ r. ⌜ Clear (replyOf r) ↔
+    ensures clear { λ r. ⌜ GlitchClear (replyOf r) ↔
         NothingSuspect (now (bytes .entry)) (length (now (nodes .entry))) (length (now (work .entry))) ⌝ }
-    ensures probe { λ r. ⌜ (Clear (replyOf r) → OneProbe (now (bytes .entry))) ⌝ }
+    ensures probe { λ r. ⌜ (GlitchClear (replyOf r) → OneProbe (now (bytes .entry))) ⌝ }
 {
     let examined = examine(bytes, nodes.len(), work);
     store(nodes, examined);

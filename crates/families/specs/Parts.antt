@@ -4,7 +4,7 @@ use Prim.Native.Nat.{ℕ, zero, suc, _+_, _*_, _/_, _%_, _^_, _≤_}
 use mathlib.Core.Bool.{Bool, cond}
 use mathlib.Core.List.{List, [], _∷_, _++_}
 use lib.ListN.{length, getD, take, drop}
-use Rattle.rules.specs.Records.{odd}
+use Rattle.rules.specs.Records.{odd, most-sets}
 use Rattle.rules.specs.Families.{Family}
 use Rattle.rules.specs.Slices.{familyBytes}
 
@@ -23,7 +23,7 @@ setsBelow bytes part (suc k) = let rest = setsBelow bytes part k in cond (holdsA
 
 -- the family that a part holds
 unfoldable pub familyAt : List ℕ → (part : ℕ) → Family
-familyAt bytes part = setsBelow bytes part 1024
+familyAt bytes part = setsBelow bytes part most-sets
 
 -- the bytes with a family in one part, and all others as they were
 unfoldable pub withFamily : List ℕ → (part : ℕ) → Family → List ℕ

@@ -9,7 +9,7 @@ ghost use lib.Bits.{bitXor};
 ghost use lib.Dec.{eqb};
 ghost use lib.ListN.{length};
 ghost use Rattle.rules.specs.Lists.{digit, member, insert, union};
-ghost use Rattle.rules.specs.Records.{odd};
+ghost use Rattle.rules.specs.Records.{odd, most-sets};
 ghost use Rattle.rules.specs.Families.{product, spread};
 ghost use Rattle.families.specs.Parts.{HasPart, familyAt, withFamily};
 
@@ -20,7 +20,7 @@ const PART: usize = 128;
 
 // Whether a part holds a set.
 pub fn holds(work: &[u8], part: usize, set: usize) -> bool
-    requires { ⌜ HasPart (now work) part × (set < 1024) ⌝ }
+    requires { ⌜ HasPart (now work) part × (set < most-sets) ⌝ }
     ensures { λ r. ⌜ r ≡ member set (familyAt (now (work .entry)) part) ⌝ }
 {
     (work[PART * part + set / 8] >> (set % 8)) % 2 == 1
@@ -48,15 +48,15 @@ fn one_if(yes: bool) -> usize
 }
 
 // Takes every set out of a part.
-fn clear(work: &mut [u8], part: usize)
+fn make_empty(work: &mut [u8], part: usize)
     requires { ⌜ HasPart (now work) part ⌝ }
     ensures { λ _. ⌜ now (work .exit) ≡ withFamily (now (work .entry)) part [] ⌝ }
 {
     let from = PART * part;
-    let mut cleared = 0;
-    while cleared < PART {
-        work[from + cleared] = 0;
-        cleared += 1;
+    let mut emptied = 0;
+    while emptied < PART {
+        work[from + emptied] = 0;
+        emptied += 1;
     }
 }
 
@@ -70,7 +70,7 @@ fn with_bit(byte: u8, k: usize) -> u8
 
 // Puts a set into a part.
 pub fn insert(work: &mut [u8], part: usize, set: usize)
-    requires { ⌜ HasPart (now work) part × (set < 1024) ⌝ }
+    requires { ⌜ HasPart (now work) part × (set < most-sets) ⌝ }
     ensures { λ _. ⌜ now (work .exit) ≡ withFamily (now (work .entry)) part (insert set (familyAt (now (work .entry)) part)) ⌝ }
 {
     let at = PART * part + set / 8;
@@ -94,10 +94,10 @@ fn unite(work: &mut [u8], into: usize, from: usize)
 
 // A part holds one set only.
 pub fn single(work: &mut [u8], into: usize, set: usize)
-    requires { ⌜ HasPart (now work) into × (set < 1024) ⌝ }
+    requires { ⌜ HasPart (now work) into × (set < most-sets) ⌝ }
     ensures { λ _. ⌜ now (work .exit) ≡ withFamily (now (work .entry)) into (set ∷ []) ⌝ }
 {
-    clear(work, into);
+    make_empty(work, into);
     insert(work, into, set);
 }
 
@@ -106,7 +106,7 @@ pub fn copy(work: &mut [u8], into: usize, from: usize)
     requires { ⌜ HasPart (now work) into × (from < into) ⌝ }
     ensures { λ _. ⌜ now (work .exit) ≡ withFamily (now (work .entry)) into (familyAt (now (work .entry)) from) ⌝ }
 {
-    clear(work, into);
+    make_empty(work, into);
     unite(work, into, from);
 }
 
@@ -149,7 +149,7 @@ fn turned(byte: u8, by: usize) -> u8
 
 // Puts the symmetric differences of one set with all sets of a lower part into a part.
 fn differences(work: &mut [u8], into: usize, from: usize, set: usize)
-    requires { ⌜ HasPart (now work) into × (from < into) × (set < 1024) ⌝ }
+    requires { ⌜ HasPart (now work) into × (from < into) × (set < most-sets) ⌝ }
     ensures { λ _. ⌜ now (work .exit) ≡ withFamily (now (work .entry)) into
         (union (map (bitXor set) (familyAt (now (work .entry)) from)) (familyAt (now (work .entry)) into)) ⌝ }
 {
@@ -166,7 +166,7 @@ fn differences(work: &mut [u8], into: usize, from: usize, set: usize)
 
 // The turn of `multiply` at one set of the first family, or none where that family lacks it.
 fn multiply_by(work: &mut [u8], into: usize, first: usize, second: usize, set: usize)
-    requires { ⌜ HasPart (now work) into × (first < into) × (second < into) × (set < 1024) ⌝ }
+    requires { ⌜ HasPart (now work) into × (first < into) × (second < into) × (set < most-sets) ⌝ }
     ensures { λ _. ⌜ now (work .exit) ≡ cond (member set (familyAt (now (work .entry)) first))
         (withFamily (now (work .entry)) into
         (union (map (bitXor set) (familyAt (now (work .entry)) second)) (familyAt (now (work .entry)) into)))
@@ -183,7 +183,7 @@ pub fn multiply(work: &mut [u8], into: usize, first: usize, second: usize)
     ensures { λ _. ⌜ now (work .exit) ≡ withFamily (now (work .entry)) into
         (product (familyAt (now (work .entry)) first) (familyAt (now (work .entry)) second)) ⌝ }
 {
-    clear(work, into);
+    make_empty(work, into);
     let mut set = 0;
     while set < SETS {
         multiply_by(work, into, first, second, set);

@@ -6,7 +6,7 @@ use mathlib.Core.List.{List}
 use lib.Dec.{T}
 use Rattle.rules.specs.declared.Node.{Node}
 use Rattle.rules.specs.Lists.{member, tabulate}
-use Rattle.rules.specs.Records.{Cell, operands, setOf}
+use Rattle.rules.specs.Records.{Cell, operands, setOf, most-sets}
 use Rattle.rules.specs.Families.{Families}
 use Rattle.rules.specs.Slices.{entry}
 use Rattle.families.specs.Parts.{familyAt, withFamily}
@@ -23,9 +23,9 @@ soFar bytes i = tabulate (familiesIn bytes) i
 unfoldable pub withFamilies : List ℕ → (i : ℕ) → Families → List ℕ
 withFamilies bytes i F = withFamily (withFamily bytes (2 * i) (F .settled)) (2 * i + 1) (F .glitch)
 
--- a node record that can stand at number i: that of a node whose operands are lower and whose set is one of ten variables
+-- a node record that can stand at number i: that of a node whose operands are lower and whose set is one of the variables there may be
 pub record Placed (i : ℕ) (n : Node) : Type 0 where
   pub cell : Cell
   pub is : n ≡ entry cell
   pub lower : (a : ℕ) → T (member a (operands cell)) → a < i
-  pub small : setOf cell < 1024
+  pub small : setOf cell < most-sets

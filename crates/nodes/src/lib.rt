@@ -6,11 +6,11 @@ ghost use mathlib.Core.Bool.{cond};
 ghost use mathlib.Core.List.{_++_};
 ghost use lib.Dec.{eqb};
 ghost use lib.ListN.{length, drop};
-ghost use Rattle.rules.specs.Records as Rules;
+ghost use Rattle.rules.specs.Records as Records;
 ghost use Rattle.rules.specs.Records.{Cell};
 ghost use Rattle.rules.specs.Families.{product, spread, settledRule, glitchRule, familiesRule, families};
 ghost use Rattle.rules.specs.Slices.{entry, workBytes};
-ghost use Rattle.records.specs.Netlists.{tableOf, Ready};
+ghost use Rattle.records.specs.Netlists.{flatOf, Ready};
 ghost use Rattle.families.specs.Parts.{HasPart, familyAt, withFamily};
 ghost use Rattle.nodes.specs.Work.{soFar, withFamilies, Placed};
 use records::Netlist;
@@ -85,7 +85,7 @@ fn node_families(work: &mut [u8], i: usize, node: Node)
 // The families of all nodes, in file order.
 pub fn all_families(netlist: Netlist, work: &mut [u8])
     requires { ⌜ Ready netlist (length (now work)) ⌝ }
-    ensures { λ _. ⌜ ((n : Rules.Netlist) → netlist ≡ tableOf n →
+    ensures { λ _. ⌜ ((n : Records.Netlist) → netlist ≡ flatOf n →
         now (work .exit) ≡ workBytes (families n) ++ drop (length (workBytes (families n))) (now (work .entry))) ⌝ }
 {
     let count = netlist.count;

@@ -17,7 +17,7 @@ use Rattle.rules.specs.declared.QueryOutcome.{QueryOutcome}
 use Rattle.rules.specs.declared.QueryOutcome.the-variants as Query
 use Rattle.rules.proofs.Records.{condition, passes, answer}
 use Rattle.rules.proofs.Reading.{read-well-formed}
-use Rattle.records.specs.Netlists.{tableOf, Formed}
+use Rattle.records.specs.Netlists.{flatOf, Formed}
 use Rattle.records.proofs.Netlists.{value-count}
 use Rattle.queries.specs.declared.Asked.{Asked}
 use Rattle.queries.specs.Replies.{Asks}
@@ -30,7 +30,7 @@ module _ (asked : Asked) (end : Outcome Netlist) where
   unfolding andThen
   asks-refused r o e = record { outcome = rw (o, e); netlist = λ n a. let z : _≡_ {A = ℕ} 0 1 = cc in absurd (omega arith) }
 
-  pub asks-answered : (n : Netlist) → asked .outcome ≡ Query.Answered → asked .netlist ≡ tableOf n → end ≡ answered n → Asks asked end
+  pub asks-answered : (n : Netlist) → asked .outcome ≡ Query.Answered → asked .netlist ≡ flatOf n → end ≡ answered n → Asks asked end
   unfolding andThen
   asks-answered n o t e = record { outcome = rw (o, e); netlist = λ m a. let same : n ≡ m = cc in rw (← same) t }
 
@@ -38,7 +38,7 @@ module _ (asked : Asked) (end : Outcome Netlist) where
 pub record Stands (asked : Asked) (end : Outcome Netlist) : Type 0 where
   pub netlist : Netlist
   pub is : end ≡ answered netlist
-  pub value : asked .netlist ≡ tableOf netlist
+  pub value : asked .netlist ≡ flatOf netlist
 
 module _ {asked : Asked} where
   pub asked-stands : (end : Outcome Netlist) → Asks asked end → asked .outcome ≡ Query.Answered → Stands asked end

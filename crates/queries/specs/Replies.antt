@@ -7,13 +7,13 @@ use lib.ListN.{getD, set}
 use Rattle.rules.specs.Records.{Cell, input, NOT, XOR, AND, OR, register, Netlist}
 use Rattle.rules.specs.Checks.{Outcome, answered, andThen}
 use Rattle.rules.specs.Paper.{queryOf}
-use Rattle.records.specs.Netlists.{tableOf}
+use Rattle.records.specs.Netlists.{flatOf}
 use Rattle.queries.specs.declared.Asked.{Asked}
 
 -- what is asked where reading and the query's checks come to `end`
 pub record Asks (asked : Asked) (end : Outcome Netlist) : Type 0 where
   pub outcome : queryOf (asked .outcome) ≡ andThen end (λ n. answered tt)
-  pub netlist : (n : Netlist) → end ≡ answered n → asked .netlist ≡ tableOf n
+  pub netlist : (n : Netlist) → end ≡ answered n → asked .netlist ≡ flatOf n
 
 -- the marks with some nodes' set
 unfoldable pub markAll : List ℕ → List Bool → List Bool

@@ -7,15 +7,15 @@ ghost use mathlib.Core.List.{[], _∷_};
 ghost use Prim.Native.Nat.{_<_};
 ghost use lib.ListN.{length};
 ghost use Rattle.rules.specs.Lists.{member, tabulate};
-ghost use Rattle.rules.specs.Records as Rules;
-ghost use Rattle.rules.specs.Records.{Cell, bits, most-nodes};
+ghost use Rattle.rules.specs.Records as Records;
+ghost use Rattle.rules.specs.Records.{Cell, bits, most-nodes, most-sets};
 ghost use Rattle.rules.specs.Values.{exclusiveOr, valueRule, values, feeding};
 ghost use Rattle.rules.specs.Families.{familiesAt};
 ghost use Rattle.rules.specs.Slices.{entry};
 ghost use Rattle.rules.specs.Checks.{queried, queriedWith, judged, nodeCheck};
 ghost use Rattle.rules.specs.Queries.{valueQuery, feedingQuery, membershipQuery};
 ghost use Rattle.rules.specs.Paper.{valueOf, feedingOf, membershipOf};
-ghost use Rattle.records.specs.Netlists.{padded, tableOf, Formed};
+ghost use Rattle.records.specs.Netlists.{padded, flatOf, Formed};
 ghost use Rattle.queries.specs.Replies.{Asks, handedOn};
 use records::Netlist;
 use records::Stage;
@@ -49,7 +49,7 @@ fn refused(refusal: Refusal) -> Asked
 // A query of a node of a netlist that was read.
 fn of_node(netlist: Netlist, node: usize) -> Asked
     requires { ⌜ Formed netlist ⌝ }
-    ensures { λ r. ⌜ ((n : Rules.Netlist) → netlist ≡ tableOf n → Asks r (judged (nodeCheck node n ∷ []) n)) ⌝ }
+    ensures { λ r. ⌜ ((n : Records.Netlist) → netlist ≡ flatOf n → Asks r (judged (nodeCheck node n ∷ []) n)) ⌝ }
 {
     if netlist.count <= node {
         return refused(Refusal::NoSuchNode(node));
@@ -131,7 +131,7 @@ fn value_from(values: &[bool], node: Node, variables: usize, assignment: usize) 
 // The settled values of all nodes under an assignment, in file order; beyond them all are 0.
 fn settled_values(netlist: Netlist, assignment: usize) -> [bool; MOST_NODES]
     requires { ⌜ Formed netlist ⌝ }
-    ensures { λ r. ⌜ ((n : Rules.Netlist) → netlist ≡ tableOf n →
+    ensures { λ r. ⌜ ((n : Records.Netlist) → netlist ≡ flatOf n →
         r ≡ padded most-nodes false (values n (bits (length (n .variables)) assignment))) ⌝ }
 {
     let variables = netlist.variables;
@@ -169,7 +169,7 @@ pub fn settled_value(bytes: &[u8], node: usize, assignment: usize) -> ValueReply
 
 // The marks once node `i` has handed its own on to its operands, where it is a gate and marked.
 fn hand_on(marks: [bool; MOST_NODES], i: usize, node: Node) -> [bool; MOST_NODES]
-    requires { ⌜ (i < 200) × (node .first < 200) × (node .second < 200) ⌝ }
+    requires { ⌜ (i < most-nodes) × (node .first < most-nodes) × (node .second < most-nodes) ⌝ }
     ensures { λ r. ⌜ ((cell : Cell) → node ≡ entry cell → r ≡ handedOn marks i cell) ⌝ }
 {
     let kind = node.kind;
@@ -195,7 +195,7 @@ fn hand_on(marks: [bool; MOST_NODES], i: usize, node: Node) -> [bool; MOST_NODES
 // operands, until inputs and registers alone are marked.
 fn feeding_marks(netlist: Netlist, node: usize) -> [bool; MOST_NODES]
     requires { ⌜ Formed netlist × (node < netlist .count) ⌝ }
-    ensures { λ r. ⌜ ((n : Rules.Netlist) → netlist ≡ tableOf n →
+    ensures { λ r. ⌜ ((n : Records.Netlist) → netlist ≡ flatOf n →
         r ≡ tabulate (λ i. member i (feeding n node)) most-nodes) ⌝ }
 {
     let mut marks = [false; MOST_NODES];
@@ -231,8 +231,8 @@ pub fn feeding_points(bytes: &[u8], node: usize) -> FeedingReply
 
 // Whether a set is in each family of a node of a netlist that was read.
 fn in_families(netlist: Netlist, node: usize, set: usize) -> MembershipReply
-    requires { ⌜ Formed netlist × (node < netlist .count) × (set < 1024) ⌝ }
-    ensures { λ r. ⌜ ((n : Rules.Netlist) → netlist ≡ tableOf n → (r .outcome ≡ QueryOutcome.Answered)
+    requires { ⌜ Formed netlist × (node < netlist .count) × (set < most-sets) ⌝ }
+    ensures { λ r. ⌜ ((n : Records.Netlist) → netlist ≡ flatOf n → (r .outcome ≡ QueryOutcome.Answered)
         × (r .settled ≡ member set (familiesAt n node .settled)) × (r .glitch ≡ member set (familiesAt n node .glitch))) ⌝ }
 {
     let mut work = [0u8; MOST_WORK];

@@ -1,4 +1,4 @@
--- Netlists by value: a store behind the entries is one entry more, each entry stands in the table, and no two netlists have the same one. By laws
+-- Netlists by value: a store behind the entries is one entry more, each entry stands in the flat form, and no two netlists have the same one. By laws
 -- of padded lists of any length, so that no array is unfolded. Assumes nothing.
 use Prim.Native.Nat.{ℕ, zero, suc, _-_, _≤_, _<_}
 use mathlib.Core.Path.{_≡_, refl, sym, ap, subst, _∙_}
@@ -9,17 +9,18 @@ use lib.ListN.{length, getD, take, set, replicate, length-append, length-map, Li
 use lib.Seq.{append-snoc, set-append-seam, take-at}
 use Rattle.rules.specs.declared.Node.{Node}
 use Rattle.rules.specs.declared.Refusal.{Refusal}
-use Rattle.rules.specs.Records.{Class, secret, mask, public, Cell, input, NOT, XOR, AND, OR, register, Netlist, WellFormed, classOf, classByte, kindOf, operands, setOf}
+use Rattle.rules.specs.Records.{public, Cell, input, NOT, XOR, AND, OR, register, Netlist, WellFormed, classOf, classByte, kindOf, operands, setOf}
 use Rattle.rules.specs.Slices.{entry}
 use Rattle.rules.specs.Checks.{Outcome, answered, refused, reading, finished, read}
 use Rattle.rules.specs.Paper.{numberOf, placeOf}
 use Rattle.rules.proofs.Members.{all-at}
+use Rattle.rules.proofs.Records.{class-of-byte}
 use Rattle.rules.proofs.Reading.{read-well-formed}
-use Rattle.records.specs.declared.Netlist.{Netlist as Table}
+use Rattle.records.specs.declared.Netlist.{Netlist as Flat}
 use Rattle.records.specs.declared.Stage.{Stage}
 use Rattle.records.specs.declared.Stage.the-variants as Stage
 use Rattle.records.specs.declared.Progress.{Progress}
-use Rattle.records.specs.Netlists.{padded, blank, tableOf, Formed, RefusedAs, Reached}
+use Rattle.records.specs.Netlists.{padded, blank, flatOf, Formed, RefusedAs, Reached}
 
 -- ---- padded lists
 
@@ -83,24 +84,18 @@ module _ {ℓ κ} {A : Type ℓ} {B : Type κ} (f : A → B) (k : ℕ) (rest : B
         back : (zs : List A) → map g (take (length zs) (padded k rest (map f zs))) ≡ zs
         back zs = rw (take-at (map f zs) _ (length zs) (length-map zs f)) (map-back zs)
 
--- ---- tables
+-- ---- flat netlists
 
--- each class and each node stands in the table
-pub table-class-at : (n : Netlist) (i : ℕ) → i < length (n .variables) → getD (tableOf n .classes) i 0 ≡ classByte (getD (n .variables) i public)
-unfolding tableOf
-table-class-at n i h = made-at classByte 10 0 (n .variables) i public h
+-- each class and each node stands in the flat netlist
+pub flat-class-at : (n : Netlist) (i : ℕ) → i < length (n .variables) → getD (flatOf n .classes) i 0 ≡ classByte (getD (n .variables) i public)
+unfolding flatOf
+flat-class-at n i h = made-at classByte 10 0 (n .variables) i public h
 
-pub table-entry-at : (n : Netlist) (i : ℕ) → i < length (n .nodes) → getD (tableOf n .nodes) i blank ≡ entry (getD (n .nodes) i (input 0))
-unfolding tableOf
-table-entry-at n i h = made-at entry 200 blank (n .nodes) i (input 0) h
+pub flat-entry-at : (n : Netlist) (i : ℕ) → i < length (n .nodes) → getD (flatOf n .nodes) i blank ≡ entry (getD (n .nodes) i (input 0))
+unfolding flatOf
+flat-entry-at n i h = made-at entry 200 blank (n .nodes) i (input 0) h
 
--- a class and a node are read back off the table
-class-back : (c : Class) → classOf (classByte c) ≡ c
-unfolding classOf classByte
-class-back secret = refl
-class-back mask = refl
-class-back public = refl
-
+-- a node is read back off its record
 cellOf : Node → Cell
 cellOf e =
     getD
@@ -125,32 +120,32 @@ cell-back (AND a b) = refl
 cell-back (OR a b) = refl
 cell-back (register a) = refl
 
--- no two netlists have the same table
-table-injective : (n m : Netlist) → tableOf n ≡ tableOf m → n ≡ m
-unfolding tableOf
-table-injective n m e =
+-- no two netlists have the same flat form
+flat-injective : (n m : Netlist) → flatOf n ≡ flatOf m → n ≡ m
+unfolding flatOf
+flat-injective n m e =
     let variables =
-    made-back classByte 10 0 classOf class-back (n .variables) (m .variables) (ap (λ (t : Table). t .variables) e) (ap (λ (t : Table). t .classes) e) in
-    let nodes = made-back entry 200 blank cellOf cell-back (n .nodes) (m .nodes) (ap (λ (t : Table). t .count) e) (ap (λ (t : Table). t .nodes) e) in
+    made-back classByte 10 0 classOf class-of-byte (n .variables) (m .variables) (ap (λ (t : Flat). t .variables) e) (ap (λ (t : Flat). t .classes) e) in
+    let nodes = made-back entry 200 blank cellOf cell-back (n .nodes) (m .nodes) (ap (λ (t : Flat). t .count) e) (ap (λ (t : Flat). t .nodes) e) in
     let same : _≡_ {A = Netlist} (record { variables = n .variables; nodes = n .nodes }) (record { variables = m .variables; nodes = m .nodes }) = cc in
     same
 
 -- ---- a netlist by value
 
-module _ {value : Table} (n : Netlist) (e : value ≡ tableOf n) where
+module _ {value : Flat} (n : Netlist) (e : value ≡ flatOf n) where
   pub value-variables : value .variables ≡ length (n .variables)
-  unfolding tableOf
-  value-variables = ap (λ (t : Table). t .variables) e
+  unfolding flatOf
+  value-variables = ap (λ (t : Flat). t .variables) e
 
   pub value-count : value .count ≡ length (n .nodes)
-  unfolding tableOf
-  value-count = ap (λ (t : Table). t .count) e
+  unfolding flatOf
+  value-count = ap (λ (t : Flat). t .count) e
 
   pub value-entry : (i : ℕ) → i < value .count → getD (value .nodes) i blank ≡ entry (getD (n .nodes) i (input 0))
-  value-entry i h = ap (λ (t : Table). getD (t .nodes) i blank) e ∙ table-entry-at n i (omega (arith, value-count))
+  value-entry i h = ap (λ (t : Flat). getD (t .nodes) i blank) e ∙ flat-entry-at n i (omega (arith, value-count))
 
 -- of one that obeys the record rules
-module _ {value : Table} (f : Formed value) where
+module _ {value : Flat} (f : Formed value) where
   pub few-variables : value .variables ≤ 10
   few-variables = omega (arith, value-variables (f .netlist) (f .is), f .obeys .few-variables)
 
@@ -158,10 +153,10 @@ module _ {value : Table} (f : Formed value) where
   few-nodes = omega (arith, value-count (f .netlist) (f .is), f .obeys .few-nodes)
 
   -- it is the value of one netlist only, and that one obeys the rules
-  pub one-netlist : (n : Netlist) → value ≡ tableOf n → f .netlist ≡ n
-  one-netlist n e = table-injective (f .netlist) n (sym (f .is) ∙ e)
+  pub one-netlist : (n : Netlist) → value ≡ flatOf n → f .netlist ≡ n
+  one-netlist n e = flat-injective (f .netlist) n (sym (f .is) ∙ e)
 
-  pub well-formed : (n : Netlist) → value ≡ tableOf n → WellFormed n
+  pub well-formed : (n : Netlist) → value ≡ flatOf n → WellFormed n
   well-formed n e = subst (λ (m : Netlist). WellFormed m) (one-netlist n e) (f .obeys)
 
   -- both operand fields of a node's record are numbers of nodes; where the kind has no such operand the field is 0
@@ -189,7 +184,7 @@ module _ (s : Progress) (n : Netlist) (here : ℕ) (e : Reached s (reading n her
   unfolding Reached
   reading-here = ap (λ (p : Progress). p .here) e
 
-  pub reading-netlist : s .netlist ≡ tableOf n
+  pub reading-netlist : s .netlist ≡ flatOf n
   unfolding Reached
   reading-netlist = ap (λ (p : Progress). p .netlist) e
 
@@ -199,7 +194,7 @@ module _ (s : Progress) (n : Netlist) (here : ℕ) (e : Reached s (reading n her
 pub record Ends (s : Progress) (outcome : Outcome Netlist) : Type 0 where
   pub netlist : Netlist
   pub is : outcome ≡ answered netlist
-  pub value : s .netlist ≡ tableOf netlist
+  pub value : s .netlist ≡ flatOf netlist
 
 module _ (s : Progress) where
   pub read-ended : (o : Outcome Netlist) → Reached s (finished o) → s .stage ≡ Stage.Ended → Ends s o

@@ -6,7 +6,7 @@ use mathlib.Core.List.{List, _++_, map}
 use lib.ListN.{length, getD, replicate}
 use Rattle.rules.specs.declared.Node.{Node}
 use Rattle.rules.specs.Records as R
-use Rattle.rules.specs.Records.{Record, empty, most-variables, most-nodes, said, classByte}
+use Rattle.rules.specs.Records.{Record, empty, most-variables, most-nodes, said, classByte, last-kind, most-record}
 use Rattle.rules.specs.Slices.{entry}
 use Rattle.rules.specs.Checks as C
 use Rattle.rules.specs.Checks.{Outcome, answered, refused, andThen, overLimit, judgedAt, reading, finished}
@@ -47,8 +47,8 @@ abbrev pub blank : Node
 blank = record { kind = 0; first = 0; second = 0; set = 0 }
 
 -- a netlist by value: beyond the counts all is 0
-unfoldable pub tableOf : R.Netlist → Netlist
-tableOf n = record {
+unfoldable pub flatOf : R.Netlist → Netlist
+flatOf n = record {
   variables = length (n .variables);
   count = length (n .nodes);
   classes = padded most-variables 0 (map classByte (n .variables));
@@ -58,7 +58,7 @@ tableOf n = record {
 -- a netlist by value is that of a netlist that obeys the record rules
 pub record Formed (value : Netlist) : Type 0 where
   pub netlist : R.Netlist
-  pub is : value ≡ tableOf netlist
+  pub is : value ≡ flatOf netlist
   pub obeys : R.WellFormed netlist
 
 -- and so many work bytes have room for its nodes
@@ -68,10 +68,10 @@ pub record Ready (value : Netlist) (work : ℕ) : Type 0 where
 
 -- the record of these bytes has a kind and, where it is a variable, a class; and there is room for it behind those of a reading
 pub record RoomFor (progress : Progress) (k b c : ℕ) : Type 0 where
-  pub kind : k ≤ 7
+  pub kind : k ≤ last-kind
   pub class : k ≡ 1 → b ≤ 2
   pub room : overLimit (progress .netlist .variables) (progress .netlist .count) (said k b c) ≡ false
-  pub here : progress .here + 3 < 2 ^ 64
+  pub here : progress .here + most-record < 2 ^ 64
 
 -- a stage is the refusal with this number and place
 unfoldable pub RefusedAs : Stage → (number place : ℕ) → Type 0
@@ -83,10 +83,10 @@ RefusedAs (Stage.Refused r) k p = (numberOf r ≡ k) × (placeOf r ≡ p)
 pub record RefusedWith (s : Progress) (number place : ℕ) : Type 0 where
   pub stage : RefusedAs (s .stage) number place
   pub here : s .here ≡ 0
-  pub netlist : s .netlist ≡ tableOf empty
+  pub netlist : s .netlist ≡ flatOf empty
 
 -- how far the reading of a file has come
 unfoldable pub Reached : Progress → C.Progress → Type 0
-Reached s (reading n here) = s ≡ record { stage = Stage.Reading; here = here; netlist = tableOf n }
-Reached s (finished (answered n)) = s ≡ record { stage = Stage.Ended; here = 0; netlist = tableOf n }
+Reached s (reading n here) = s ≡ record { stage = Stage.Reading; here = here; netlist = flatOf n }
+Reached s (finished (answered n)) = s ≡ record { stage = Stage.Ended; here = 0; netlist = flatOf n }
 Reached s (finished (refused k p)) = RefusedWith s k p

@@ -4,13 +4,13 @@ ghost use mathlib.Core.Path.{_≡_};
 ghost use mathlib.Core.Logic.{_⊎_};
 ghost use Prim.Native.Nat.{ℕ, _+_, _<_, _≤_};
 ghost use lib.ListN.{getD};
-ghost use Rattle.rules.specs.Records.{Cell, Class, said, size, node, classByte, empty, withVariable, withNode};
-ghost use Rattle.rules.specs.Records as Rules;
+ghost use Rattle.rules.specs.Records.{Cell, Class, said, size, node, classByte, empty, withVariable, withNode, most-variables, most-nodes, last-kind, most-record};
+ghost use Rattle.rules.specs.Records as Records;
 ghost use Rattle.rules.specs.Slices.{entry};
 ghost use Rattle.rules.specs.Checks.{answered, undeclared, judgedRecord, finished, taken, step};
 ghost use Rattle.rules.specs.Checks as Checks;
 ghost use Rattle.rules.specs.Paper.{numberOf, placeOf};
-ghost use Rattle.records.specs.Netlists.{foundOf, foundIf, foundAt, tableOf, RoomFor, Reached};
+ghost use Rattle.records.specs.Netlists.{foundOf, foundIf, foundAt, flatOf, RoomFor, Reached};
 use rules::MOST_NODES;
 use rules::MOST_VARIABLES;
 use rules::Node;
@@ -245,7 +245,7 @@ pub fn next_record(bytes: &[u8], here: usize, variables: usize, nodes: usize) ->
 
 // The netlist of no records.
 pub fn no_records() -> Netlist
-    ensures { λ r. ⌜ r ≡ tableOf empty ⌝ }
+    ensures { λ r. ⌜ r ≡ flatOf empty ⌝ }
 {
     Netlist {
         variables: 0,
@@ -262,9 +262,9 @@ pub fn no_records() -> Netlist
 
 // The netlist with one variable more.
 fn with_variable(netlist: Netlist, class: u8) -> Netlist
-    requires { ⌜ netlist .variables < 10 ⌝ }
-    ensures { λ r. ⌜ ((n : Rules.Netlist) (c : Class) → netlist ≡ tableOf n → class ≡ classByte c →
-        r ≡ tableOf (withVariable n c)) ⌝ }
+    requires { ⌜ netlist .variables < most-variables ⌝ }
+    ensures { λ r. ⌜ ((n : Records.Netlist) (c : Class) → netlist ≡ flatOf n → class ≡ classByte c →
+        r ≡ flatOf (withVariable n c)) ⌝ }
 {
     let mut longer = netlist;
     let at = longer.variables;
@@ -275,9 +275,9 @@ fn with_variable(netlist: Netlist, class: u8) -> Netlist
 
 // The netlist with one node more.
 fn with_node(netlist: Netlist, last: Node) -> Netlist
-    requires { ⌜ netlist .count < 200 ⌝ }
-    ensures { λ r. ⌜ ((n : Rules.Netlist) (cell : Cell) → netlist ≡ tableOf n → last ≡ entry cell →
-        r ≡ tableOf (withNode n cell)) ⌝ }
+    requires { ⌜ netlist .count < most-nodes ⌝ }
+    ensures { λ r. ⌜ ((n : Records.Netlist) (cell : Cell) → netlist ≡ flatOf n → last ≡ entry cell →
+        r ≡ flatOf (withNode n cell)) ⌝ }
 {
     let mut longer = netlist;
     let at = longer.count;
@@ -324,8 +324,8 @@ fn entry_of(k: u8, b: u8, c: u8) -> Node
 
 // How many bytes a variable or a node of kind `k` takes.
 fn size_of(k: u8) -> usize
-    ensures { λ r. ⌜ ((b c : ℕ) → 0 < k → k ≤ 7 → r ≡ size (said k b c)) ⌝ }
-    ensures few { λ r. ⌜ r ≤ 3 ⌝ }
+    ensures { λ r. ⌜ ((b c : ℕ) → 0 < k → k ≤ last-kind → r ≡ size (said k b c)) ⌝ }
+    ensures few { λ r. ⌜ r ≤ most-record ⌝ }
 {
     if k == 1 {
         return 2;
@@ -341,7 +341,7 @@ fn size_of(k: u8) -> usize
 
 // A refusal ends the reading.
 fn refused(refusal: Refusal) -> Progress
-    ensures { λ r. ⌜ ((n : Rules.Netlist) (here : ℕ) →
+    ensures { λ r. ⌜ ((n : Records.Netlist) (here : ℕ) →
         Reached r (taken n here (Checks.refused (numberOf refusal) (placeOf refusal)))) ⌝ }
 {
     Progress {
@@ -355,7 +355,7 @@ fn refused(refusal: Refusal) -> Progress
 // behind those before it.
 fn with_record(progress: Progress, k: u8, b: u8, c: u8) -> Progress
     requires { ⌜ RoomFor progress k b c ⌝ }
-    ensures { λ r. ⌜ ((n : Rules.Netlist) (here : ℕ) → Reached progress (Checks.reading n here) →
+    ensures { λ r. ⌜ ((n : Records.Netlist) (here : ℕ) → Reached progress (Checks.reading n here) →
         Reached r (taken n here (answered (said k b c)))) ⌝ }
 {
     let netlist = progress.netlist;

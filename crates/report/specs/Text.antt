@@ -5,6 +5,7 @@ use mathlib.Core.List.{List, [], _∷_, _++_}
 use lib.ListN.{length, take}
 use Rattle.rules.specs.declared.Half.{Half}
 use Rattle.rules.specs.declared.Half.the-variants.{Clear, Suspect}
+use Rattle.rules.specs.Records.{most-nodes, most-sets}
 use Rattle.rules.specs.Families.{Finding, clear, suspectAt}
 use Rattle.rules.specs.Listing.{word, decimal, line}
 
@@ -21,7 +22,7 @@ pub record Appended (before after : List ℕ) (at next : ℕ) (text : List ℕ) 
 -- a half names a node and a set of a netlist that obeys the record rules
 unfoldable pub Short : Half → Type 0
 Short Clear = Unit
-Short (Suspect i A) = (i < 200) × (A < 1024)
+Short (Suspect i A) = (i < most-nodes) × (A < most-sets)
 
 -- what a half's line says behind its name
 unfoldable pub foundText : Finding → List ℕ

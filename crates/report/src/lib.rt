@@ -4,13 +4,13 @@ ghost use mathlib.Core.Path.{_≡_};
 ghost use mathlib.Core.List.{List, [], _∷_, _++_};
 ghost use Prim.Native.Nat.{ℕ, _+_, _*_, _<_, _≤_};
 ghost use lib.ListN.{length, take, drop};
-ghost use Rattle.rules.specs.Records as Rules;
-ghost use Rattle.rules.specs.Records.{Cell, kindOf};
+ghost use Rattle.rules.specs.Records as Records;
+ghost use Rattle.rules.specs.Records.{Cell, kindOf, most-variables, most-nodes, most-sets};
 ghost use Rattle.rules.specs.Families.{families, findings};
 ghost use Rattle.rules.specs.Slices.{workBytes};
-ghost use Rattle.rules.specs.Listing.{word, decimal, line, kindName, nodeLines, halfLine, netlistText, listing, shown};
+ghost use Rattle.rules.specs.Listing.{word, decimal, line, kindName, nodeLines, halfLine, netlistText, listing, shown, most-line, most-text};
 ghost use Rattle.rules.specs.Paper.{numberOf, placeOf, findingOf, findingsOf};
-ghost use Rattle.records.specs.Netlists.{tableOf, Formed};
+ghost use Rattle.records.specs.Netlists.{flatOf, Formed};
 ghost use Rattle.report.specs.Text.{Room, Appended, Short, foundText};
 use records::Netlist;
 use rules::Answer;
@@ -72,7 +72,7 @@ fn put_field(text: &mut [u8], at: usize, number: usize) -> usize
 
 // The line of a refusal.
 fn put_refusal(text: &mut [u8], refusal: Refusal) -> usize
-    requires { ⌜ Room (now text) 0 3654 ⌝ }
+    requires { ⌜ Room (now text) 0 most-text ⌝ }
     ensures { λ r. ⌜ Appended (now (text .entry)) (now (text .exit)) 0 r
         (line (word "refused" ∷ decimal (numberOf refusal) ∷ decimal (placeOf refusal) ∷ [])) ⌝ }
 {
@@ -84,10 +84,10 @@ fn put_refusal(text: &mut [u8], refusal: Refusal) -> usize
 
 // The line of the counts.
 fn put_counts(text: &mut [u8], variables: usize, count: usize) -> usize
-    requires { ⌜ Room (now text) 0 18 × (variables ≤ 10) × (count ≤ 200) ⌝ }
+    requires { ⌜ Room (now text) 0 most-line × (variables ≤ most-variables) × (count ≤ most-nodes) ⌝ }
     ensures { λ r. ⌜ Appended (now (text .entry)) (now (text .exit)) 0 r
         (line (word "vars" ∷ decimal variables ∷ word "nodes" ∷ decimal count ∷ [])) ⌝ }
-    ensures few { λ r. ⌜ r ≤ 18 ⌝ }
+    ensures few { λ r. ⌜ r ≤ most-line ⌝ }
 {
     let first = put_word(text, 0, b"vars");
     let middle = put_field(text, first, variables);
@@ -115,11 +115,11 @@ fn put_kind(text: &mut [u8], at: usize, kind: u8) -> usize
 
 // The line of a node: number, kind name, number of sets in the settled family, number in the glitch family.
 fn put_node(text: &mut [u8], at: usize, i: usize, kind: u8, settled: usize, glitch: usize) -> usize
-    requires { ⌜ Room (now text) at 18 × (i < 200) × (settled ≤ 1024) × (glitch ≤ 1024) ⌝ }
+    requires { ⌜ Room (now text) at most-line × (i < most-nodes) × (settled ≤ most-sets) × (glitch ≤ most-sets) ⌝ }
     ensures { λ r. ⌜ ((cell : Cell) → kind ≡ kindOf cell →
         Appended (now (text .entry)) (now (text .exit)) at r
         (line (decimal i ∷ kindName cell ∷ decimal settled ∷ decimal glitch ∷ []))) ⌝ }
-    ensures few { λ r. ⌜ r ≤ at + 18 ⌝ }
+    ensures few { λ r. ⌜ r ≤ at + most-line ⌝ }
 {
     let name = put_decimal(text, at, i);
     let first = put_kind(text, name, kind);
@@ -130,11 +130,11 @@ fn put_node(text: &mut [u8], at: usize, i: usize, kind: u8, settled: usize, glit
 
 // The lines of all nodes, whose families are in the work bytes.
 fn put_nodes(text: &mut [u8], at: usize, netlist: Netlist, work: &[u8]) -> usize
-    requires { ⌜ Room (now text) at (18 * netlist .count) × Formed netlist × (256 * netlist .count ≤ length (now work)) ⌝ }
-    ensures { λ r. ⌜ ((n : Rules.Netlist) (rest : List ℕ) → netlist ≡ tableOf n →
+    requires { ⌜ Room (now text) at (most-line * netlist .count) × Formed netlist × (256 * netlist .count ≤ length (now work)) ⌝ }
+    ensures { λ r. ⌜ ((n : Records.Netlist) (rest : List ℕ) → netlist ≡ flatOf n →
         now (work .entry) ≡ workBytes (families n) ++ rest →
         Appended (now (text .entry)) (now (text .exit)) at r (nodeLines 0 (n .nodes) (families n))) ⌝ }
-    ensures few { λ r. ⌜ r ≤ at + 18 * netlist .count ⌝ }
+    ensures few { λ r. ⌜ r ≤ at + most-line * netlist .count ⌝ }
 {
     let count = netlist.count;
     let mut end = at;
@@ -179,9 +179,9 @@ fn put_halves(text: &mut [u8], at: usize, settled: Half, glitch: Half) -> usize
 
 // The text of a netlist that was checked.
 fn put_answer(text: &mut [u8], answer: Answer, netlist: Netlist, work: &[u8]) -> usize
-    requires { ⌜ Room (now text) 0 3654 × Formed netlist × (256 * netlist .count ≤ length (now work))
-        × (answer .variables ≤ 10) × (answer .nodes ≤ 200) × Short (answer .settled) × Short (answer .glitch) ⌝ }
-    ensures { λ r. ⌜ ((n : Rules.Netlist) (rest : List ℕ) → netlist ≡ tableOf n → findingsOf answer ≡ findings n →
+    requires { ⌜ Room (now text) 0 most-text × Formed netlist × (256 * netlist .count ≤ length (now work))
+        × (answer .variables ≤ most-variables) × (answer .nodes ≤ most-nodes) × Short (answer .settled) × Short (answer .glitch) ⌝ }
+    ensures { λ r. ⌜ ((n : Records.Netlist) (rest : List ℕ) → netlist ≡ flatOf n → findingsOf answer ≡ findings n →
         now (work .entry) ≡ workBytes (families n) ++ rest →
         Appended (now (text .entry)) (now (text .exit)) 0 r (netlistText n)) ⌝ }
 {
@@ -196,7 +196,7 @@ fn put_answer(text: &mut [u8], answer: Answer, netlist: Netlist, work: &[u8]) ->
 
 // The whole text, in a slice that has room for every listing.
 fn put_listing(text: &mut [u8], bytes: &[u8]) -> usize
-    requires { ⌜ Room (now text) 0 3654 ⌝ }
+    requires { ⌜ Room (now text) 0 most-text ⌝ }
     ensures { λ r. ⌜ Appended (now (text .entry)) (now (text .exit)) 0 r (listing (now (bytes .entry))) ⌝ }
 {
     let mut work = [0u8; MOST_WORK];
@@ -226,7 +226,7 @@ fn copy_front(text: &mut [u8], from: &[u8], count: usize)
 #[no_mangle]
 pub extern "C" fn telgouin_listing(bytes: &[u8], text: &mut [u8]) -> usize
     ensures size { λ r. ⌜ r ≡ length (listing (now (bytes .entry))) ⌝ }
-    ensures most { λ r. ⌜ r ≤ 3654 ⌝ }
+    ensures most { λ r. ⌜ r ≤ most-text ⌝ }
     ensures text { λ _. ⌜ now (text .exit) ≡ shown (listing (now (bytes .entry))) (now (text .entry)) ⌝ }
 {
     let mut whole = [0u8; MOST_TEXT];

@@ -9,7 +9,9 @@ use Rattle.rules.specs.Lists.{member, insert, union, count}
 use Rattle.rules.specs.Tables.{table}
 use Rattle.rules.specs.Records.{secret, mask, input, NOT, XOR, AND, OR, register, Netlist}
 use Rattle.rules.specs.Values.{exclusiveOr, valueRule, values, feedingRule, feedings, feeding, same, howMany, settings, next, others, make, Pattern, matches, giving, CountsAgree}
+use Rattle.rules.specs.Families.{tested}
 use Rattle.rules.specs.Checks.{answered, read}
+use Rattle.rules.specs.Demands.{OneProbe}
 use Rattle.rules.specs.Blocks.{P10, P12, P14-without}
 use Rattle.rules.proofs.Blocks.{replyTo}
 
@@ -62,6 +64,11 @@ p14-leaks agree =
     let (one, none) = counts-differ in
     let same-count = agree [] (false ∷ false ∷ []) (false ∷ true ∷ []) all-zero in
     omega arith
+
+-- and what demand 3 says of one probe is false of its bytes
+pub p14-probe : ¬ OneProbe (P14-without .bytes)
+unfolding tested OneProbe
+p14-probe probe = p14-leaks (probe p14-without p14-without-read 10 (record { there = omega arith; isTested = tt }))
 
 -- ---- a refused block whose settled value gives nothing away
 

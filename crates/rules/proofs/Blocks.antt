@@ -1,14 +1,14 @@
--- The table P1 to P14, blocks that show the mistakes which document 01 does not forgive, and the edges of the limits: the reply to each, which
--- antt computes from the rules. Assumes nothing.
-use Prim.Native.Nat.{ℕ, zero, suc}
+-- The table P1 to P14, and blocks that show the mistakes which document 01 does not forgive: the reply to each, which antt computes from the
+-- rules. Assumes nothing.
+use Prim.Native.Nat.{ℕ, _*_}
 use mathlib.Core.Path.{_≡_, refl}
-use mathlib.Core.List.{List, [], _∷_, _++_}
+use mathlib.Core.List.{List, [], _∷_}
 use Rattle.rules.specs.Lists.{member, insert, union, count}
 use Rattle.rules.specs.Tables.{table}
-use Rattle.rules.specs.Records.{classOf, said, size, recordBytes, kindOf, body, classByte, operands, setOf}
+use Rattle.rules.specs.Records.{most-nodes, classOf, said, size, recordBytes, kindOf, body, classByte, operands, setOf}
 use Rattle.rules.specs.Values.{same}
 use Rattle.rules.specs.Families.{product, spread, settledRule, glitchRule, familiesRule, families, holds, suspect, tested, better, reported, mark, marks, lowest, half, findings, Findings, clear, suspectAt}
-use Rattle.rules.specs.Checks.{andThen, judged, overLimit, undeclared, undeclaredSet, notBelow, badOperand, judgedRecord, recordAt, taken, step, after, outcomeOf, read, slicesFit, admitted, Outcome, refused}
+use Rattle.rules.specs.Checks.{andThen, judged, overLimit, undeclared, undeclaredSet, notBelow, badOperand, judgedRecord, recordAt, taken, step, after, outcomeOf, read, slicesFit, admitted, Outcome}
 use Rattle.rules.specs.Slices.{reply}
 use Rattle.rules.proofs.Each.{Each}
 use Rattle.rules.specs.Blocks.{Block, answers, blocks, P1, P2, P3, P4, P5, P6, P7, P8, P9, P10, P11, P12, P13, P13-NOT, P14, P14-without}
@@ -18,7 +18,7 @@ unfoldable pub replyTo : List ℕ → Outcome Findings
 unfolding member insert union count table classOf said size recordBytes kindOf body classByte operands setOf same product spread settledRule
     glitchRule familiesRule families holds suspect tested better reported mark marks lowest half findings andThen judged overLimit
     undeclared undeclaredSet notBelow badOperand judgedRecord recordAt taken step after outcomeOf read slicesFit admitted reply
-replyTo bytes = reply bytes 200 51200
+replyTo bytes = reply bytes most-nodes (256 * most-nodes)
 
 -- the reply to a block is the expected one
 abbrev pub Right : Block → Type 0
@@ -127,50 +127,3 @@ mistakes =
     and right bare-register refl
     and right two-suspects refl
     and tt
-
--- ---- edges
-
--- so many records of the same bytes
-abbrev repeated : ℕ → List ℕ → List ℕ
-repeated zero bytes = []
-repeated (suc n) bytes = bytes ++ repeated n bytes
-
-abbrev block : List ℕ → Outcome Findings → Block
-block bytes expected = record { bytes = bytes; expected = expected }
-
--- 10 variables read, the 11th gets 3, before its body is looked at; of 201 nodes the last gets 3
-abbrev variables-10 : Block
-variables-10 = block (repeated 10 (0x01 ∷ 0x01 ∷ []) ++ (0x00 ∷ [])) (answers clear clear 10 0)
-
-abbrev variables-11 : Block
-variables-11 = block (repeated 10 (0x01 ∷ 0x01 ∷ []) ++ (0x01 ∷ [])) (refused 3 20)
-
-abbrev nodes-201 : Block
-nodes-201 = block (repeated 201 (0x02 ∷ 0x00 ∷ 0x00 ∷ []) ++ (0x00 ∷ [])) (refused 3 600)
-
--- a variable after a node, whole and cut short
-abbrev late-variable : Block
-late-variable = block (0x02 ∷ 0x00 ∷ 0x00 ∷ 0x01 ∷ 0x00 ∷ 0x00 ∷ []) (refused 2 3)
-
-abbrev late-and-cut : Block
-late-and-cut = block (0x02 ∷ 0x00 ∷ 0x00 ∷ 0x01 ∷ []) (refused 2 3)
-
--- a body cut short, whatever is in it
-abbrev cut-short : Block
-cut-short = block (0x05 ∷ 0x00 ∷ []) (refused 4 0)
-
-pub edges : Each Right (variables-10 ∷ variables-11 ∷ nodes-201 ∷ late-variable ∷ late-and-cut ∷ cut-short ∷ [])
-unfolding replyTo
-edges =
-    right variables-10 refl
-    and right variables-11 refl
-    and right nodes-201 refl
-    and right late-variable refl
-    and right late-and-cut refl
-    and right cut-short refl
-    and tt
-
--- block A has five nodes: 1,279 work bytes are too few and 1,280 are enough; four entries are too few, which is checked first
-pub short-slices : (reply (P9 .bytes) 5 1279 ≡ refused 11 1280) × (reply (P9 .bytes) 5 1280 ≡ P9 .expected) × (reply (P9 .bytes) 4 0 ≡ refused 10 5)
-unfolding replyTo
-short-slices = (refl, refl, refl)

@@ -1,4 +1,4 @@
--- The sets of a netlist's families are sets of its variables, so below 1,024 where it obeys the record rules, and its feeding points are inputs or
+-- The sets of the families of a netlist that obeys the record rules are sets of its variables, and so below `most-sets`; its feeding points are inputs or
 -- registers, no higher than the node. What a rule makes comes from its operands' families or points. Assumes nothing.
 use Prim.Native.Nat.{ℕ, suc, _≤_, _<_, _^_}
 use mathlib.Core.Path.{_≡_, refl, ap, _∙_}
@@ -13,7 +13,7 @@ use lib.ListN.{length, getD, take}
 use lib.Seq.{length-take-le}
 use Rattle.rules.specs.Lists.{member}
 use Rattle.rules.specs.Tables.{table}
-use Rattle.rules.specs.Records.{Cell, input, NOT, XOR, AND, OR, register, Netlist, WellFormed, setOf}
+use Rattle.rules.specs.Records.{Cell, input, NOT, XOR, AND, OR, register, Netlist, WellFormed, most-variables, most-sets, setOf}
 use Rattle.rules.specs.Values.{feedingRule, feedings, feeding}
 use Rattle.rules.specs.Families.{Family, product, familiesAt}
 use Rattle.rules.proofs.Lists.{member-head, member-tail, member-cases, union-cases}
@@ -61,13 +61,19 @@ sets-below n v inputs =
     multiplied : (F G : Family) → All Below F → All Below G → All Below (product F G)
     multiplied F G p q C t = let (A, B, a, b, e) = product-cases F G C t in rw e (xor-lt v A B (p A a) (q B b))
 
--- of a netlist that obeys the record rules every set is one of ten variables
+-- of a netlist that obeys the record rules
 module _ (n : Netlist) (formed : WellFormed n) where
-  pub set-small : (i : ℕ) → i < length (n .nodes) → setOf (getD (n .nodes) i (input 0)) < 1024
+  -- each set of a family is a set of declared variables
+  pub sets-declared : (i : ℕ)
+      → All (λ A. A < 2 ^ length (n .variables)) (familiesAt n i .settled) × All (λ A. A < 2 ^ length (n .variables)) (familiesAt n i .glitch)
+  sets-declared = sets-below n (length (n .variables)) (formed .declared)
+
+  -- and so, as each input's set, one of those that there may be
+  pub set-small : (i : ℕ) → i < length (n .nodes) → setOf (getD (n .nodes) i (input 0)) < most-sets
   set-small i h = lt-of-lt-of-le (formed .declared i h) (pow-mono (formed .few-variables))
 
-  pub families-small : (i : ℕ) → All (λ A. A < 1024) (familiesAt n i .settled) × All (λ A. A < 1024) (familiesAt n i .glitch)
-  families-small = sets-below n 10 set-small
+  pub families-small : (i : ℕ) → All (λ A. A < most-sets) (familiesAt n i .settled) × All (λ A. A < most-sets) (familiesAt n i .glitch)
+  families-small = sets-below n most-variables set-small
 
 -- ---- feeding points
 

@@ -13,7 +13,7 @@ use Rattle.rules.specs.Families.{families, Finding, clear, suspectAt, fi
 use Rattle.rules.specs.Checks.{Outcome, answered, refused, andThen, read}
 use Rattle.rules.specs.Slices.{reply}
 use Rattle.rules.specs.Listing.{word, decimal, line, nodeLines, halfLine, netlistText, textOf, listing}
-use Rattle.rules.specs.Demands.{Clear, OneProbe, EndsClear}
+use Rattle.rules.specs.Demands.{GlitchClear, OneProbe, EndsClear}
 use Rattle.rules.proofs.Tests.{lt-or-le}
 use Rattle.rules.proofs.Room.{admitted-all}
 use Rattle.rules.proofs.Decimal.{decimal-less, decimal-more, Digit}
@@ -81,8 +81,8 @@ half-says clear before text e = refl
 half-says (suspectAt i A) before text e =
     absurd (clear-ends _ text (behind before _ (line-ends (word "glitch" ∷ decimal i ∷ []) A)) e)
 
-text-says : (o : Outcome Netlist) (text : List ℕ) → textOf o ≡ text ++ clearLine → Clear (andThen o (λ n. answered (findings n)))
-unfolding textOf netlistText Clear andThen
+text-says : (o : Outcome Netlist) (text : List ℕ) → textOf o ≡ text ++ clearLine → GlitchClear (andThen o (λ n. answered (findings n)))
+unfolding textOf netlistText GlitchClear andThen
 text-says (refused k p) text e = absurd (clear-ends _ text (line-ends (word "refused" ∷ decimal k ∷ []) p) e)
 text-says (answered n) text e = half-says (findings n .glitch) (above n ++ halfLine (word "settled") (findings n .settled)) text e
 
@@ -99,9 +99,9 @@ unfolding halfLine
 half-feeds name clear = feeds _
 half-feeds name (suspectAt i A) = feeds _
 
-text-said : (o : Outcome Netlist) → Clear (andThen o (λ n. answered (findings n)))
+text-said : (o : Outcome Netlist) → GlitchClear (andThen o (λ n. answered (findings n)))
     → (before : List ℕ) × (textOf o ≡ before ++ (10 ∷ clearLine))
-unfolding textOf netlistText halfLine Clear andThen
+unfolding textOf netlistText halfLine GlitchClear andThen
 text-said (refused k p) c = absurd c
 text-said (answered n) c =
     let (front, e) = half-feeds (word "settled") (findings n .settled) in
@@ -114,18 +114,18 @@ reply-read bytes = rw (admitted-all bytes most-nodes (256 * most-nodes) (le-refl
 
 -- Where the listing ends in the line `glitch clear` the checker answers clear for glitching signals,
 clear-line-says : (bytes text : List ℕ) → listing bytes ≡ text ++ line (word "glitch" ∷ word "clear" ∷ [])
-    → Clear (reply bytes most-nodes (256 * most-nodes))
+    → GlitchClear (reply bytes most-nodes (256 * most-nodes))
 unfolding listing
 clear-line-says bytes text e = rw (reply-read bytes) (text-says (read bytes) text e)
 
 -- and where the checker answers so that is the listing's last line.
-clear-line-said : (bytes : List ℕ) → Clear (reply bytes most-nodes (256 * most-nodes)) → EndsClear bytes
+clear-line-said : (bytes : List ℕ) → GlitchClear (reply bytes most-nodes (256 * most-nodes)) → EndsClear bytes
 unfolding listing
 clear-line-said bytes c =
     let (before, e) = text-said (read bytes) (rw (reply-read bytes) at c) in
     record { before = before; ends = e }
 
-pub clear-line : (bytes : List ℕ) → EndsClear bytes ↔ Clear (reply bytes most-nodes (256 * most-nodes))
+pub clear-line : (bytes : List ℕ) → EndsClear bytes ↔ GlitchClear (reply bytes most-nodes (256 * most-nodes))
 clear-line bytes =
     (λ s. clear-line-says bytes (s .before ++ (10 ∷ [])) (s .ends ∙ sym (append-snoc (s .before) 10 _)), clear-line-said bytes)
 

@@ -8,7 +8,7 @@ use lib.ListN.{length, getD, drop, length-append, length-drop, length-map, List�
 use lib.Seq.{getD-append-add, getD-drop}
 use Rattle.rules.specs.declared.Node.{Node}
 use Rattle.rules.specs.Lists.{member}
-use Rattle.rules.specs.Records.{input, Netlist, odd}
+use Rattle.rules.specs.Records.{input, Netlist, odd, most-sets}
 use Rattle.rules.specs.Families.{familiesRule, families, familiesAt}
 use Rattle.rules.specs.Checks.{Outcome, answered, refused, admitted}
 use Rattle.rules.specs.Slices.{entry, workBytes, filled, nodesAfter, workAfter}
@@ -88,14 +88,14 @@ module _ (bytes : List ℕ) (entries : ℕ) (before : List ℕ) where
   written-byte n e j h = filled-front _ before (admitted bytes entries (length before)) n e j 0 (omega (arith, all-bytes n))
 
   -- set A of node i is bit A mod 8 of byte 256 × i + A / 8 for the settled family, and 128 bytes further for the glitch family
-  pub work-settled : (n : Netlist) → admitted bytes entries (length before) ≡ answered n → (i A : ℕ) → i < length (n .nodes) → A < 1024
+  pub work-settled : (n : Netlist) → admitted bytes entries (length before) ≡ answered n → (i A : ℕ) → i < length (n .nodes) → A < most-sets
       → odd (getD (workAfter bytes entries before) (256 * i + A / 8) 0 / 2 ^ (A % 8)) ≡ member A (familiesAt n i .settled)
   unfolding familiesAt
   work-settled n e i A h l =
       ap (λ (b : ℕ). odd (b / 2 ^ (A % 8))) (written-byte n e (256 * i + A / 8) (omega arith))
       ∙ settled-bit (families n) i A (omega (arith, families-length n)) l
 
-  pub work-glitch : (n : Netlist) → admitted bytes entries (length before) ≡ answered n → (i A : ℕ) → i < length (n .nodes) → A < 1024
+  pub work-glitch : (n : Netlist) → admitted bytes entries (length before) ≡ answered n → (i A : ℕ) → i < length (n .nodes) → A < most-sets
       → odd (getD (workAfter bytes entries before) (256 * i + 128 + A / 8) 0 / 2 ^ (A % 8)) ≡ member A (familiesAt n i .glitch)
   unfolding familiesAt
   work-glitch n e i A h l =

@@ -16,7 +16,7 @@ use Rattle.rules.specs.Records.{Class, Cell, input, Netlist}
 use Rattle.rules.specs.Families.{Family, Families, constant, familiesRule, families, familiesAt, suspect, tested, better, reported, Finding, clear, suspectAt, mark, marks, lowest, half, findings}
 use Rattle.rules.specs.Checks.{Outcome, answered, refused, andThen, admitted}
 use Rattle.rules.specs.Slices.{reply}
-use Rattle.rules.specs.Demands.{Clear, TestedNode, NoSuspect, NothingSuspect}
+use Rattle.rules.specs.Demands.{GlitchClear, TestedNode, NoSuspect, NothingSuspect}
 use Rattle.rules.proofs.Tests.{pass}
 use Rattle.rules.proofs.Lists.{member-head, member-tail}
 use Rattle.rules.proofs.Members.{all-none, all-front}
@@ -209,12 +209,12 @@ half-suspect layer n i A e = subst (Says layer n) e (half-says layer n)
 -- ---- the checker's answer
 
 -- the checker answers clear for glitching signals exactly when it refuses nothing and no tested node's glitch family holds a suspect set
-pub exactly-when : (bytes : List ℕ) (entries work : ℕ) → Clear (reply bytes entries work) ↔ NothingSuspect bytes entries work
-unfolding reply Clear andThen findings NoSuspect
+pub exactly-when : (bytes : List ℕ) (entries work : ℕ) → GlitchClear (reply bytes entries work) ↔ NothingSuspect bytes entries work
+unfolding reply GlitchClear andThen findings NoSuspect
 exactly-when bytes entries work =
     (go (admitted bytes entries work) refl, λ s. rw (s .admits) (half-clear (λ F. F .glitch) (s .netlist) .1 (s .noSuspect)))
   where
-    go : (o : Outcome Netlist) → admitted bytes entries work ≡ o → Clear (andThen o (λ n. answered (findings n)))
+    go : (o : Outcome Netlist) → admitted bytes entries work ≡ o → GlitchClear (andThen o (λ n. answered (findings n)))
         → NothingSuspect bytes entries work
     go (answered n) e c = record { netlist = n; admits = e; noSuspect = half-clear (λ F. F .glitch) n .0 c }
     go (refused k p) e c = absurd c

@@ -8,7 +8,7 @@ use native.Mathlib.Numerals.{add-one}
 use native.Mathlib.Omega.{arith}
 use lib.ListN.{length, getD, take}
 use lib.Seq.{take-suc, take-length, take-all, length-take-le}
-use Rattle.rules.specs.Records.{Cell, input, Netlist, WellFormed}
+use Rattle.rules.specs.Records.{Cell, input, Netlist, WellFormed, most-sets}
 use Rattle.rules.specs.Families.{Family, Families, constant, families, familiesAt, suspectAt, half, findings}
 use Rattle.rules.specs.Listing.{decimal, line, kindName, nodeLines}
 use Rattle.rules.proofs.Members.{All}
@@ -62,12 +62,12 @@ half-names : (layer : Families → Family) (n : Netlist) (k : ℕ) → ((i : ℕ
 half-names layer n k small i A e =
     let names = half-suspect layer n i A e in (names .testedNode .there, small i A (names .inFamily))
 
--- so of one that obeys the record rules a set below 1,024
+-- so of one that obeys the record rules a set below `most-sets`
 module _ (n : Netlist) (formed : WellFormed n) (i A : ℕ) where
-  pub settled-names : findings n .settled ≡ suspectAt i A → (i < length (n .nodes)) × (A < 1024)
+  pub settled-names : findings n .settled ≡ suspectAt i A → (i < length (n .nodes)) × (A < most-sets)
   unfolding findings
-  settled-names = half-names (λ F. F .settled) n 1024 (λ j. families-small n formed j .0) i A
+  settled-names = half-names (λ F. F .settled) n most-sets (λ j. families-small n formed j .0) i A
 
-  pub glitch-names : findings n .glitch ≡ suspectAt i A → (i < length (n .nodes)) × (A < 1024)
+  pub glitch-names : findings n .glitch ≡ suspectAt i A → (i < length (n .nodes)) × (A < most-sets)
   unfolding findings
-  glitch-names = half-names (λ F. F .glitch) n 1024 (λ j. families-small n formed j .1) i A
+  glitch-names = half-names (λ F. F .glitch) n most-sets (λ j. families-small n formed j .1) i A

@@ -10,7 +10,7 @@ use native.Mathlib.Omega.{arith}
 use lib.ListN.{length, getD, replicate, length-append, replicate-append-replicate, List·getD-append}
 use lib.Seq.{getD-append-add, getD-at}
 use Rattle.rules.specs.Lists.{member, tabulate}
-use Rattle.rules.specs.Records.{odd}
+use Rattle.rules.specs.Records.{odd, most-sets}
 use Rattle.rules.specs.Families.{Family, Families, constant}
 use Rattle.rules.specs.Slices.{packed, familyBytes, nodeBytes, workBytes}
 use Rattle.rules.proofs.Each.{Each, each-append, each-at}
@@ -69,13 +69,13 @@ unfolding familyBytes
 family-length F = tabulate-length (λ j. packed F (8 * j) 8) 128
 
 -- set A is bit A mod 8 of byte A / 8
-pub family-bit : (F : Family) (A : ℕ) → A < 1024 → odd (getD (familyBytes F) (A / 8) 0 / 2 ^ (A % 8)) ≡ member A F
+pub family-bit : (F : Family) (A : ℕ) → A < most-sets → odd (getD (familyBytes F) (A / 8) 0 / 2 ^ (A % 8)) ≡ member A F
 unfolding familyBytes
 family-bit F A h =
     rw (tabulate-at (λ j. packed F (8 * j) 8) 128 (A / 8) 0 (omega arith), packed-bit F (8 * (A / 8)) 8 (A % 8) (omega arith), div-add-mod)
 
 -- only membership counts
-pub family-same : (F G : Family) → ((A : ℕ) → A < 1024 → member A F ≡ member A G) → familyBytes F ≡ familyBytes G
+pub family-same : (F G : Family) → ((A : ℕ) → A < most-sets → member A F ≡ member A G) → familyBytes F ≡ familyBytes G
 unfolding familyBytes
 family-same F G h = tabulate-same _ _ 128 (λ j l. packed-same (8 * j) 8 (λ i m. h (8 * j + i) (omega arith)))
   where
@@ -117,11 +117,11 @@ unfolding nodeBytes
 glitch-at F j = rw (← family-length (F .settled)) (getD-append-add (familyBytes (F .settled)) (familyBytes (F .glitch)) j 0)
 
 -- set A of node i is bit A mod 8 of byte 256 × i + A / 8 for its settled family, and 128 bytes on for its glitch family
-pub settled-bit : (Fs : List Families) (i A : ℕ) → i < length Fs → A < 1024
+pub settled-bit : (Fs : List Families) (i A : ℕ) → i < length Fs → A < most-sets
     → odd (getD (workBytes Fs) (256 * i + A / 8) 0 / 2 ^ (A % 8)) ≡ member A (getD Fs i constant .settled)
 settled-bit Fs i A h l = rw (work-at Fs i (A / 8) h (omega arith), settled-at (getD Fs i constant) (A / 8) (omega arith)) (family-bit _ A l)
 
-pub glitch-bit : (Fs : List Families) (i A : ℕ) → i < length Fs → A < 1024
+pub glitch-bit : (Fs : List Families) (i A : ℕ) → i < length Fs → A < most-sets
     → odd (getD (workBytes Fs) (256 * i + 128 + A / 8) 0 / 2 ^ (A % 8)) ≡ member A (getD Fs i constant .glitch)
 glitch-bit Fs i A h l =
     rw (add-assoc (256 * i) 128 (A / 8), work-at Fs i (128 + A / 8) h (omega arith), glitch-at (getD Fs i constant) (A / 8)) (family-bit _ A l)

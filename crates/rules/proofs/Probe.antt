@@ -15,7 +15,7 @@ use Rattle.rules.specs.Records.{secret, mask, Cell, input, NOT, XOR, AND
 use Rattle.rules.specs.Values.{Assignment, exclusiveOr, valueRule, values, feedingRule, feedings, feeding, howMany, settings, make, Pattern, matches, giving, CountsAgree}
 use Rattle.rules.specs.Families.{Family, Families, constant, spread, settledRule, glitchRule, familiesRule, families, familiesAt, holds, suspect}
 use Rattle.rules.specs.Slices.{reply}
-use Rattle.rules.specs.Demands.{Clear, NoSuspect, NothingSuspect, OneProbe}
+use Rattle.rules.specs.Demands.{GlitchClear, NoSuspect, NothingSuspect, OneProbe}
 use Rattle.rules.proofs.Tests.{pass}
 use Rattle.rules.proofs.Lists.{member-cases, insert-old, count-map, count-ext}
 use Rattle.rules.proofs.Tables.{table-entry}
@@ -250,7 +250,7 @@ counts-agree n points F patterns clean p s t z =
 -- ---- demand 3
 
 -- Whenever the checker answers clear for glitching signals, one probe on any gate or register learns nothing of the secrets.
-pub one-probe : (bytes : List ℕ) (entries work : ℕ) → Clear (reply bytes entries work) → OneProbe bytes
+pub one-probe : (bytes : List ℕ) (entries work : ℕ) → GlitchClear (reply bytes entries work) → OneProbe bytes
 unfolding OneProbe NoSuspect
 one-probe bytes entries work answers-clear n is-read i node =
     counts-agree n (feeding n i) (familiesAt n i .glitch) (λ K L z. each-node K L n i z) (clean i node)

@@ -13,8 +13,9 @@ use lib.ListN.{length, getD, take, length-append, length-take}
 use lib.Seq.{take-all, getD-take}
 use borrow.Author.Tests.{leb-false, ltb-false, eqb-true}
 use Rattle.rules.specs.Lists.{member}
-use Rattle.rules.specs.Records.{Class, Cell, input, Record, end, variable, node, Netlist, WellFormed, withVariable, withNode, most-variables, most-nodes, operands, setOf, recordBytes, size, variablesOut, nodesOut, writtenOut}
+use Rattle.rules.specs.Records.{Class, Cell, input, Record, end, variable, node, Netlist, WellFormed, withVariable, withNode, most-variables, most-nodes, operands, setOf, recordBytes, size, variablesOut, nodesOut, writtenOut, most-record, most-bytes}
 use Rattle.rules.specs.Checks.{Outcome, answered, refused, overLimit, undeclared, undeclaredSet, notBelow, badOperand, recordAt, Progress, reading, finished, taken, step, after, most-records, outcomeOf, read}
+use Rattle.rules.specs.Listing.{most-input}
 use Rattle.rules.proofs.Records.{Accepted, accepted, size-most, total-unseen, Bytes, next-bytes}
 
 -- ---- what one more record keeps
@@ -76,7 +77,7 @@ out-node n c = simp (nodes-append, append-nil, append-assoc)
 record Reached (bytes : List ℕ) (k : ℕ) (n : Netlist) (here : ℕ) : Type 0 where
   counted : k ≡ length (n .variables) + length (n .nodes)
   formed : WellFormed n
-  short : here ≤ 2 * length (n .variables) + 3 * length (n .nodes)
+  short : here ≤ 2 * length (n .variables) + most-record * length (n .nodes)
   written : Bytes bytes → take here bytes ≡ out n
 
 module _ (bytes : List ℕ) (k : ℕ) (n : Netlist) (here : ℕ) (r : Reached bytes k n here) where
@@ -189,8 +190,8 @@ read-well-formed bytes n e = ended-at bytes n e .reached .formed
 end-last : (bytes : List ℕ) (n : Netlist) (here : ℕ) → Accepted bytes n here end → length bytes ≤ here + 1
 end-last bytes n here a = ltb-false (here + 1) (length bytes) (a .last)
 
--- a file that is read has at most 10 variables of 2 bytes, 200 nodes of 3, and the end
-pub read-short : (bytes : List ℕ) (n : Netlist) → read bytes ≡ answered n → length bytes ≤ 621
+-- a file that is read has at most so many variables of 2 bytes, so many nodes of the longest record, and the end
+pub read-short : (bytes : List ℕ) (n : Netlist) → read bytes ≡ answered n → length bytes ≤ most-bytes
 read-short bytes n e =
     let d = ended-at bytes n e in
     let last = end-last bytes n (d .offset) (d .ended) in
@@ -206,27 +207,27 @@ read-written-out bytes low n e =
     let all = take-all (d .offset + size end) bytes (end-last bytes n (d .offset) (d .ended)) in
     cc
 
--- ---- the first 1,024 bytes
+-- ---- the first bytes, as many as the listing program reads
 
-record-first : (bytes : List ℕ) (n : Netlist) (here : ℕ) → here ≤ 620 → recordAt (take 1024 bytes) n here ≡ recordAt bytes n here
+record-first : (bytes : List ℕ) (n : Netlist) (here : ℕ) → here < most-bytes → recordAt (take most-input bytes) n here ≡ recordAt bytes n here
 unfolding recordAt
-record-first bytes n here h = go (decLe (length bytes) 1024)
+record-first bytes n here h = go (decLe (length bytes) most-input)
   where
-    go : Dec (length bytes ≤ 1024) → recordAt (take 1024 bytes) n here ≡ recordAt bytes n here
-    go (yes few) = rw (take-all 1024 bytes few)
+    go : Dec (length bytes ≤ most-input) → recordAt (take most-input bytes) n here ≡ recordAt bytes n here
+    go (yes few) = rw (take-all most-input bytes few)
     go (no many) =
-        rw (getD-take 1024 bytes here 0 (omega arith), getD-take 1024 bytes (here + 1) 0 (omega arith), getD-take 1024 bytes (here + 2) 0 (omega arith))
-        (total-unseen (length (take 1024 bytes)) (length bytes) _ _ here _ _ _ (simp length-take (omega arith)) (omega arith))
+        rw (getD-take most-input bytes here 0 (omega arith), getD-take most-input bytes (here + 1) 0 (omega arith), getD-take most-input bytes (here + 2) 0 (omega arith))
+        (total-unseen (length (take most-input bytes)) (length bytes) _ _ here _ _ _ (simp length-take (omega arith)) (omega arith))
 
-after-first : (bytes : List ℕ) (k : ℕ) → after (take 1024 bytes) k ≡ after bytes k
+after-first : (bytes : List ℕ) (k : ℕ) → after (take most-input bytes) k ≡ after bytes k
 unfolding after step
 after-first bytes zero = refl
 after-first bytes (suc k) = rw (after-first bytes k) (same (after bytes k) (kept bytes k))
   where
-    same : (p : Progress) → Kept bytes k p → step (take 1024 bytes) p ≡ step bytes p
+    same : (p : Progress) → Kept bytes k p → step (take most-input bytes) p ≡ step bytes p
     same (reading n here) r = ap (taken n here) (record-first bytes n here (omega arith))
     same (finished o) r = refl
 
--- reading only the first 1,024 bytes gives the same outcome
-pub read-first : (bytes : List ℕ) → read (take 1024 bytes) ≡ read bytes
-read-first bytes = cc (always-finished bytes, always-finished (take 1024 bytes), after-first bytes most-records)
+-- reading only those gives the same outcome
+pub read-first : (bytes : List ℕ) → read (take most-input bytes) ≡ read bytes
+read-first bytes = cc (always-finished bytes, always-finished (take most-input bytes), after-first bytes most-records)

@@ -10,7 +10,7 @@ use lib.Dec.{ltb}
 use lib.ListN.{length, getD, take, drop, length-append, length-drop}
 use lib.Seq.{take-add, getD-drop, getD-append-add}
 use borrow.Author.Tests.{leb-false, ltb-false, lt-leb, lt-ltb, le-ltb}
-use Rattle.rules.specs.Records.{secret, mask, public, input, NOT, XOR, AND, OR, register, Record, end, variable, node, Netlist, classOf, said, kindOf, operands, body, classByte, recordBytes, size}
+use Rattle.rules.specs.Records.{Class, secret, mask, public, input, NOT, XOR, AND, OR, register, Record, end, variable, node, Netlist, classOf, said, kindOf, operands, body, classByte, recordBytes, size, last-kind, most-record}
 use Rattle.rules.specs.Checks.{answered, Check, check, judged, isVariable, isEnd, overLimit, undeclaredSet, badOperand, judgedRecord, recordAt}
 
 abbrev pub condition : Check → Bool
@@ -43,7 +43,7 @@ pub record Accepted (bytes : List ℕ) (n : Netlist) (here : ℕ) (r : Record) :
   pub allowed : Allowed n r
   pub says : said (getD bytes here 0) (getD bytes (here + 1) 0) (getD bytes (here + 2) 0) ≡ r
   pub inside : here < length bytes
-  pub kind : getD bytes here 0 ≤ 7
+  pub kind : getD bytes here 0 ≤ last-kind
   pub fits : here + size r ≤ length bytes
   pub class : (isVariable r && ltb 2 (getD bytes (here + 1) 0)) ≡ false
   pub last : (isEnd r && ltb (here + 1) (length bytes)) ≡ false
@@ -69,10 +69,10 @@ accept : (bytes : List ℕ) (n : Netlist) (here : ℕ) (r : Record) → Accepted
 unfolding recordAt judgedRecord judged
 accept bytes n here r a =
     let g = a .allowed in
-    rw (a .says, lt-leb _ _ (a .inside), le-ltb 7 _ (a .kind), g .ordered, g .room, le-ltb _ _ (a .fits), a .class, g .declared, g .below, a .last)
+    rw (a .says, lt-leb _ _ (a .inside), le-ltb last-kind _ (a .kind), g .ordered, g .room, le-ltb _ _ (a .fits), a .class, g .declared, g .below, a .last)
 
--- a record has at most 3 bytes
-pub size-most : (r : Record) → size r ≤ 3
+-- no record has more bytes than the longest
+pub size-most : (r : Record) → size r ≤ most-record
 unfolding size recordBytes kindOf body operands
 size-most end = omega arith
 size-most (variable c) = omega arith
@@ -83,8 +83,8 @@ size-most (node (AND a b)) = omega arith
 size-most (node (OR a b)) = omega arith
 size-most (node (register a)) = omega arith
 
--- of a file's length a record sees only whether 3 bytes are left
-pub total-unseen : (t u v n here k b c : ℕ) → here + 3 ≤ t → here + 3 ≤ u → judgedRecord t v n here k b c ≡ judgedRecord u v n here k b c
+-- of a file's length a record sees only whether there is room for the longest record
+pub total-unseen : (t u v n here k b c : ℕ) → here + most-record ≤ t → here + most-record ≤ u → judgedRecord t v n here k b c ≡ judgedRecord u v n here k b c
 unfolding judgedRecord judged
 total-unseen t u v n here k b c p q =
     let s = size (said k b c) in
@@ -92,20 +92,26 @@ total-unseen t u v n here k b c p q =
     rw (lt-leb t here (omega arith), le-ltb t (here + s) (omega arith), lt-ltb (here + 1) t (omega arith))
     (rw (lt-leb u here (omega arith), le-ltb u (here + s) (omega arith), lt-ltb (here + 1) u (omega arith)))
 
--- a class byte is that of its class
-pub class-back : (b : ℕ) → b ≤ 2 → classByte (classOf b) ≡ b
+-- the class of a class's byte is that class, and a class byte is that of its class
+pub class-of-byte : (c : Class) → classOf (classByte c) ≡ c
+unfolding classOf classByte
+class-of-byte secret = refl
+class-of-byte mask = refl
+class-of-byte public = refl
+
+pub byte-of-class : (b : ℕ) → b ≤ 2 → classByte (classOf b) ≡ b
 unfolding classByte classOf
-class-back zero h = refl
-class-back (suc zero) h = refl
-class-back (suc (suc zero)) h = refl
-class-back (suc (suc (suc b))) h = absurd (omega arith)
+byte-of-class zero h = refl
+byte-of-class (suc zero) h = refl
+byte-of-class (suc (suc zero)) h = refl
+byte-of-class (suc (suc (suc b))) h = absurd (omega arith)
 
 -- three bytes that say a record begin with its writing-out
-said-bytes : (k b c : ℕ) → k ≤ 7 → b < 256 → (isVariable (said k b c) && ltb 2 b) ≡ false
+said-bytes : (k b c : ℕ) → k ≤ last-kind → b < 256 → (isVariable (said k b c) && ltb 2 b) ≡ false
     → recordBytes (said k b c) ≡ take (size (said k b c)) (k ∷ b ∷ c ∷ [])
 unfolding said size recordBytes kindOf body operands
 said-bytes zero b c h l e = refl
-said-bytes (suc zero) b c h l e = rw (class-back b (ltb-false 2 b e))
+said-bytes (suc zero) b c h l e = rw (byte-of-class b (ltb-false 2 b e))
 said-bytes (suc (suc zero)) b c h l e =
     let low : (b + 256 * c) % 256 ≡ b = omega arith in
     let high : (b + 256 * c) / 256 ≡ c = omega arith in
@@ -122,7 +128,7 @@ abbrev pub Bytes : List ℕ → Type 0
 Bytes bytes = (i : ℕ) → getD bytes i 0 < 256
 
 -- at most three entries, one by one
-window : (s : ℕ) (bytes : List ℕ) → s ≤ 3 → s ≤ length bytes → take s bytes ≡ take s (getD bytes 0 0 ∷ getD bytes 1 0 ∷ getD bytes 2 0 ∷ [])
+window : (s : ℕ) (bytes : List ℕ) → s ≤ most-record → s ≤ length bytes → take s bytes ≡ take s (getD bytes 0 0 ∷ getD bytes 1 0 ∷ getD bytes 2 0 ∷ [])
 window zero bytes h l = refl
 window (suc s) [] h l = absurd (omega arith)
 window (suc zero) (x ∷ bytes) h l = refl
@@ -142,7 +148,7 @@ next-bytes bytes n here r low a =
 
 -- what a record's own bytes say, whatever comes behind them
 back : (r : Record) (rest : List ℕ) → let l = recordBytes r ++ rest in
-    (said (getD l 0 0) (getD l 1 0) (getD l 2 0) ≡ r) × (getD l 0 0 ≤ 7) × ((isVariable r && ltb 2 (getD l 1 0)) ≡ false) × (1 ≤ size r)
+    (said (getD l 0 0) (getD l 1 0) (getD l 2 0) ≡ r) × (getD l 0 0 ≤ last-kind) × ((isVariable r && ltb 2 (getD l 1 0)) ≡ false) × (1 ≤ size r)
 unfolding size said classOf recordBytes kindOf body operands classByte
 back end rest = (refl, omega arith, refl, omega arith)
 back (variable secret) rest = (refl, omega arith, refl, omega arith)

@@ -12,7 +12,7 @@ use lib.ListN.{length, length-append, length-map}
 use Rattle.rules.specs.Lists.{digit, count}
 use Rattle.rules.specs.Records.{Class, secret, mask, public, Netlist}
 use Rattle.rules.proofs.Lists.{count-append, count-map, count-constant}
-use Rattle.rules.specs.Values.{same, howMany, settings, next, others, make, part, Pattern, matches, giving}
+use Rattle.rules.specs.Values.{Assignment, same, howMany, settings, next, others, make, Pattern, matches, giving}
 
 -- ---- the settings of k variables
 
@@ -79,6 +79,11 @@ settings-only k s h = settings-count s k ∙ failed (eqb (length s) k) (λ e. h 
     failed false f = refl
 
 -- ---- an assignment and its three settings
+
+-- the setting of a class that an assignment holds
+unfoldable pub part : Class → List Class → Assignment → List Bool
+part class [] x = []
+part class (c ∷ variables) x = cond (same class c) (next x ∷ part class variables (others x)) (part class variables (others x))
 
 -- the parts of an assignment have the lengths of the classes, and what settings make has the length of the variables
 pub part-length : (class : Class) (variables : List Class) (x : List Bool) → length (part class variables x) ≡ howMany class variables

@@ -5,7 +5,7 @@ use mathlib.Core.Bool.{Bool, true, false, _&&_, _||_}
 use mathlib.Core.List.{List, [], _∷_}
 use lib.Dec.{leb, ltb}
 use lib.ListN.{length, getD}
-use Rattle.rules.specs.Records.{Record, end, variable, node, Netlist, empty, withVariable, withNode, most-variables, most-nodes, said, size, operands, setOf}
+use Rattle.rules.specs.Records.{Record, end, variable, node, Netlist, empty, withVariable, withNode, most-variables, most-nodes, last-kind, said, size, operands, setOf}
 
 -- something asked of the checker has an answer, or is refused with number and place
 pub data Outcome {ℓ} (A : Type ℓ) : Type ℓ where
@@ -71,7 +71,7 @@ judgedRecord total v n here k b c =
     let r = said k b c in
     judged
     (check 8 (leb total here) total
-    ∷ check 1 (ltb 7 k) here
+    ∷ check 1 (ltb last-kind k) here
     ∷ check 2 (isVariable r && ltb 0 n) here
     ∷ check 3 (overLimit v n r) here
     ∷ check 4 (ltb total (here + size r)) here

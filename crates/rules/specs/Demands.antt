@@ -14,9 +14,9 @@ use Rattle.rules.specs.Checks.{Outcome, answered, refused, read, admitte
 use Rattle.rules.specs.Listing.{word, line, listing}
 
 -- the checker answers clear for glitching signals: the glitch half of the answer that it returns is clear
-unfoldable pub Clear : Outcome Findings → Type 0
-Clear (answered answer) = answer .glitch ≡ clear
-Clear (refused k p) = ⊥
+unfoldable pub GlitchClear : Outcome Findings → Type 0
+GlitchClear (answered answer) = answer .glitch ≡ clear
+GlitchClear (refused k p) = ⊥
 
 -- node i is there, and is tested
 pub record TestedNode (n : Netlist) (i : ℕ) : Type 0 where

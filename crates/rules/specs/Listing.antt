@@ -1,12 +1,12 @@
 -- Document 01, "The listing program": its text, byte for byte, from the netlist bytes. Assumes nothing.
-use Prim.Native.Nat.{ℕ, zero, suc, _+_, _/_, _%_}
+use Prim.Native.Nat.{ℕ, zero, suc, _+_, _*_, _/_, _%_}
 use Prim.Native.Char.{code}
 use Prim.Native.String.{String, [] as no-text, _∷_ as _followed-by_}
 use mathlib.Core.Bool.{true, false, cond}
 use mathlib.Core.List.{List, [], _∷_, _++_}
 use lib.Dec.{leb, ltb}
 use lib.ListN.{length, drop}
-use Rattle.rules.specs.Records.{Cell, input, NOT, XOR, AND, OR, register, Netlist}
+use Rattle.rules.specs.Records.{Cell, input, NOT, XOR, AND, OR, register, Netlist, most-nodes}
 use Rattle.rules.specs.Families.{Families, families, Finding, clear, suspectAt, findings}
 use Rattle.rules.specs.Checks.{Outcome, answered, refused, read}
 
@@ -60,6 +60,17 @@ netlistText n =
 unfoldable pub textOf : Outcome Netlist → List ℕ
 textOf (refused k p) = line (word "refused" ∷ decimal k ∷ decimal p ∷ [])
 textOf (answered n) = netlistText n
+
+-- a line has at most 18 bytes, and a listing at most three lines beside those of the nodes
+abbrev pub most-line : ℕ
+most-line = 18
+
+abbrev pub most-text : ℕ
+most-text = most-line * (most-nodes + 3)
+
+-- the program reads at most 1,024 bytes
+abbrev pub most-input : ℕ
+most-input = 1024
 
 -- the listing of the netlist bytes
 unfoldable pub listing : List ℕ → List ℕ

@@ -39,18 +39,32 @@ withVariable n c = record { variables = n .variables ++ (c ∷ []); nodes = n .n
 abbrev pub withNode : Netlist → Cell → Netlist
 withNode n c = record { variables = n .variables; nodes = n .nodes ++ (c ∷ []) }
 
--- at most 10 variables and 200 nodes
+-- the limits: at most 10 variables and 200 nodes
 abbrev pub most-variables : ℕ
 most-variables = 10
 
 abbrev pub most-nodes : ℕ
 most-nodes = 200
 
+-- so many sets have so many variables
+abbrev pub most-sets : ℕ
+most-sets = 2 ^ most-variables
+
+-- the highest kind, and the most bytes that a record and a whole file have
+abbrev pub last-kind : ℕ
+last-kind = 7
+
+abbrev pub most-record : ℕ
+most-record = 3
+
+abbrev pub most-bytes : ℕ
+most-bytes = 2 * most-variables + most-record * most-nodes + 1
+
 -- class: 0 secret, 1 mask, 2 public
 unfoldable pub classOf : ℕ → Class
 classOf b = getD (secret ∷ mask ∷ public ∷ []) b public
 
--- The record of kind k whose body begins with the bytes b and c; a kind above 7 says nothing, and is refused.
+-- The record of kind k whose body begins with the bytes b and c; a kind above the last says nothing, and is refused.
 unfoldable pub said : (k b c : ℕ) → Record
 said k b c =
     getD

@@ -3,7 +3,7 @@
 -- Assumes nothing.
 use Prim.Native.Nat.{ℕ, zero, suc, _/_}
 use mathlib.Core.Path.{_≡_}
-use mathlib.Core.Bool.{Bool, true, false, not, _&&_, _||_, xor, cond, Bool·beq}
+use mathlib.Core.Bool.{Bool, true, false, not, _&&_, _||_, xor, Bool·beq}
 use mathlib.Core.List.{List, [], _∷_, _++_, map}
 use lib.ListN.{length, getD}
 use Rattle.rules.specs.Lists.{union, count}
@@ -86,11 +86,6 @@ make [] s m p = []
 make (secret ∷ variables) s m p = next s ∷ make variables (others s) m p
 make (mask ∷ variables) s m p = next m ∷ make variables s (others m) p
 make (public ∷ variables) s m p = next p ∷ make variables s m (others p)
-
--- the setting of a class that an assignment holds
-unfoldable pub part : Class → List Class → Assignment → List Bool
-part class [] x = []
-part class (c ∷ variables) x = cond (same class c) (next x ∷ part class variables (others x)) (part class variables (others x))
 
 -- ---- patterns
 

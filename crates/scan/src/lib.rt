@@ -5,11 +5,11 @@ ghost use mathlib.Core.List.{List};
 ghost use Prim.Native.Nat.{_*_, _^_, _<_, _≤_};
 ghost use lib.ListN.{length};
 ghost use Rattle.rules.specs.Lists.{digit, member};
-ghost use Rattle.rules.specs.Records as Rules;
-ghost use Rattle.rules.specs.Records.{Class, secret, mask, classByte};
+ghost use Rattle.rules.specs.Records as Records;
+ghost use Rattle.rules.specs.Records.{Class, secret, mask, classByte, most-variables, most-sets};
 ghost use Rattle.rules.specs.Families.{suspect};
 ghost use Rattle.rules.specs.Paper.{findingOf};
-ghost use Rattle.records.specs.Netlists.{tableOf, Ready};
+ghost use Rattle.records.specs.Netlists.{flatOf, Ready};
 ghost use Rattle.families.specs.Parts.{HasPart, familyAt};
 ghost use Rattle.scan.specs.Suspects.{variablesOf, found};
 use families::SETS;
@@ -18,7 +18,7 @@ use rules::Half;
 
 // The bit of variable `v`, or 0 where the answer is no.
 fn bit_if(yes: bool, v: usize) -> usize
-    requires { ⌜ v < 10 ⌝ }
+    requires { ⌜ v < most-variables ⌝ }
     ensures { λ r. ⌜ r ≡ digit yes * 2 ^ v ⌝ }
 {
     if yes { 1usize << v } else { 0 }
@@ -26,8 +26,8 @@ fn bit_if(yes: bool, v: usize) -> usize
 
 // The variables of a class, as a set.
 fn variables_of(netlist: Netlist, class: u8) -> usize
-    requires { ⌜ netlist .variables ≤ 10 ⌝ }
-    ensures { λ r. ⌜ ((n : Rules.Netlist) (c : Class) → netlist ≡ tableOf n → class ≡ classByte c →
+    requires { ⌜ netlist .variables ≤ most-variables ⌝ }
+    ensures { λ r. ⌜ ((n : Records.Netlist) (c : Class) → netlist ≡ flatOf n → class ≡ classByte c →
         r ≡ variablesOf c (n .variables)) ⌝ }
 {
     let count = netlist.variables;
@@ -43,7 +43,7 @@ fn variables_of(netlist: Netlist, class: u8) -> usize
 
 // Whether a part of the work bytes holds a set that has a secret and no mask.
 fn suspect_in(work: &[u8], part: usize, secrets: usize, masks: usize, set: usize) -> bool
-    requires { ⌜ HasPart (now work) part × (set < 1024) ⌝ }
+    requires { ⌜ HasPart (now work) part × (set < most-sets) ⌝ }
     ensures { λ r. ⌜ ((variables : List Class) → secrets ≡ variablesOf secret variables → masks ≡ variablesOf mask variables →
         r ≡ (suspect variables set && member set (familyAt (now (work .entry)) part))) ⌝ }
 {
@@ -58,7 +58,7 @@ fn suspect_in(work: &[u8], part: usize, secrets: usize, masks: usize, set: usize
 
 // The set from which a node of this kind is scanned: an input is not tested, so none is left of it.
 fn first_set(kind: u8) -> usize
-    ensures { λ r. ⌜ (kind ≡ 2 → r ≡ 1024) × ((kind ≡ 2 → ⊥) → r ≡ 0) ⌝ }
+    ensures { λ r. ⌜ (kind ≡ 2 → r ≡ most-sets) × ((kind ≡ 2 → ⊥) → r ≡ 0) ⌝ }
 {
     if kind == 2 { SETS } else { 0 }
 }
@@ -66,7 +66,7 @@ fn first_set(kind: u8) -> usize
 // The lowest suspect node of a layer (settled 0, glitch 1) and its lowest-numbered suspect set.
 pub fn scan(netlist: Netlist, layer: usize, work: &[u8]) -> Half
     requires { ⌜ Ready netlist (length (now work)) × (layer < 2) ⌝ }
-    ensures { λ r. ⌜ ((n : Rules.Netlist) → netlist ≡ tableOf n → findingOf r ≡ found n layer (now (work .entry))) ⌝ }
+    ensures { λ r. ⌜ ((n : Records.Netlist) → netlist ≡ flatOf n → findingOf r ≡ found n layer (now (work .entry))) ⌝ }
 {
     let secrets = variables_of(netlist, 0);
     let masks = variables_of(netlist, 1);

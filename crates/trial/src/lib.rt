@@ -6,6 +6,7 @@ ghost use Prim.Native.Nat.{_-_, min};
 ghost use lib.Dec.{eqb};
 ghost use lib.ListN.{length, getD, replicate};
 ghost use Rattle.rules.specs.Lists.{tabulate};
+ghost use Rattle.rules.specs.Records.{most-nodes};
 ghost use Rattle.rules.specs.Slices.{nodesAfter, workAfter, reply};
 ghost use Rattle.rules.specs.Paper.{replyOf};
 ghost use Rattle.trial.specs.Before.{entryBefore, byteBefore, isBefore, keptFrom};
@@ -53,7 +54,7 @@ fn is_before(node: Node) -> bool
 
 // The lowest number from which on all entries are as they were, and the same of the work bytes.
 pub fn entries_kept_from(nodes: [Node; MOST_NODES]) -> usize
-    ensures { λ r. ⌜ r ≡ keptFrom (λ k. isBefore (getD nodes k entryBefore)) 200 ⌝ }
+    ensures { λ r. ⌜ r ≡ keptFrom (λ k. isBefore (getD nodes k entryBefore)) most-nodes ⌝ }
 {
     let mut from = 0;
     let mut k = 0;
@@ -90,7 +91,7 @@ pub struct Seen {
 
 // How many of 200 entries are lent.
 fn at_most(entries: usize) -> usize
-    ensures { λ r. ⌜ r ≡ min entries 200 ⌝ }
+    ensures { λ r. ⌜ r ≡ min entries most-nodes ⌝ }
 {
     if entries < MOST_NODES {
         return entries;
@@ -101,11 +102,11 @@ fn at_most(entries: usize) -> usize
 // Checks a block over the first `entries` of 200 entries (or over all where there are not so many), each of which holds
 // `before`. Gives the reply and all 200 entries at exit.
 pub fn check_over(bytes: &[u8], entries: usize, before: Node, work: &mut [u8]) -> Seen
-    ensures reply { λ r. ⌜ replyOf (r .reply) ≡ reply (now (bytes .entry)) (min entries 200) (length (now (work .entry))) ⌝ }
+    ensures reply { λ r. ⌜ replyOf (r .reply) ≡ reply (now (bytes .entry)) (min entries most-nodes) (length (now (work .entry))) ⌝ }
     ensures nodes { λ r. ⌜ r .nodes ≡
-        nodesAfter (now (bytes .entry)) (replicate (min entries 200) before) (length (now (work .entry)))
-        ++ replicate (200 - min entries 200) before ⌝ }
-    ensures work { λ _. ⌜ now (work .exit) ≡ workAfter (now (bytes .entry)) (min entries 200) (now (work .entry)) ⌝ }
+        nodesAfter (now (bytes .entry)) (replicate (min entries most-nodes) before) (length (now (work .entry)))
+        ++ replicate (most-nodes - min entries most-nodes) before ⌝ }
+    ensures work { λ _. ⌜ now (work .exit) ≡ workAfter (now (bytes .entry)) (min entries most-nodes) (now (work .entry)) ⌝ }
 {
     let lent = at_most(entries);
     let mut nodes = [before; MOST_NODES];

@@ -46,9 +46,9 @@ use Rattle.rules.specs.declared.Node.{Node}
 use Rattle.rules.specs.declared.Reply.{Reply}
 use Rattle.rules.specs.Slices.{nodesAfter, workAfter, reply}
 use Rattle.rules.specs.Checks.{admitted}
-use Rattle.rules.specs.Demands.{Clear, NothingSuspect, OneProbe}
+use Rattle.rules.specs.Demands.{GlitchClear, NothingSuspect, OneProbe}
 use Rattle.rules.specs.Paper.{replyOf}
-use Rattle.records.specs.Netlists.{tableOf}
+use Rattle.records.specs.Netlists.{flatOf}
 use Rattle.records.specs.declared.Netlist.{Netlist}
 use Rattle.rules.proofs.Node as T
 use Rattle.rules.proofs.Reply as R
@@ -119,7 +119,7 @@ module _ {M : Type 1} (𝓤 : URA M) (H : Heap 𝓤) (A : Atoms 𝓤) (W : Given
 
   -- the netlist whose records are stored
   abbrev table : Netlist
-  table = tableOf (kept (admitted xs (length ys) (length zs)))
+  table = flatOf (kept (admitted xs (length ys) (length zs)))
 
   -- the machine values
   abbrev s₀ : Val
@@ -162,10 +162,10 @@ module _ {M : Type 1} (𝓤 : URA M) (H : Heap 𝓤) (A : Atoms 𝓤) (W : Given
   Replied r = replyOf r ≡ reply xs (length ys) (length zs)
 
   abbrev Cleared : Reply → Type 0
-  Cleared r = Clear (replyOf r) ↔ NothingSuspect xs (length ys) (length zs)
+  Cleared r = GlitchClear (replyOf r) ↔ NothingSuspect xs (length ys) (length zs)
 
   abbrev Probed : Reply → Type 0
-  Probed r = Clear (replyOf r) → OneProbe xs
+  Probed r = GlitchClear (replyOf r) → OneProbe xs
 
   abbrev Says : Reply → Type 0
   Says r = Replied r × Cleared r × Probed r

@@ -1,4 +1,4 @@
--- `families::copy` meets its contract: the part is cleared, and then all sets of a lower part are put into it, which clearing left as it was
+-- `families::copy` meets its contract: the part is emptied, and then all sets of a lower part are put into it, which emptying left as it was
 -- (`with-other`). Assumes nothing.
 use mathlib.Core.Path.{_∙_}
 use mathlib.Core.Bool.{or-false}
@@ -13,8 +13,8 @@ use Rattle.families.proofs.Parts.{with-same, with-other}
 use Rattle.families.proofs.copy.Statement.{statement}
 use Rattle.families.proofs.copy.Tie as tie
 
-clear-requires : tie.Need-clear-requires
-clear-requires c κs = search needs
+make-empty-requires : tie.Need-make-empty-requires
+make-empty-requires c κs = search needs
 
 unite-requires : tie.Need-unite-requires
 unite-requires c κs = search needs
@@ -26,13 +26,13 @@ returns : tie.Need-returns
 unfolding member
 returns c =
     let united = c .before .before in
-    let cleared = united .before .before .before .before in
-    let start = cleared .before .before .before in
+    let emptied = united .before .before .before .before in
+    let start = emptied .before .before .before in
     let work = now (start .args .work) in
     let lower = familyAt work (start .args .from) in
     united .unite .ensures
-    ∙ with-other work (cleared .clear .last .0) (start .args .into) [] (start .pre .0) (cleared .clear .ensures) (start .args .from) (λ same. omega arith)
+    ∙ with-other work (emptied .make-empty .last .0) (start .args .into) [] (start .pre .0) (emptied .make-empty .ensures) (start .args .from) (λ same. omega arith)
     ∙ with-same work (start .args .into) (union lower []) lower (λ A h. member-union A lower [] ∙ or-false (member A lower))
 
 pub copy-spec : {M : Type 1} → statement M
-copy-spec = tie.close (tie.spec clear-requires unite-requires same-length returns)
+copy-spec = tie.close (tie.spec make-empty-requires unite-requires same-length returns)

@@ -1,5 +1,5 @@
 -- `families::multiply` meets its contract. The loop's invariant: the part has the product of those sets of the first family that are below
--- `set` with the second family, and all else is as it was after clearing. The measure is what is left of the 1,024 sets. Assumes nothing.
+-- `set` with the second family, and all else is as it was after emptying. The measure is what is left of the 1,024 sets. Assumes nothing.
 use Prim.Native.Nat.{ℕ, _+_, _-_, _≤_, _<_}
 use mathlib.Core.Path.{_≡_, refl, sym, ap, _∙_}
 use mathlib.Core.Bool.{Bool, true, false, cond}
@@ -27,11 +27,11 @@ Inv-loop work₀ into first second set₀ work set =
 abbrev μ-loop : tie.MeasureT-loop
 μ-loop work₀ into first second set₀ work set = 1024 - set
 
--- a part that was cleared has the product of no sets
-begins : (work cleared : List ℕ) (into first second : ℕ) → HasPart work into → cleared ≡ withFamily work into []
-    → cleared ≡ partial cleared into first second 0
+-- a part that was emptied has the product of no sets
+begins : (work emptied : List ℕ) (into first second : ℕ) → HasPart work into → emptied ≡ withFamily work into []
+    → emptied ≡ partial emptied into first second 0
 unfolding setsBelow product
-begins work cleared into first second has e = rw e (sym (with-twice work into [] [] has))
+begins work emptied into first second has e = rw e (sym (with-twice work into [] [] has))
 
 -- a turn takes the product one set on
 turns : (start work next : List ℕ) (into first second A : ℕ) → HasPart start into → first < into → second < into → A < 1024
@@ -63,28 +63,28 @@ all-sets : (bytes : List ℕ) (part k : ℕ) → k ≡ 1024 → setsBelow bytes 
 unfolding familyAt
 all-sets bytes part k e = ap (setsBelow bytes part) e
 
--- after the last turn all sets were taken, and the lower parts are as they were before the part was cleared
-ends : (work cleared after : List ℕ) (into first second k : ℕ) → HasPart work into → first < into → second < into → k ≡ 1024
-    → cleared ≡ withFamily work into [] → after ≡ partial cleared into first second k
+-- after the last turn all sets were taken, and the lower parts are as they were before the part was emptied
+ends : (work emptied after : List ℕ) (into first second k : ℕ) → HasPart work into → first < into → second < into → k ≡ 1024
+    → emptied ≡ withFamily work into [] → after ≡ partial emptied into first second k
     → after ≡ withFamily work into (product (familyAt work first) (familyAt work second))
-ends work cleared after into first second k has f s last e a =
-    a ∙ rw (all-sets cleared first k last, e, lower first f, lower second s) (with-twice work into [] (product (familyAt work first) (familyAt work second)) has)
+ends work emptied after into first second k has f s last e a =
+    a ∙ rw (all-sets emptied first k last, e, lower first f, lower second s) (with-twice work into [] (product (familyAt work first) (familyAt work second)) has)
   where
     lower : (part : ℕ) → part < into → familyAt (withFamily work into []) part ≡ familyAt work part
     lower part h = with-there work into part [] has (λ p. omega arith)
 
-clear-requires : tie.Need-clear-requires Inv-loop μ-loop
-clear-requires c κs = c .before .before .pre .0
+make-empty-requires : tie.Need-make-empty-requires Inv-loop μ-loop
+make-empty-requires c κs = c .before .before .pre .0
 
 loop-holds : tie.Need-loop-holds Inv-loop μ-loop
 loop-holds c =
-    let cleared = c .before .before in
-    let start = cleared .before .before .before in
+    let emptied = c .before .before in
+    let start = emptied .before .before .before in
     let args = start .args in (
       omega arith,
-      omega (arith, cleared .clear .kept .0),
+      omega (arith, emptied .make-empty .kept .0),
       refl,
-      begins (now (args .work)) (cleared .clear .last .0) (args .into) (args .first) (args .second) (start .pre .0) (cleared .clear .ensures),
+      begins (now (args .work)) (emptied .make-empty .last .0) (args .into) (args .first) (args .second) (start .pre .0) (emptied .make-empty .ensures),
     )
 
 multiply-by-requires : tie.Need-multiply-by-requires Inv-loop μ-loop
@@ -101,28 +101,28 @@ loop-again c =
     let turned = c .before .before in
     let taken = turned .before .before in
     let head = taken .before in
-    let cleared = head .before .before .before in
-    let start = cleared .before .before .before in
+    let emptied = head .before .before .before in
+    let start = emptied .before .before .before in
     let args = start .args in
     let inv = head .loop .inv in (
       omega arith,
       inv .1,
       turned .multiply-by .kept .0 ∙ inv .2,
-      turns (cleared .clear .last .0) (head .loop .work) (turned .multiply-by .last .0) (args .into) (args .first) (args .second) (head .loop .set)
+      turns (emptied .make-empty .last .0) (head .loop .work) (turned .multiply-by .last .0) (args .into) (args .first) (args .second) (head .loop .set)
           (inv .1) (start .pre .1) (start .pre .2) (taken .loop-test .taken) (inv .3) (turned .multiply-by .ensures),
     )
 
 same-length : tie.Need-same-length Inv-loop μ-loop
-same-length c = c .before .loop .inv .2 ∙ c .before .before .before .before .clear .kept .0
+same-length c = c .before .loop .inv .2 ∙ c .before .before .before .before .make-empty .kept .0
 
 returns : tie.Need-returns Inv-loop μ-loop
 returns c =
     let head = c .before in
-    let cleared = head .before .before .before in
-    let start = cleared .before .before .before in
+    let emptied = head .before .before .before in
+    let start = emptied .before .before .before in
     let args = start .args in
-    ends (now (args .work)) (cleared .clear .last .0) (head .loop .work) (args .into) (args .first) (args .second) (head .loop .set)
-    (start .pre .0) (start .pre .1) (start .pre .2) (omega arith) (cleared .clear .ensures) (head .loop .inv .3)
+    ends (now (args .work)) (emptied .make-empty .last .0) (head .loop .work) (args .into) (args .first) (args .second) (head .loop .set)
+    (start .pre .0) (start .pre .1) (start .pre .2) (omega arith) (emptied .make-empty .ensures) (head .loop .inv .3)
 
 pub multiply-spec : {M : Type 1} → statement M
 multiply-spec =
@@ -130,7 +130,7 @@ multiply-spec =
     (tie.spec
     Inv-loop
     μ-loop
-    clear-requires
+    make-empty-requires
     loop-holds
     multiply-by-requires
     add-set

@@ -1,4 +1,4 @@
--- `families::single` meets its contract: the part is cleared, and then one set is put into it (`with-one`). Assumes nothing.
+-- `families::single` meets its contract: the part is emptied, and then one set is put into it (`with-one`). Assumes nothing.
 use mathlib.Core.Path.{_∙_}
 use mathlib.Core.List.{[]}
 use borrow.Author.Needs.{needs}
@@ -8,8 +8,8 @@ use Rattle.families.proofs.Parts.{with-one}
 use Rattle.families.proofs.single.Statement.{statement}
 use Rattle.families.proofs.single.Tie as tie
 
-clear-requires : tie.Need-clear-requires
-clear-requires c κs = search needs
+make-empty-requires : tie.Need-make-empty-requires
+make-empty-requires c κs = search needs
 
 insert-requires : tie.Need-insert-requires
 insert-requires c κs = search needs
@@ -21,10 +21,10 @@ returns : tie.Need-returns
 unfolding member insert
 returns c =
     let inserted = c .before .before in
-    let cleared = inserted .before .before .before .before in
-    let start = cleared .before .before .before in
+    let emptied = inserted .before .before .before .before in
+    let start = emptied .before .before .before in
     inserted .insert .ensures
-    ∙ with-one (now (start .args .work)) (cleared .clear .last .0) (start .args .into) [] (start .pre .0) (cleared .clear .ensures) (start .args .set)
+    ∙ with-one (now (start .args .work)) (emptied .make-empty .last .0) (start .args .into) [] (start .pre .0) (emptied .make-empty .ensures) (start .args .set)
 
 pub single-spec : {M : Type 1} → statement M
-single-spec = tie.close (tie.spec clear-requires insert-requires same-length returns)
+single-spec = tie.close (tie.spec make-empty-requires insert-requires same-length returns)

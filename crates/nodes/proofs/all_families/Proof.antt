@@ -9,7 +9,7 @@ use Rattle.rules.specs.Records.{Cell, input, Netlist}
 use Rattle.rules.specs.Families.{familiesRule, families}
 use Rattle.rules.specs.Slices.{entry, workBytes}
 use Rattle.records.specs.declared.Netlist as Value
-use Rattle.records.specs.Netlists.{blank, tableOf, Formed}
+use Rattle.records.specs.Netlists.{blank, flatOf, Formed}
 use Rattle.records.proofs.Netlists.{value-count, value-entry, few-nodes, one-netlist}
 use Rattle.nodes.specs.Work.{soFar, withFamilies, Placed}
 use Rattle.nodes.proofs.Nodes.{nodesDone, none-done, next-done, all-done, done-length, placed}
@@ -32,7 +32,7 @@ module _ {value : Value.Netlist} (f : Formed value) where
   size before work i h room e = ap length e ∙ done-length (f .netlist) before i (omega (arith, value-count (f .netlist) (f .is))) (omega arith)
 
   finished : (before work : List ℕ) (i : ℕ) → i ≤ value .count → value .count ≤ i → work ≡ nodesDone (f .netlist) before i
-      → (n : Netlist) → value ≡ tableOf n → work ≡ workBytes (families n) ++ drop (length (workBytes (families n))) before
+      → (n : Netlist) → value ≡ flatOf n → work ≡ workBytes (families n) ++ drop (length (workBytes (families n))) before
   finished before work i h l e n same =
       let there : i ≡ length (f .netlist .nodes) = omega (arith, value-count (f .netlist) (f .is)) in
       rw (← one-netlist f n same) (e ∙ rw there (all-done (f .netlist) before))

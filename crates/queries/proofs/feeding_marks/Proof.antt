@@ -11,7 +11,7 @@ use Rattle.rules.specs.Records.{Cell, input, Netlist}
 use Rattle.rules.specs.Values.{feeding}
 use Rattle.rules.specs.Slices.{entry}
 use Rattle.records.specs.declared.Netlist as Value
-use Rattle.records.specs.Netlists.{blank, tableOf, Formed}
+use Rattle.records.specs.Netlists.{blank, flatOf, Formed}
 use Rattle.records.proofs.Netlists.{value-count, value-entry, few-nodes, one-netlist, operands-below}
 use Rattle.queries.specs.Replies.{handedOn}
 use Rattle.queries.proofs.Marks.{Leads, leads-start, leads-next, leads-end, handed-length}
@@ -40,7 +40,7 @@ module _ {value : Value.Netlist} (f : Formed value) where
         rw handed-on (leads-next (f .netlist) (f .obeys) node marks i j (omega arith) (inside i h) (omega (arith, few-nodes f)) leads)
 
   finished : (node : ℕ) (marks : List Bool) (i : ℕ) → i ≤ 0 → length marks ≡ 200 → Leads (f .netlist) node marks i
-      → (n : Netlist) → value ≡ tableOf n → marks ≡ tabulate (λ p. member p (feeding n node)) 200
+      → (n : Netlist) → value ≡ flatOf n → marks ≡ tabulate (λ p. member p (feeding n node)) 200
   finished node marks i none e leads n same =
       rw (← one-netlist f n same) (leads-end (f .netlist) 200 node marks i none e leads)
 

@@ -11,7 +11,7 @@ use Rattle.rules.specs.Records.{Netlist}
 use Rattle.rules.specs.Families.{families, familiesAt}
 use Rattle.rules.specs.Slices.{workBytes}
 use Rattle.records.specs.declared.Netlist as Value
-use Rattle.records.specs.Netlists.{tableOf, Formed, Ready}
+use Rattle.records.specs.Netlists.{flatOf, Formed, Ready}
 use Rattle.records.proofs.Netlists.{value-count, few-nodes, well-formed}
 use Rattle.families.specs.Parts.{familyAt}
 use Rattle.families.proofs.Work.{settled-there, glitch-there}
@@ -27,7 +27,7 @@ module _ {value : Value.Netlist} (f : Formed value) where
   has-part k i part h l e = omega (arith, few-nodes f)
 
   -- what they hold once the families of all nodes are written
-  in-parts : (n : Netlist) → value ≡ tableOf n → (work rest : List ℕ) (i A : ℕ) → i < value .count → work ≡ workBytes (families n) ++ rest
+  in-parts : (n : Netlist) → value ≡ flatOf n → (work rest : List ℕ) (i A : ℕ) → i < value .count → work ≡ workBytes (families n) ++ rest
       → (member A (familyAt work (2 * i)) ≡ member A (familiesAt n i .settled))
       × (member A (familyAt work (2 * i + 1)) ≡ member A (familiesAt n i .glitch))
   in-parts n e work rest i A h w =

@@ -14,7 +14,7 @@ use Rattle.rules.specs.Values.{Assignment, valueRule, values}
 use Rattle.rules.specs.Slices.{entry}
 use Rattle.rules.proofs.Tables.{first-length, first-next}
 use Rattle.records.specs.declared.Netlist as Value
-use Rattle.records.specs.Netlists.{padded, blank, tableOf, Formed}
+use Rattle.records.specs.Netlists.{padded, blank, flatOf, Formed}
 use Rattle.records.proofs.Netlists.{padded-none, padded-set, padded-same, value-variables, value-count, value-entry, few-nodes, one-netlist, operands-below}
 use Rattle.queries.proofs.settled_values.Statement.{statement}
 use Rattle.queries.proofs.settled_values.Tie as tie
@@ -69,7 +69,7 @@ module _ {value : Value.Netlist} (f : Formed value) where
       rw (e, ← first-next (valueRule (under n x)) (n .nodes) i (input 0) here, ← value) (rw long at stored)
 
   finished : (x : ℕ) (done : List Bool) (i : ℕ) → value .count ≤ i → done ≡ valuesDone (f .netlist) x i
-      → (n : Netlist) → value ≡ tableOf n → done ≡ padded 200 false (values n (under n x))
+      → (n : Netlist) → value ≡ flatOf n → done ≡ padded 200 false (values n (under n x))
   finished x done i h e n same =
       let own = f .netlist in
       let all : length (own .nodes) ≤ i = omega (arith, value-count own (f .is)) in

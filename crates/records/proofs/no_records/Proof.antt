@@ -1,12 +1,12 @@
 -- `records::no_records` meets its contract: an array of one value is a padded list of no entries. Assumes nothing.
 use Prim.Native.Nat.{ℕ}
-use Rattle.records.specs.Netlists.{blank, tableOf}
+use Rattle.records.specs.Netlists.{blank, flatOf}
 use Rattle.records.proofs.Netlists.{padded-none}
 use Rattle.records.proofs.no_records.Statement.{statement}
 use Rattle.records.proofs.no_records.Tie as tie
 
 returns : tie.Need-returns
-unfolding tableOf
+unfolding flatOf
 returns c = cc (padded-none {A = ℕ} 10 0, padded-none 200 blank)
 
 pub no-records-spec : {M : Type 1} → statement M

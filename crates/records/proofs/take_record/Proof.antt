@@ -15,7 +15,7 @@ use Rattle.records.specs.declared.Found.the-variants as Found
 use Rattle.records.specs.declared.Stage.{Stage}
 use Rattle.records.specs.declared.Stage.the-variants as Stage
 use Rattle.records.specs.declared.Progress.{Progress}
-use Rattle.records.specs.Netlists.{RecordBytes, foundOf, foundIf, foundAt, tableOf, RoomFor, RefusedAs, Reached}
+use Rattle.records.specs.Netlists.{RecordBytes, foundOf, foundIf, foundAt, flatOf, RoomFor, RefusedAs, Reached}
 use Rattle.records.proofs.Netlists.{reading-stage, reading-here, reading-netlist}
 use Rattle.records.proofs.take_record.Statement.{statement}
 use Rattle.records.proofs.take_record.Tie as tie
@@ -70,7 +70,7 @@ module _ (bytes : List ℕ) (s : Progress) where
   -- one that goes on takes the record at its offset
   goes-on : (r : Progress) (o : Outcome Record) → s .stage ≡ Stage.Reading → o ≡ judgedAt bytes (s .netlist .variables) (s .netlist .count) (s .here)
       → ((n : Netlist) (here : ℕ) → Reached s (reading n here) → Reached r (taken n here o)) → (p : C.Progress) → Reached s p → Reached r (step bytes p)
-  unfolding step recordAt tableOf RefusedAs Reached
+  unfolding step recordAt flatOf RefusedAs Reached
   goes-on r o on found next (reading n here) e =
       let same = rw (reading-netlist s n here e, reading-here s n here e) at found in
       subst (λ (q : Outcome Record). Reached r (taken n here q)) same (next n here e)

@@ -4,7 +4,7 @@ use mathlib.Core.List.{[], _∷_}
 use lib.ListN.{length, length-append}
 use borrow.Author.Needs.{needs}
 use Rattle.rules.specs.Slices.{entry}
-use Rattle.records.specs.Netlists.{blank, tableOf}
+use Rattle.records.specs.Netlists.{blank, flatOf}
 use Rattle.records.proofs.Netlists.{made-set}
 use Rattle.records.proofs.with_node.Statement.{statement}
 use Rattle.records.proofs.with_node.Tie as tie
@@ -19,7 +19,7 @@ add-longer : tie.Need-add-longer
 add-longer c = search needs
 
 returns : tie.Need-returns
-unfolding tableOf
+unfolding flatOf
 returns c n cell e l =
     let nodes = n .nodes in
     let room : length nodes < 200 = rw e at (c .pre) in

@@ -6,7 +6,7 @@ use borrow.Author.Needs.{needs}
 use borrow.Author.Tests.{leb-false}
 use Rattle.rules.specs.Records.{Cell, node, said, classOf}
 use Rattle.rules.specs.Checks.{overLimit, taken}
-use Rattle.rules.proofs.Records.{class-back}
+use Rattle.rules.proofs.Records.{byte-of-class}
 use Rattle.records.specs.Netlists.{Reached}
 use Rattle.records.proofs.Netlists.{reading-here, reading-netlist}
 use Rattle.records.proofs.with_record.Statement.{statement}
@@ -46,7 +46,7 @@ returns-2 c n here e =
     let b = start .args .b in
     let one = c .before .if2 .taken in
     let sized = c .before .before .before .size-of .ensures .0 b (start .args .c) (omega arith) (omega arith) in
-    let longer = c .with-variable .ensures n (classOf b) (reading-netlist _ n here e) (sym (class-back b (start .pre .class one))) in
+    let longer = c .with-variable .ensures n (classOf b) (reading-netlist _ n here e) (sym (byte-of-class b (start .pre .class one))) in
     rw (reading-here _ n here e, longer, sized, one)
 
 entry-of-requires : tie.Need-entry-of-requires

@@ -4,7 +4,7 @@ use mathlib.Core.List.{[], _∷_}
 use lib.ListN.{length, length-append}
 use borrow.Author.Needs.{needs}
 use Rattle.rules.specs.Records.{classByte}
-use Rattle.records.specs.Netlists.{tableOf}
+use Rattle.records.specs.Netlists.{flatOf}
 use Rattle.records.proofs.Netlists.{made-set}
 use Rattle.records.proofs.with_variable.Statement.{statement}
 use Rattle.records.proofs.with_variable.Tie as tie
@@ -16,7 +16,7 @@ add-longer : tie.Need-add-longer
 add-longer c = search needs
 
 returns : tie.Need-returns
-unfolding tableOf
+unfolding flatOf
 returns c n class e l =
     let variables = n .variables in
     let room : length variables < 10 = rw e at (c .pre) in

@@ -25,7 +25,7 @@ use Rattle.rules.proofs.Packing.{work-length}
 use Rattle.rules.proofs.Reading.{read-well-formed}
 use Rattle.rules.proofs.Room.{admitted-all}
 use Rattle.records.specs.declared.Netlist as Value
-use Rattle.records.specs.Netlists.{tableOf, Formed}
+use Rattle.records.specs.Netlists.{flatOf, Formed}
 use Rattle.records.proofs.Netlists.{value-count}
 use Rattle.checker.specs.Work.{kept}
 use Rattle.report.specs.Text.{Short}
@@ -52,19 +52,19 @@ module _ (bytes : List ℕ) (work : ℕ) (enough : work ≡ 51200) where
 record Checked (bytes : List ℕ) (answer : Answer) (value : Value.Netlist) (before after : List ℕ) : Type 0 where
   netlist : Netlist
   is-read : read bytes ≡ answered netlist
-  is-value : value ≡ tableOf netlist
+  is-value : value ≡ flatOf netlist
   found : findingsOf answer ≡ findings netlist
   is-work : after ≡ workBytes (families netlist) ++ drop (length (workBytes (families netlist))) before
 
 checked : (bytes before : List ℕ) → length before ≡ 51200 → {said : Reply} {answer : Answer} {value : Value.Netlist} {after : List ℕ}
-    → said ≡ Answered answer → replyOf said ≡ reply bytes 200 (length before) → value ≡ tableOf (kept (admitted bytes 200 (length before)))
+    → said ≡ Answered answer → replyOf said ≡ reply bytes 200 (length before) → value ≡ flatOf (kept (admitted bytes 200 (length before)))
     → after ≡ workAfter bytes 200 before → Checked bytes answer value before after
 unfolding reply workAfter andThen kept filled
 checked bytes before enough {said} {answer} {value} {after} is r t w =
     let admits = all-admitted bytes (length before) enough in
     go (read bytes) refl (rw (is, admits) at r) (rw admits at t) (rw admits at w)
   where
-    go : (o : Outcome Netlist) → read bytes ≡ o → answered (findingsOf answer) ≡ andThen o (λ n. answered (findings n)) → value ≡ tableOf (kept o)
+    go : (o : Outcome Netlist) → read bytes ≡ o → answered (findingsOf answer) ≡ andThen o (λ n. answered (findings n)) → value ≡ flatOf (kept o)
         → after ≡ filled (λ n. workBytes (families n)) o before → Checked bytes answer value before after
     go (answered n) e a v f =
         let same : findingsOf answer ≡ findings n = cc in record { netlist = n; is-read = e; is-value = v; found = same; is-work = f }

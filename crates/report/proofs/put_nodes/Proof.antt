@@ -13,7 +13,7 @@ use Rattle.rules.specs.Slices.{entry, workBytes}
 use Rattle.rules.specs.Listing.{decimal, line, kindName, nodeLines}
 use Rattle.rules.proofs.Listing.{firstLines, first-none, first-more, first-all}
 use Rattle.records.specs.declared.Netlist as Value
-use Rattle.records.specs.Netlists.{blank, tableOf, Formed}
+use Rattle.records.specs.Netlists.{blank, flatOf, Formed}
 use Rattle.records.proofs.Netlists.{value-count, value-entry, few-nodes, well-formed}
 use Rattle.families.specs.Parts.{familyAt}
 use Rattle.families.proofs.Parts.{length-at}
@@ -23,7 +23,7 @@ use Rattle.report.proofs.Text.{appended-none, appended-more, appended-a
 use Rattle.report.proofs.put_nodes.Statement.{statement}
 use Rattle.report.proofs.put_nodes.Tie as tie
 
-module _ {value : Value.Netlist} (n : Netlist) (e : value ≡ tableOf n) where
+module _ {value : Value.Netlist} (n : Netlist) (e : value ≡ flatOf n) where
   -- the kind of node i
   kind-at : (i : ℕ) → i < value .count → getD (value .nodes) i blank .kind ≡ kindOf (getD (n .nodes) i (input 0))
   unfolding entry
@@ -47,7 +47,7 @@ Inv-loop text₀ at work netlist count end₀ i₀ text end i =
     (i ≤ count)
     × (length text ≡ length text₀)
     × (end ≤ at + 18 * i)
-    × ((n : Netlist) (rest : List ℕ) → netlist ≡ tableOf n → work ≡ workBytes (families n) ++ rest → Appended text₀ text at end (firstLines n i))
+    × ((n : Netlist) (rest : List ℕ) → netlist ≡ flatOf n → work ≡ workBytes (families n) ++ rest → Appended text₀ text at end (firstLines n i))
 
 abbrev μ-loop : tie.MeasureT-loop
 μ-loop text₀ at work netlist count end₀ i₀ text end i = count - i

@@ -9,12 +9,12 @@ use native.Mathlib.Omega.{arith}
 use borrow.Author.Count.{below-more}
 use borrow.Author.Needs.{needs}
 use lib.ListN.{length, getD}
-use Rattle.rules.specs.Records as Rules
+use Rattle.rules.specs.Records as Records
 use Rattle.rules.specs.Records.{secret, mask, input, kindOf, classByte}
 use Rattle.rules.specs.Families.{suspectAt}
 use Rattle.rules.specs.Slices.{entry}
-use Rattle.records.specs.Netlists.{blank, tableOf}
-use Rattle.records.proofs.Netlists.{table-entry-at, few-variables, few-nodes}
+use Rattle.records.specs.Netlists.{blank, flatOf}
+use Rattle.records.proofs.Netlists.{flat-entry-at, few-variables, few-nodes}
 use Rattle.scan.specs.Suspects.{found}
 use Rattle.scan.proofs.Search.{suspectIn, Searched, search-start, search-more, search-none, search-some, Passed, found-suspect, found-clear}
 use Rattle.scan.proofs.scan.Statement.{statement}
@@ -22,14 +22,14 @@ use Rattle.scan.proofs.scan.Tie as tie
 
 abbrev Inv-loop : tie.InvT-loop
 Inv-loop layer work netlist secrets masks count i set₀ part set =
-    (n : Rules.Netlist) → netlist ≡ tableOf n → Searched n layer work i set
+    (n : Records.Netlist) → netlist ≡ flatOf n → Searched n layer work i set
 
 abbrev μ-loop : tie.MeasureT-loop
 μ-loop layer work netlist secrets masks count i set₀ part set = 1024 - set
 
 abbrev Inv-nodes : tie.InvT-nodes
 Inv-nodes layer work netlist secrets masks count i₀ set₀ i set =
-    (i ≤ count) × ((n : Rules.Netlist) → netlist ≡ tableOf n → Passed n layer work i)
+    (i ≤ count) × ((n : Records.Netlist) → netlist ≡ flatOf n → Passed n layer work i)
 
 abbrev μ-nodes : tie.MeasureT-nodes
 μ-nodes layer work netlist secrets masks count i₀ set₀ i set = count - i
@@ -70,13 +70,13 @@ first-set-requires : tie.Need-first-set-requires Inv-loop μ-loop Inv-nodes μ-n
 first-set-requires c κs = search needs
 
 loop-holds : tie.Need-loop-holds Inv-loop μ-loop Inv-nodes μ-nodes
-unfolding entry tableOf
+unfolding entry flatOf
 loop-holds c =
     λ n e.
     let args = start (c .before .before .before) .args in
     let i = c .before .before .before .nodes .i in
     let inside : i < length (n .nodes) = rw e at (c .before .before .nodes-test .taken) in
-    let kind : getD (args .t1 .nodes) i blank .kind ≡ kindOf (getD (n .nodes) i (input 0)) = rw (e, table-entry-at n i inside) in
+    let kind : getD (args .t1 .nodes) i blank .kind ≡ kindOf (getD (n .nodes) i (input 0)) = rw (e, flat-entry-at n i inside) in
     search-start n (args .layer) (now (args .work)) i (c .first-set .result) (rw kind at (c .first-set .ensures .0))
     (rw kind at (c .first-set .ensures .1))
 
@@ -90,7 +90,7 @@ loop-less : tie.Need-loop-less Inv-loop μ-loop Inv-nodes μ-nodes
 loop-less c = omega arith
 
 -- what is tested is whether the set is suspect and in the family
-tested-set : (c : tie.After-suspect-in Inv-loop μ-loop Inv-nodes μ-nodes) (n : Rules.Netlist) → start (turn c) .args .t1 ≡ tableOf n
+tested-set : (c : tie.After-suspect-in Inv-loop μ-loop Inv-nodes μ-nodes) (n : Records.Netlist) → start (turn c) .args .t1 ≡ flatOf n
     → c .suspect-in .result
     ≡ suspectIn n (start (turn c) .args .layer) (now (start (turn c) .args .work)) (turn c .nodes .i) (c .before .before .loop .set)
 unfolding classByte
@@ -119,9 +119,9 @@ nodes-again c = (
 
 -- where a set breaks both loops off, it is what is found
 broken-off : (c : tie.After-suspect-in Inv-loop μ-loop Inv-nodes μ-nodes) → c .suspect-in .result ≡ true
-    → (n : Rules.Netlist) → start (turn c) .args .t1 ≡ tableOf n
+    → (n : Records.Netlist) → start (turn c) .args .t1 ≡ flatOf n
     → suspectAt (turn c .nodes .i) (c .before .before .loop .set) ≡ found n (start (turn c) .args .layer) (now (start (turn c) .args .work))
-unfolding tableOf
+unfolding flatOf
 broken-off c hit n e =
     sym
     (found-suspect n _ _ _ _ (rw e at (c .before .before .before .before .before .nodes-test .taken)) (turn c .nodes .inv .1 n e)
@@ -151,7 +151,7 @@ returns c =
     (c .before .nodes-test .came)
 
 returns-2 : tie.Need-returns-2 Inv-loop μ-loop Inv-nodes μ-nodes
-unfolding tableOf
+unfolding flatOf
 returns-2 c =
     λ n e.
     let i = c .before .before .nodes .i in

@@ -11,11 +11,11 @@ use lib.ListN.{length, getD, take}
 use lib.Pow.{pow-mono}
 use lib.Seq.{take-all}
 use Rattle.rules.specs.Lists.{digit}
-use Rattle.rules.specs.Records as Rules
+use Rattle.rules.specs.Records as Records
 use Rattle.rules.specs.Records.{Class, public, classByte, number}
 use Rattle.rules.specs.Values.{same}
-use Rattle.records.specs.Netlists.{tableOf}
-use Rattle.records.proofs.Netlists.{table-class-at}
+use Rattle.records.specs.Netlists.{flatOf}
+use Rattle.records.proofs.Netlists.{flat-class-at}
 use Rattle.scan.specs.Suspects.{variablesOf}
 use Rattle.scan.proofs.Suspects.{digit-times, variables-more, same-byte}
 use Rattle.scan.proofs.variables_of.Statement.{statement}
@@ -24,7 +24,7 @@ use Rattle.scan.proofs.variables_of.Tie as tie
 abbrev Inv-loop : tie.InvT-loop
 Inv-loop class netlist count set₀ v₀ set v =
     (v ≤ count) × (set < 2 ^ v)
-    × ((n : Rules.Netlist) (c : Class) → netlist ≡ tableOf n → class ≡ classByte c → set ≡ variablesOf c (take v (n .variables)))
+    × ((n : Records.Netlist) (c : Class) → netlist ≡ flatOf n → class ≡ classByte c → set ≡ variablesOf c (take v (n .variables)))
 
 abbrev μ-loop : tie.MeasureT-loop
 μ-loop class netlist count set₀ v₀ set v = count - v
@@ -58,7 +58,7 @@ loop-less : tie.Need-loop-less Inv-loop μ-loop
 loop-less c = search needs
 
 loop-again : tie.Need-loop-again Inv-loop μ-loop
-unfolding tableOf
+unfolding flatOf
 loop-again c = (
   search needs,
   rw (add-one, two-pow-succ) (omega (arith, bit-small c)),
@@ -66,13 +66,13 @@ loop-again c = (
       let args = c .before .before .before .before .args in
       let v = c .before .before .before .loop .v in
       let inside : v < length (n .variables) = rw e at (c .before .before .loop-test .taken) in
-      let byte : getD (args .t1 .classes) v 0 ≡ classByte (getD (n .variables) v public) = rw e (table-class-at n v inside) in
+      let byte : getD (args .t1 .classes) v 0 ≡ classByte (getD (n .variables) v public) = rw e (flat-class-at n v inside) in
       let bit : c .bit-if .result ≡ digit (same d (getD (n .variables) v public)) * 2 ^ v = rw (byte, f, same-byte) at (c .bit-if .ensures) in
       ap₂ _+_ (c .before .before .before .loop .inv .2 n d e f) bit ∙ sym (variables-more d (n .variables) v inside),
 )
 
 returns : tie.Need-returns Inv-loop μ-loop
-unfolding tableOf
+unfolding flatOf
 returns c =
     λ n d e f.
     let all : length (n .variables) ≤ c .before .loop .v = rw e at (c .loop-test .left) in

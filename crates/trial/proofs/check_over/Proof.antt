@@ -56,7 +56,7 @@ use borrow.Table.Elements.{at as place, cut-app, join-app}
 use Rattle.rules.specs.declared.Node.{Node}
 use Rattle.rules.specs.declared.Reply.{Reply}
 use Rattle.rules.specs.Slices.{nodesAfter, workAfter, reply}
-use Rattle.rules.specs.Demands.{Clear, NothingSuspect, OneProbe}
+use Rattle.rules.specs.Demands.{GlitchClear, NothingSuspect, OneProbe}
 use Rattle.rules.specs.Paper.{replyOf}
 use Rattle.rules.proofs.Node as T
 use Rattle.rules.proofs.Node.Laws as T′
@@ -337,7 +337,7 @@ module _ {M : Type 1} (𝓤 : URA M) (H : Heap 𝓤) (A : Atoms 𝓤) (W : Given
           ⊛ raw (ensured 𝓤 H A check.ended (check.clauses 𝓤 H A memory run) (κ₀, ((α ∷ []), (κ₁, tt))) (bytes, (lent l₆ γ, (work, tt))) tt r)))) (id⊢ 𝓤 _) $ await ! tt $ pick ! (λ r. split ! $
           move ! (1 ∷ []) $ use1 W (some (λ (ws : Unit {0} × (List Node × (List ℕ × Unit {0}))). ‵ (lasts check.ended (κ₀, ((α ∷ []), (κ₁, tt))) (bytes, (lent l₆ γ, (work, tt))) ws)
           ⊛ raw (fact 𝓤 (Replied (length front) r)) ⊛ raw (fact 𝓤 (ws .1 .0 ≡ nodesAfter xs front (length zs))) ⊛ raw (fact 𝓤 (Worked (length front) (ws .1 .1 .0)))
-          ⊛ raw (fact 𝓤 (Clear (replyOf r) ↔ NothingSuspect xs (length front) (length zs))) ⊛ raw (fact 𝓤 (Clear (replyOf r) → OneProbe xs)))) (id⊢ 𝓤 _) $ pick ! (λ ws. split ! $
+          ⊛ raw (fact 𝓤 (GlitchClear (replyOf r) ↔ NothingSuspect xs (length front) (length zs))) ⊛ raw (fact 𝓤 (GlitchClear (replyOf r) → OneProbe xs)))) (id⊢ 𝓤 _) $ pick ! (λ ws. split ! $
           move ! (1 ∷ []) $ split ! $ heard ! (Replied (length front) r) (λ replied. split ! $ heard ! (ws .1 .0 ≡ nodesAfter xs front (length zs)) (λ is-ns. split ! $
           heard ! (Worked (length front) (ws .1 .1 .0)) (λ worked. drop ! $ fsplit ! $ drop ! $ fsplit ! $ fsplit ! $ move ! (1 ∷ []) $ feqL ! (λ same.
           move ! (1 ∷ []) $ fsplit ! $ fsplit ! $ move ! (1 ∷ []) $ feqL ! (λ l.

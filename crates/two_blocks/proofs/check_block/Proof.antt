@@ -53,7 +53,7 @@ use borrow.Rule.Array.Init.{part-room}
 use Rattle.rules.specs.declared.Node.{Node}
 use Rattle.rules.specs.declared.Reply.{Reply}
 use Rattle.rules.specs.Slices.{nodesAfter, workAfter, reply}
-use Rattle.rules.specs.Demands.{Clear, NothingSuspect, OneProbe}
+use Rattle.rules.specs.Demands.{GlitchClear, NothingSuspect, OneProbe}
 use Rattle.rules.specs.Paper.{replyOf}
 use Rattle.records.specs.Netlists.{blank}
 use Rattle.rules.proofs.Node as T
@@ -314,7 +314,7 @@ module _ {M : Type 1} (𝓤 : URA M) (H : Heap 𝓤) (A : Atoms 𝓤) (W : Given
           calls-at ! fm (Check 𝓤 H A memory run) known-check (to-check l₄ (α ∷ []) γ) (and-then ! (load ! (from ! (stop !)) (look ! 27 refl)) (and-then ! (load ! (from ! (stop !)) (look ! 12 refl)) (and-then ! (load ! (from ! (stop !)) (look ! 8 refl)) (no-more !)))) (λ t.
           use1 W (later (some (λ (r : Reply). (Alive (α ∷ []) ⊛ ‵ (R.the-row .own r (t ∷ []))) ⊛ raw (ensured 𝓤 H A check.ended (check.clauses 𝓤 H A memory run) (κ₀, ((α ∷ []), (κ₁, tt))) (bytes, (lent l₄ γ blanks, (work, tt))) tt r)))) (id⊢ 𝓤 _) $ await ! tt $ pick ! (λ r.
           split ! $ move ! (1 ∷ []) $ use1 W (some (λ (ws : Unit {0} × (List Node × (List ℕ × Unit {0}))). ‵ (lasts check.ended (κ₀, ((α ∷ []), (κ₁, tt))) (bytes, (lent l₄ γ blanks, (work, tt))) ws)
-          ⊛ raw (fact 𝓤 (Replied r)) ⊛ raw (fact 𝓤 (ws .1 .0 ≡ nodesAfter xs blanks (length zs))) ⊛ raw (fact 𝓤 (Worked (ws .1 .1 .0))) ⊛ raw (fact 𝓤 (Clear (replyOf r) ↔ NothingSuspect xs 8 (length zs))) ⊛ raw (fact 𝓤 (Clear (replyOf r) → OneProbe xs)))) (id⊢ 𝓤 _) $ pick ! (λ ws.
+          ⊛ raw (fact 𝓤 (Replied r)) ⊛ raw (fact 𝓤 (ws .1 .0 ≡ nodesAfter xs blanks (length zs))) ⊛ raw (fact 𝓤 (Worked (ws .1 .1 .0))) ⊛ raw (fact 𝓤 (GlitchClear (replyOf r) ↔ NothingSuspect xs 8 (length zs))) ⊛ raw (fact 𝓤 (GlitchClear (replyOf r) → OneProbe xs)))) (id⊢ 𝓤 _) $ pick ! (λ ws.
           split ! $ move ! (1 ∷ []) $ split ! $ heard ! (Replied r) (λ replied. split ! $ heard ! (ws .1 .0 ≡ nodesAfter xs blanks (length zs)) (λ is-ns. split ! $ heard ! (Worked (ws .1 .1 .0)) (λ worked. drop ! $
           fsplit ! $ drop ! $ fsplit ! $ fsplit ! $ move ! (1 ∷ []) $ feqL ! (λ is-8. move ! (1 ∷ []) $ fsplit ! $ fsplit ! $ move ! (1 ∷ []) $ feqL ! (λ l.
           -- [the work's last list; true; the array's; Alive and what r owns; what i owns; what bytes owns; the lender's part; the locals without _4]

@@ -1,4 +1,4 @@
--- `families::clear` meets its contract. The loop's invariant: the part's bytes so far are those of the empty family, and all else is as it
+-- `families::make_empty` meets its contract. The loop's invariant: the part's bytes so far are those of the empty family, and all else is as it
 -- was (`Filled`). The measure is what is left of the 128 bytes. Assumes nothing.
 use Prim.Native.Nat.{ℕ, _-_, _^_}
 use mathlib.Core.Path.{ap}
@@ -8,14 +8,14 @@ use native.Mathlib.Omega.{arith}
 use Rattle.rules.specs.Lists.{member}
 use Rattle.rules.specs.Records.{odd}
 use Rattle.families.proofs.Filling.{ByteOf, Filled, fill-start, fill-more, fill-end}
-use Rattle.families.proofs.clear.Statement.{statement}
-use Rattle.families.proofs.clear.Tie as tie
+use Rattle.families.proofs.make_empty.Statement.{statement}
+use Rattle.families.proofs.make_empty.Tie as tie
 
 abbrev Inv-loop : tie.InvT-loop
-Inv-loop work₀ part from cleared₀ work cleared = Filled work₀ part [] cleared work
+Inv-loop work₀ part from emptied₀ work emptied = Filled work₀ part [] emptied work
 
 abbrev μ-loop : tie.MeasureT-loop
-μ-loop work₀ part from cleared₀ work cleared = 128 - cleared
+μ-loop work₀ part from emptied₀ work emptied = 128 - emptied
 
 mul-from : tie.Need-mul-from Inv-loop μ-loop
 mul-from c = omega arith
@@ -29,8 +29,8 @@ add-work c = omega arith
 slice-write-work : tie.Need-slice-write-work Inv-loop μ-loop
 slice-write-work c = omega arith
 
-add-cleared : tie.Need-add-cleared Inv-loop μ-loop
-add-cleared c = omega arith
+add-emptied : tie.Need-add-emptied Inv-loop μ-loop
+add-emptied c = omega arith
 
 loop-less : tie.Need-loop-less Inv-loop μ-loop
 loop-less c = omega arith
@@ -48,5 +48,5 @@ same-length c = c .before .loop .inv .size
 returns : tie.Need-returns Inv-loop μ-loop
 returns c = fill-end (c .before .before .pre) (c .loop-test .left) (c .before .loop .inv)
 
-pub clear-spec : {M : Type 1} → statement M
-clear-spec = tie.close (tie.spec Inv-loop μ-loop mul-from loop-holds add-work slice-write-work add-cleared loop-less loop-again same-length returns)
+pub make-empty-spec : {M : Type 1} → statement M
+make-empty-spec = tie.close (tie.spec Inv-loop μ-loop mul-from loop-holds add-work slice-write-work add-emptied loop-less loop-again same-length returns)
