@@ -12,7 +12,7 @@ use lib.Dec.{T}
 use lib.ListN.{length, getD, take, drop, length-append, length-take, length-drop, List·getD-append}
 use lib.Seq.{getD-append-add, getD-take, getD-drop, length-take-le, ext-getD}
 use Rattle.rules.specs.Lists.{member, insert, union}
-use Rattle.rules.specs.Records.{odd}
+use Rattle.rules.specs.Records.{odd, most-sets}
 use Rattle.rules.specs.Families.{Family}
 use Rattle.rules.specs.Slices.{familyBytes}
 use Rattle.rules.proofs.Tests.{same-test, lt-or-le}
@@ -79,21 +79,21 @@ module _ (bytes : List ℕ) (part : ℕ) where
       go true rest = omega arith
       go false rest = omega arith
 
-  pub member-at : (A : ℕ) → A < 1024 → member A (familyAt bytes part) ≡ holdsAt bytes part A
+  pub member-at : (A : ℕ) → A < most-sets → member A (familyAt bytes part) ≡ holdsAt bytes part A
   unfolding familyAt
-  member-at A h = member-below 1024 A h
+  member-at A h = member-below most-sets A h
 
-  pub below-at : (A : ℕ) → T (member A (familyAt bytes part)) → A < 1024
+  pub below-at : (A : ℕ) → T (member A (familyAt bytes part)) → A < most-sets
   unfolding familyAt
-  below-at A t = sets-below 1024 A t
+  below-at A t = sets-below most-sets A t
 
   pub once-at : T (once (familyAt bytes part))
   unfolding familyAt
-  once-at = once-below 1024
+  once-at = once-below most-sets
 
-  pub length-at : length (familyAt bytes part) ≤ 1024
+  pub length-at : length (familyAt bytes part) ≤ most-sets
   unfolding familyAt
-  length-at = length-below 1024
+  length-at = length-below most-sets
 
 -- parts with the same bits hold the same family
 sets-same : (bytes other : List ℕ) (part k : ℕ) → ((A : ℕ) → A < k → holdsAt bytes part A ≡ holdsAt other part A)
@@ -140,14 +140,14 @@ module _ (bytes : List ℕ) (part : ℕ) (F : Family) (has : HasPart bytes part)
       (past (take (128 * part) bytes ++ familyBytes F) (drop (128 * part + 128) bytes) (128 * part + 128) (j - (128 * part + 128)) part-length
       ∙ getD-drop (128 * part + 128) bytes (j - (128 * part + 128)) 0)
 
-  pub with-here : (A : ℕ) → A < 1024 → member A (familyAt (withFamily bytes part F) part) ≡ member A F
+  pub with-here : (A : ℕ) → A < most-sets → member A (familyAt (withFamily bytes part F) part) ≡ member A F
   unfolding holdsAt
   with-here A h = rw (member-at (withFamily bytes part F) part A h, with-in (A / 8) (omega arith)) (family-bit F A h)
 
 -- ---- laws of writing a part
 
 -- only membership counts
-pub with-same : (bytes : List ℕ) (part : ℕ) (F G : Family) → ((A : ℕ) → A < 1024 → member A F ≡ member A G)
+pub with-same : (bytes : List ℕ) (part : ℕ) (F G : Family) → ((A : ℕ) → A < most-sets → member A F ≡ member A G)
     → withFamily bytes part F ≡ withFamily bytes part G
 unfolding withFamily
 with-same bytes part F G h = rw (family-same F G h)
@@ -157,7 +157,7 @@ pub with-there : (bytes : List ℕ) (part other : ℕ) (F : Family) → HasPart 
     → familyAt (withFamily bytes part F) other ≡ familyAt bytes other
 unfolding holdsAt familyAt
 with-there bytes part other F has ne =
-    sets-same (withFamily bytes part F) bytes other 1024
+    sets-same (withFamily bytes part F) bytes other most-sets
     (λ A h.
     ap (λ (b : ℕ). odd (b / 2 ^ (A % 8)))
     (with-out bytes part F has (128 * other + A / 8) (apart (A / 8) (lt-or-le other part) (omega arith))))
@@ -171,7 +171,7 @@ with-there bytes part other F has ne =
 pub written : (before after : List ℕ) (part : ℕ) (F : Family) → HasPart before part → length after ≡ length before
     → ((j : ℕ) → Outside part j → getD after j 0 ≡ getD before j 0)
     → ((j : ℕ) → j < 128 → getD after (128 * part + j) 0 < 256)
-    → ((A : ℕ) → A < 1024 → holdsAt after part A ≡ member A F)
+    → ((A : ℕ) → A < most-sets → holdsAt after part A ≡ member A F)
     → after ≡ withFamily before part F
 unfolding holdsAt
 written before after part F has len out byte bit =

@@ -8,7 +8,7 @@ use native.Mathlib.Omega.{arith}
 use lib.Dec.{T}
 use lib.ListN.{length, getD, List·getD-append}
 use Rattle.rules.specs.Lists.{member}
-use Rattle.rules.specs.Records.{Netlist, WellFormed, odd}
+use Rattle.rules.specs.Records.{Netlist, WellFormed, odd, most-sets}
 use Rattle.rules.specs.Families.{Family, Families, constant, families, familiesAt}
 use Rattle.rules.specs.Slices.{workBytes}
 use Rattle.rules.proofs.Tests.{same-test, lt-or-le}
@@ -26,10 +26,10 @@ pub record Alike (F G : Family) : Type 0 where
 
 -- families of sets of ten variables
 abbrev Small : Family → Type 0
-Small = All (λ A. A < 1024)
+Small = All (λ A. A < most-sets)
 
 -- a part whose bits are those of such a family
-part-alike : (bytes : List ℕ) (part : ℕ) (F : Family) → ((A : ℕ) → A < 1024 → holdsAt bytes part A ≡ member A F) → Small F
+part-alike : (bytes : List ℕ) (part : ℕ) (F : Family) → ((A : ℕ) → A < most-sets → holdsAt bytes part A ≡ member A F) → Small F
     → Alike (familyAt bytes part) F
 part-alike bytes part F bit small = record {
   same = λ A.
@@ -37,7 +37,7 @@ part-alike bytes part F bit small = record {
       (λ l.
       same-test (member A (familyAt bytes part)) (member A F) (λ t. absurd (omega (arith, below-at bytes part A t)))
       (λ t. absurd (omega (arith, small A t))))
-      (lt-or-le A 1024);
+      (lt-or-le A most-sets);
 }
 
 -- as many sets, where the family names each once
@@ -49,7 +49,7 @@ part-size bytes part F t h = same-length (familyAt bytes part) F (once-at bytes 
 module _ (Fs : List Families) (rest : List ℕ) where
   -- a part that starts at byte k of them
   front-alike : (part k : ℕ) (F : Family) → 128 * part ≡ k → k + 128 ≤ 256 * length Fs
-      → ((A : ℕ) → A < 1024 → odd (getD (workBytes Fs) (k + A / 8) 0 / 2 ^ (A % 8)) ≡ member A F) → Small F
+      → ((A : ℕ) → A < most-sets → odd (getD (workBytes Fs) (k + A / 8) 0 / 2 ^ (A % 8)) ≡ member A F) → Small F
       → Alike (familyAt (workBytes Fs ++ rest) part) F
   unfolding holdsAt
   front-alike part k F e fits bit small =

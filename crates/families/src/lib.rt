@@ -12,11 +12,12 @@ ghost use Rattle.rules.specs.Lists.{digit, member, insert, union};
 ghost use Rattle.rules.specs.Records.{odd, most-sets};
 ghost use Rattle.rules.specs.Families.{product, spread};
 ghost use Rattle.families.specs.Parts.{HasPart, familyAt, withFamily};
+use rules::MOST_VARIABLES;
 
-// How many sets ten variables have, and how many bytes hold a bit for each.
-pub const SETS: usize = 1024;
+// How many sets so many variables have, and how many bytes hold a bit for each.
+pub const SETS: usize = 1 << MOST_VARIABLES;
 
-const PART: usize = 128;
+const PART: usize = SETS / 8;
 
 // Whether a part holds a set.
 pub fn holds(work: &[u8], part: usize, set: usize) -> bool

@@ -11,7 +11,7 @@ use lib.Dec.{T, eqb}
 use lib.ListN.{getD}
 use Rattle.rules.specs.declared.Node.{Node}
 use Rattle.rules.specs.Lists.{member, insert}
-use Rattle.rules.specs.Records.{Cell, input, NOT, XOR, AND, OR, register, kindOf, operands, setOf}
+use Rattle.rules.specs.Records.{Cell, input, NOT, XOR, AND, OR, register, kindOf, operands, setOf, most-sets}
 use Rattle.rules.specs.Families.{Family, product, spread, Families, constant, settledRule, glitchRule}
 use Rattle.rules.specs.Slices.{entry}
 use Rattle.rules.proofs.Lists.{member-head, member-tail}
@@ -60,7 +60,7 @@ has-second (OR a b) h = member-tail b a (b ∷ []) (member-head b [])
 has-second (register a) h = absurd (h .register refl)
 
 module _ {i : ℕ} {node : Node} (p : Placed i node) where
-  pub placed-set : node .set < 1024
+  pub placed-set : node .set < most-sets
   unfolding entry
   placed-set = rw (p .is) (p .small)
 

@@ -3,7 +3,7 @@
 ghost use mathlib.Core.Path.{_≡_};
 ghost use mathlib.Core.List.{List, [], _∷_, _++_};
 ghost use Prim.Native.Nat.{ℕ, _+_, _*_, _<_, _≤_};
-ghost use lib.ListN.{length, take, drop};
+ghost use lib.ListN.{length};
 ghost use Rattle.rules.specs.Records as Records;
 ghost use Rattle.rules.specs.Records.{Cell, kindOf, most-variables, most-nodes, most-sets};
 ghost use Rattle.rules.specs.Families.{families, findings};
@@ -21,7 +21,7 @@ use rules::Refusal;
 use rules::Reply;
 
 // How many bytes have room for every listing: 203 lines of at most 18 bytes, or one refusal.
-pub const MOST_TEXT: usize = 3654;
+pub const MOST_TEXT: usize = 18 * (MOST_NODES + 3);
 
 // ---- words and numbers
 
@@ -209,18 +209,6 @@ fn put_listing(text: &mut [u8], bytes: &[u8]) -> usize
     }
 }
 
-// Copies the first bytes of a slice to the front of another.
-fn copy_front(text: &mut [u8], from: &[u8], count: usize)
-    requires { ⌜ (count ≤ length (now text)) × (count ≤ length (now from)) ⌝ }
-    ensures { λ _. ⌜ now (text .exit) ≡ take count (now (from .entry)) ++ drop count (now (text .entry)) ⌝ }
-{
-    let mut k = 0;
-    while k < count {
-        text[k] = from[k];
-        k += 1;
-    }
-}
-
 // The listing of netlist bytes: checks them and writes the listing's text to the front of `text`. Returns how many bytes
 // the text has; a slice that is too short for it keeps its contents. `MOST_TEXT` bytes are enough for every listing.
 #[no_mangle]
@@ -232,7 +220,7 @@ pub extern "C" fn telgouin_listing(bytes: &[u8], text: &mut [u8]) -> usize
     let mut whole = [0u8; MOST_TEXT];
     let count = put_listing(&mut whole, bytes);
     if count <= text.len() {
-        copy_front(text, &whole, count);
+        bytes::copy(&whole[..count], text);
     }
     count
 }

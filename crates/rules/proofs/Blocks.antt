@@ -1,6 +1,6 @@
 -- The table P1 to P14, and blocks that show the mistakes which document 01 does not forgive: the reply to each, which antt computes from the
 -- rules. Assumes nothing.
-use Prim.Native.Nat.{ℕ, _*_}
+use Prim.Native.Nat.{ℕ}
 use mathlib.Core.Path.{_≡_, refl}
 use mathlib.Core.List.{List, [], _∷_}
 use Rattle.rules.specs.Lists.{member, insert, union, count}
@@ -8,7 +8,7 @@ use Rattle.rules.specs.Tables.{table}
 use Rattle.rules.specs.Records.{most-nodes, classOf, said, size, recordBytes, kindOf, body, classByte, operands, setOf}
 use Rattle.rules.specs.Values.{same}
 use Rattle.rules.specs.Families.{product, spread, settledRule, glitchRule, familiesRule, families, holds, suspect, tested, better, reported, mark, marks, lowest, half, findings, Findings, clear, suspectAt}
-use Rattle.rules.specs.Checks.{andThen, judged, overLimit, undeclared, undeclaredSet, notBelow, badOperand, judgedRecord, recordAt, taken, step, after, outcomeOf, read, slicesFit, admitted, Outcome}
+use Rattle.rules.specs.Checks.{andThen, judged, overLimit, undeclared, undeclaredSet, notBelow, badOperand, judgedRecord, recordAt, taken, step, after, outcomeOf, read, slicesFit, most-work, admitted, Outcome}
 use Rattle.rules.specs.Slices.{reply}
 use Rattle.rules.proofs.Each.{Each}
 use Rattle.rules.specs.Blocks.{Block, answers, blocks, P1, P2, P3, P4, P5, P6, P7, P8, P9, P10, P11, P12, P13, P13-NOT, P14, P14-without}
@@ -18,7 +18,7 @@ unfoldable pub replyTo : List ℕ → Outcome Findings
 unfolding member insert union count table classOf said size recordBytes kindOf body classByte operands setOf same product spread settledRule
     glitchRule familiesRule families holds suspect tested better reported mark marks lowest half findings andThen judged overLimit
     undeclared undeclaredSet notBelow badOperand judgedRecord recordAt taken step after outcomeOf read slicesFit admitted reply
-replyTo bytes = reply bytes most-nodes (256 * most-nodes)
+replyTo bytes = reply bytes most-nodes most-work
 
 -- the reply to a block is the expected one
 abbrev pub Right : Block → Type 0

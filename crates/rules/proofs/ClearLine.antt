@@ -1,6 +1,6 @@
 -- What the listing's last line means: it reads `glitch clear` exactly when the checker answers clear for glitching signals. Else the listing
 -- ends in a number, so its last byte before the line feed is a digit, which that of `clear` is not. Assumes nothing.
-use Prim.Native.Nat.{ℕ, _+_, _-_, _*_, _/_, _%_, _≤_, _<_}
+use Prim.Native.Nat.{ℕ, _+_, _-_, _/_, _%_, _≤_, _<_}
 use mathlib.Core.Path.{_≡_, refl, sym, ap, _∙_}
 use mathlib.Core.Logic.{_⊎_, inl, inr, _↔_}
 use mathlib.Core.List.{List, [], _∷_, _++_, append-assoc}
@@ -10,7 +10,7 @@ use lib.ListN.{length, getD, length-append}
 use lib.Seq.{append-snoc, getD-at}
 use Rattle.rules.specs.Records.{Netlist, most-nodes}
 use Rattle.rules.specs.Families.{families, Finding, clear, suspectAt, findings}
-use Rattle.rules.specs.Checks.{Outcome, answered, refused, andThen, read}
+use Rattle.rules.specs.Checks.{Outcome, answered, refused, andThen, read, most-work}
 use Rattle.rules.specs.Slices.{reply}
 use Rattle.rules.specs.Listing.{word, decimal, line, nodeLines, halfLine, netlistText, textOf, listing}
 use Rattle.rules.specs.Demands.{GlitchClear, OneProbe, EndsClear}
@@ -107,28 +107,28 @@ text-said (answered n) c =
     let (front, e) = half-feeds (word "settled") (findings n .settled) in
     (above n ++ front, rw (c, e) (simp append-assoc))
 
--- slices of 200 entries and 51,200 bytes refuse no netlist
-reply-read : (bytes : List ℕ) → reply bytes most-nodes (256 * most-nodes) ≡ andThen (read bytes) (λ n. answered (findings n))
+-- slices of so many entries and bytes refuse no netlist
+reply-read : (bytes : List ℕ) → reply bytes most-nodes most-work ≡ andThen (read bytes) (λ n. answered (findings n))
 unfolding reply
-reply-read bytes = rw (admitted-all bytes most-nodes (256 * most-nodes) (le-refl _) (le-refl _))
+reply-read bytes = rw (admitted-all bytes most-nodes most-work (le-refl _) (le-refl _))
 
 -- Where the listing ends in the line `glitch clear` the checker answers clear for glitching signals,
 clear-line-says : (bytes text : List ℕ) → listing bytes ≡ text ++ line (word "glitch" ∷ word "clear" ∷ [])
-    → GlitchClear (reply bytes most-nodes (256 * most-nodes))
+    → GlitchClear (reply bytes most-nodes most-work)
 unfolding listing
 clear-line-says bytes text e = rw (reply-read bytes) (text-says (read bytes) text e)
 
 -- and where the checker answers so that is the listing's last line.
-clear-line-said : (bytes : List ℕ) → GlitchClear (reply bytes most-nodes (256 * most-nodes)) → EndsClear bytes
+clear-line-said : (bytes : List ℕ) → GlitchClear (reply bytes most-nodes most-work) → EndsClear bytes
 unfolding listing
 clear-line-said bytes c =
     let (before, e) = text-said (read bytes) (rw (reply-read bytes) at c) in
     record { before = before; ends = e }
 
-pub clear-line : (bytes : List ℕ) → EndsClear bytes ↔ GlitchClear (reply bytes most-nodes (256 * most-nodes))
+pub clear-line : (bytes : List ℕ) → EndsClear bytes ↔ GlitchClear (reply bytes most-nodes most-work)
 clear-line bytes =
     (λ s. clear-line-says bytes (s .before ++ (10 ∷ [])) (s .ends ∙ sym (append-snoc (s .before) 10 _)), clear-line-said bytes)
 
 -- So where the listing's last line reads `glitch clear`, one probe on any gate or register learns nothing of the secrets.
 pub clear-line-probe : (bytes : List ℕ) → EndsClear bytes → OneProbe bytes
-clear-line-probe bytes s = one-probe bytes most-nodes (256 * most-nodes) (clear-line bytes .0 s)
+clear-line-probe bytes s = one-probe bytes most-nodes most-work (clear-line bytes .0 s)

@@ -138,6 +138,10 @@ slicesFit entries work n =
     ∷ [])
     n
 
+-- so many work bytes hold the families of every netlist
+abbrev pub most-work : ℕ
+most-work = 256 * most-nodes
+
 -- the netlist that is checked, or the refusal
 unfoldable pub admitted : List ℕ → (entries work : ℕ) → Outcome Netlist
 admitted bytes entries work = andThen (read bytes) (slicesFit entries work)

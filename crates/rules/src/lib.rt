@@ -9,7 +9,7 @@ pub const MOST_VARIABLES: usize = 10;
 pub const MOST_NODES: usize = 200;
 
 // How many work bytes hold the families of every netlist, 256 a node.
-pub const MOST_WORK: usize = 51200;
+pub const MOST_WORK: usize = 256 * MOST_NODES;
 
 // A node record: the kind, the first and second operand (0 where the kind has none) and an input's
 // set (0 for every other kind).

@@ -13,7 +13,7 @@ use borrow.Author.Tests.{eqb-true, eqb-false}
 use lib.Dec.{T, eqb}
 use lib.ListN.{length, getD, length-map, List·getD-map, List·getD-eq-default}
 use Rattle.rules.specs.Lists.{member, tabulate}
-use Rattle.rules.specs.Records.{Class, Cell, input, NOT, XOR, AND, OR, register, kindOf, Netlist, WellFormed}
+use Rattle.rules.specs.Records.{Class, Cell, input, NOT, XOR, AND, OR, register, kindOf, Netlist, WellFormed, most-sets}
 use Rattle.rules.specs.Families.{Family, Families, constant, families, familiesAt, suspect, tested, reported, clear, suspectAt, mark, marks, lowest, half}
 use Rattle.rules.specs.Slices.{workBytes}
 use Rattle.rules.proofs.Tests.{pass, lt-or-le}
@@ -56,7 +56,7 @@ suspectIn n layer bytes i A = suspect (n .variables) A && member A (familyAt byt
 
 -- the sets below A are looked at, and none is suspect; all of them, where the node is not tested
 pub record Searched (n : Netlist) (layer : ℕ) (bytes : List ℕ) (i A : ℕ) : Type 0 where
-  pub isTested : A < 1024 → T (tested (getD (n .nodes) i (input 0)))
+  pub isTested : A < most-sets → T (tested (getD (n .nodes) i (input 0)))
   pub before : (B : ℕ) → B < A → T (tested (getD (n .nodes) i (input 0))) → suspectIn n layer bytes i B ≡ false
 
 -- kind 2 is not tested, and every other is
@@ -73,7 +73,7 @@ module _ (n : Netlist) (layer : ℕ) (bytes : List ℕ) (i : ℕ) where
   cell : Cell
   cell = getD (n .nodes) i (input 0)
 
-  pub search-start : (A : ℕ) → (kindOf (getD (n .nodes) i (input 0)) ≡ 2 → A ≡ 1024) → ((kindOf (getD (n .nodes) i (input 0)) ≡ 2 → ⊥) → A ≡ 0)
+  pub search-start : (A : ℕ) → (kindOf (getD (n .nodes) i (input 0)) ≡ 2 → A ≡ most-sets) → ((kindOf (getD (n .nodes) i (input 0)) ≡ 2 → ⊥) → A ≡ 0)
       → Searched n layer bytes i A
   unfolding cell
   search-start A last first = go (tested cell) refl
@@ -83,7 +83,7 @@ module _ (n : Netlist) (layer : ℕ) (bytes : List ℕ) (i : ℕ) where
           let start : A ≡ 0 = first (eqb-false (kindOf cell) 2 (tested-kind cell ∙ ap not e)) in
           record { isTested = λ l. pass e; before = λ B l t. absurd (omega arith) }
       go false e =
-          let end : A ≡ 1024 = last (eqb-true (kindOf cell) 2 (tested-kind cell ∙ ap not e)) in
+          let end : A ≡ most-sets = last (eqb-true (kindOf cell) 2 (tested-kind cell ∙ ap not e)) in
           record { isTested = λ l. absurd (omega arith); before = λ B l t. absurd (rw e at t) }
 
   pub search-more : (A : ℕ) → Searched n layer bytes i A → suspectIn n layer bytes i A ≡ false → Searched n layer bytes i (A + 1)
@@ -92,7 +92,7 @@ module _ (n : Netlist) (layer : ℕ) (bytes : List ℕ) (i : ℕ) where
     before = λ B l t. below-more (λ B. suspectIn n layer bytes i B ≡ false) A (λ C m. s .before C m t) here B l;
   }
 
-  pub search-none : (A : ℕ) → 1024 ≤ A → Searched n layer bytes i A → reports n layer bytes i ≡ none
+  pub search-none : (A : ℕ) → most-sets ≤ A → Searched n layer bytes i A → reports n layer bytes i ≡ none
   unfolding reports mark cell
   search-none A h s = go (tested cell) refl
     where
@@ -102,7 +102,7 @@ module _ (n : Netlist) (layer : ℕ) (bytes : List ℕ) (i : ℕ) where
           (λ B m. s .before B (lt-of-lt-of-le (below-at bytes (2 * i + layer) B m) h) (pass e))
       go false e = refl
 
-  pub search-some : (A : ℕ) → A < 1024 → Searched n layer bytes i A → suspectIn n layer bytes i A ≡ true → reports n layer bytes i ≡ some A
+  pub search-some : (A : ℕ) → A < most-sets → Searched n layer bytes i A → suspectIn n layer bytes i A ≡ true → reports n layer bytes i ≡ some A
   unfolding reports mark cell
   search-some A h s here = go (tested cell) refl
     where

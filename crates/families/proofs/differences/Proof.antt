@@ -9,6 +9,7 @@ use native.Mathlib.Omega.{arith}
 use borrow.Author.Needs.{needs}
 use lib.Bits.{bitOr, bitXor, or-lt, xor-lt, xor-comm, xor-block}
 use lib.ListN.{getD}
+use Rattle.rules.specs.Records.{most-sets}
 use Rattle.rules.specs.Lists.{member, union}
 use Rattle.rules.specs.Families.{Family}
 use Rattle.rules.proofs.Lists.{member-union, member-shift}
@@ -29,11 +30,11 @@ difference j k set h =
     let there : set / 8 * 8 + set % 8 ≡ set = omega arith in
     rw (xor-comm set (8 * j + k)) (omega (arith, rw (here, there) at (xor-block 3 j (set / 8) k (set % 8) h (omega arith))))
 
-byte-below : (j set : ℕ) → j < 128 → set < 1024 → bitXor j (set / 8) < 128
+byte-below : (j set : ℕ) → j < 128 → set < most-sets → bitXor j (set / 8) < 128
 byte-below j set h hs = xor-lt 7 j (set / 8) h (omega arith)
 
 -- what a turn writes is a byte of that family
-turn : (before work : List ℕ) (into from set j : ℕ) → from < into → set < 1024 → j < 128
+turn : (before work : List ℕ) (into from set j : ℕ) → from < into → set < most-sets → j < 128
     → Filled before into (joined before into from set) j work → (byte : ℕ) → byte < 256
     → Turned (getD work (128 * from + bitXor j (set / 8)) 0) (set % 8) byte → getD work (128 * into + j) 0 < 256
     → ByteOf (joined before into from set) j (bitOr (getD work (128 * into + j) 0) byte)

@@ -13,7 +13,7 @@ use lib.Dec.{eqb, eqb→eq}
 use lib.ListN.{getD, set, length-set}
 use lib.Seq.{getD-set-same, getD-set-other}
 use Rattle.rules.specs.Lists.{insert}
-use Rattle.rules.specs.Records.{odd}
+use Rattle.rules.specs.Records.{odd, most-sets}
 use Rattle.rules.proofs.Tests.{same-test, pass}
 use Rattle.rules.proofs.Lists.{member-insert}
 use Rattle.families.specs.Parts.{HasPart, familyAt, withFamily}
@@ -40,7 +40,7 @@ same-length : tie.Need-same-length
 same-length c = search needs
 
 -- bit A mod 8 set in byte A / 8
-one-more : (work : List ℕ) (part A byte : ℕ) → HasPart work part → A < 1024 → ((i : ℕ) → getD work i 0 < 256) → byte < 256
+one-more : (work : List ℕ) (part A byte : ℕ) → HasPart work part → A < most-sets → ((i : ℕ) → getD work i 0 < 256) → byte < 256
     → ((k : ℕ) → k < 8 → odd (byte / 2 ^ k) ≡ (eqb k (A % 8) || odd (getD work (128 * part + A / 8) 0 / 2 ^ k)))
     → set work (128 * part + A / 8) byte ≡ withFamily work part (insert A (familyAt work part))
 one-more work part A byte has l bytes b bits =

@@ -9,6 +9,7 @@ use native.Mathlib.Omega.{arith}
 use denote.Ref.{now}
 use lib.Bits.{bitXor}
 use lib.ListN.{length}
+use Rattle.rules.specs.Records.{most-sets}
 use Rattle.rules.specs.Lists.{member, union}
 use Rattle.rules.specs.Families.{Family, product}
 use Rattle.families.specs.Parts.{HasPart, holdsAt, setsBelow, familyAt, withFamily}
@@ -22,10 +23,10 @@ partial work into first second k = withFamily work into (product (setsBelow work
 
 abbrev Inv-loop : tie.InvT-loop
 Inv-loop work₀ into first second set₀ work set =
-    (set ≤ 1024) × HasPart work₀ into × (length work ≡ length work₀) × (work ≡ partial work₀ into first second set)
+    (set ≤ most-sets) × HasPart work₀ into × (length work ≡ length work₀) × (work ≡ partial work₀ into first second set)
 
 abbrev μ-loop : tie.MeasureT-loop
-μ-loop work₀ into first second set₀ work set = 1024 - set
+μ-loop work₀ into first second set₀ work set = most-sets - set
 
 -- a part that was emptied has the product of no sets
 begins : (work emptied : List ℕ) (into first second : ℕ) → HasPart work into → emptied ≡ withFamily work into []
@@ -34,7 +35,7 @@ unfolding setsBelow product
 begins work emptied into first second has e = rw e (sym (with-twice work into [] [] has))
 
 -- a turn takes the product one set on
-turns : (start work next : List ℕ) (into first second A : ℕ) → HasPart start into → first < into → second < into → A < 1024
+turns : (start work next : List ℕ) (into first second A : ℕ) → HasPart start into → first < into → second < into → A < most-sets
     → work ≡ partial start into first second A
     → next ≡ cond (member A (familyAt work first)) (withFamily work into (union (map (bitXor A) (familyAt work second)) (familyAt work into))) work
     → next ≡ partial start into first second (A + 1)
@@ -59,12 +60,12 @@ turns start work next into first second A has f s l e n =
     by-case true = with-more start into (product rest G) (map (bitXor A) G) has
     by-case false = refl
 
-all-sets : (bytes : List ℕ) (part k : ℕ) → k ≡ 1024 → setsBelow bytes part k ≡ familyAt bytes part
+all-sets : (bytes : List ℕ) (part k : ℕ) → k ≡ most-sets → setsBelow bytes part k ≡ familyAt bytes part
 unfolding familyAt
 all-sets bytes part k e = ap (setsBelow bytes part) e
 
 -- after the last turn all sets were taken, and the lower parts are as they were before the part was emptied
-ends : (work emptied after : List ℕ) (into first second k : ℕ) → HasPart work into → first < into → second < into → k ≡ 1024
+ends : (work emptied after : List ℕ) (into first second k : ℕ) → HasPart work into → first < into → second < into → k ≡ most-sets
     → emptied ≡ withFamily work into [] → after ≡ partial emptied into first second k
     → after ≡ withFamily work into (product (familyAt work first) (familyAt work second))
 ends work emptied after into first second k has f s last e a =

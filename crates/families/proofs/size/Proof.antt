@@ -7,6 +7,7 @@ use mathlib.Core.List.{List, _∷_}
 use native.Mathlib.Numerals.{add-one}
 use native.Mathlib.Omega.{arith}
 use lib.ListN.{length}
+use Rattle.rules.specs.Records.{most-sets}
 use Rattle.rules.specs.Lists.{digit}
 use Rattle.rules.specs.Families.{Family}
 use Rattle.rules.proofs.Lists.{digit-small}
@@ -28,10 +29,10 @@ one-more bytes part k = rw (add-one k) (go (holdsAt bytes part k))
     go false = omega arith
 
 abbrev Inv-loop : tie.InvT-loop
-Inv-loop work part sets₀ set₀ sets set = (set ≤ 1024) × (sets ≤ set) × (sets ≡ length (setsBelow work part set))
+Inv-loop work part sets₀ set₀ sets set = (set ≤ most-sets) × (sets ≤ set) × (sets ≡ length (setsBelow work part set))
 
 abbrev μ-loop : tie.MeasureT-loop
-μ-loop work part sets₀ set₀ sets set = 1024 - set
+μ-loop work part sets₀ set₀ sets set = most-sets - set
 
 -- what a turn adds
 counted : (c : tie.After-one-if Inv-loop μ-loop)
@@ -67,7 +68,7 @@ loop-again c =
 returns : tie.Need-returns Inv-loop μ-loop
 unfolding familyAt
 returns c =
-    let all : c .before .loop .set ≡ 1024 = omega arith in
+    let all : c .before .loop .set ≡ most-sets = omega arith in
     rw all at (c .before .loop .inv .2)
 
 pub size-spec : {M : Type 1} → statement M

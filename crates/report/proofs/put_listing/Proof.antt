@@ -1,4 +1,4 @@
--- `report::put_listing` meets its contract: 51,200 work bytes and 200 entries have room for every netlist, so what is examined is what is read,
+-- `report::put_listing` meets its contract: `most-work` bytes and `most-nodes` entries have room for every netlist, so what is examined is what is read,
 -- and the work bytes hold its families. Assumes nothing.
 use Prim.Native.Nat.{ℕ, _*_, _≤_, _<_}
 use mathlib.Core.Path.{_≡_, refl, sym, ap, _∙_}
@@ -13,9 +13,9 @@ use Rattle.rules.specs.declared.Answer.{Answer}
 use Rattle.rules.specs.declared.Refusal.{Refusal}
 use Rattle.rules.specs.declared.Reply.{Reply}
 use Rattle.rules.specs.declared.Reply.the-variants.{Refused, Answered}
-use Rattle.rules.specs.Records.{Netlist, WellFormed}
+use Rattle.rules.specs.Records.{Netlist, WellFormed, most-variables, most-nodes, most-sets}
 use Rattle.rules.specs.Families.{families, Finding, suspectAt, Findings, findings}
-use Rattle.rules.specs.Checks.{Outcome, answered, refused, andThen, read, admitted}
+use Rattle.rules.specs.Checks.{Outcome, answered, refused, andThen, read, admitted, most-work}
 use Rattle.rules.specs.Slices.{workBytes, filled, workAfter, reply}
 use Rattle.rules.specs.Listing.{word, decimal, line, netlistText, textOf, listing}
 use Rattle.rules.specs.Paper.{numberOf, placeOf, findingOf, findingsOf, replyOf}
@@ -33,12 +33,12 @@ use Rattle.report.proofs.Text.{appended-as}
 use Rattle.report.proofs.put_listing.Statement.{statement}
 use Rattle.report.proofs.put_listing.Tie as tie
 
--- 51,200 work bytes: nothing that is read is refused
-module _ (bytes : List ℕ) (work : ℕ) (enough : work ≡ 51200) where
-  all-admitted : admitted bytes 200 work ≡ read bytes
-  all-admitted = admitted-all bytes 200 work (omega arith) (omega arith)
+-- so many work bytes: nothing that is read is refused
+module _ (bytes : List ℕ) (work : ℕ) (enough : work ≡ most-work) where
+  all-admitted : admitted bytes most-nodes work ≡ read bytes
+  all-admitted = admitted-all bytes most-nodes work (omega arith) (omega arith)
 
-  refused-text : {said : Reply} {r : Refusal} → said ≡ Refused r → replyOf said ≡ reply bytes 200 work
+  refused-text : {said : Reply} {r : Refusal} → said ≡ Refused r → replyOf said ≡ reply bytes most-nodes work
       → line (word "refused" ∷ decimal (numberOf r) ∷ decimal (placeOf r) ∷ []) ≡ listing bytes
   unfolding reply listing andThen textOf
   refused-text {said} {r} is e = go (read bytes) (rw (is, all-admitted) at e)
@@ -56,9 +56,9 @@ record Checked (bytes : List ℕ) (answer : Answer) (value : Value.Netlist) (bef
   found : findingsOf answer ≡ findings netlist
   is-work : after ≡ workBytes (families netlist) ++ drop (length (workBytes (families netlist))) before
 
-checked : (bytes before : List ℕ) → length before ≡ 51200 → {said : Reply} {answer : Answer} {value : Value.Netlist} {after : List ℕ}
-    → said ≡ Answered answer → replyOf said ≡ reply bytes 200 (length before) → value ≡ flatOf (kept (admitted bytes 200 (length before)))
-    → after ≡ workAfter bytes 200 before → Checked bytes answer value before after
+checked : (bytes before : List ℕ) → length before ≡ most-work → {said : Reply} {answer : Answer} {value : Value.Netlist} {after : List ℕ}
+    → said ≡ Answered answer → replyOf said ≡ reply bytes most-nodes (length before) → value ≡ flatOf (kept (admitted bytes most-nodes (length before)))
+    → after ≡ workAfter bytes most-nodes before → Checked bytes answer value before after
 unfolding reply workAfter andThen kept filled
 checked bytes before enough {said} {answer} {value} {after} is r t w =
     let admits = all-admitted bytes (length before) enough in
@@ -72,9 +72,9 @@ checked bytes before enough {said} {answer} {value} {after} is r t w =
 
 -- ---- what is then known of the netlist
 
--- a half names one of at most 200 nodes, and a set of ten variables
-short : (half : Half) (found : Finding) (nodes : ℕ) → nodes ≤ 200 → findingOf half ≡ found
-    → ((i A : ℕ) → found ≡ suspectAt i A → (i < nodes) × (A < 1024)) → Short half
+-- a half names one of the nodes, and a set of the variables, that there may be
+short : (half : Half) (found : Finding) (nodes : ℕ) → nodes ≤ most-nodes → findingOf half ≡ found
+    → ((i A : ℕ) → found ≡ suspectAt i A → (i < nodes) × (A < most-sets)) → Short half
 unfolding Short
 short Clear found nodes few e names = tt
 short (Suspect i A) found nodes few e names = let (node, set) = names i A (sym e) in (omega arith, set)
@@ -92,7 +92,7 @@ module _ {bytes : List ℕ} {answer : Answer} {value : Value.Netlist} {before af
       let size = ap length (c .is-work) ∙ length-append (workBytes Fs) (drop (length (workBytes Fs)) before) in
       omega (arith, size, work-length Fs, families-length (c .netlist), value-count (c .netlist) (c .is-value))
 
-  counts : (answer .variables ≤ 10) × (answer .nodes ≤ 200)
+  counts : (answer .variables ≤ most-variables) × (answer .nodes ≤ most-nodes)
   unfolding findings
   counts = (
     rw (ap (λ (f : Findings). f .variables) (c .found)) (obeys .few-variables),
@@ -112,10 +112,10 @@ module _ {bytes : List ℕ} {answer : Answer} {value : Value.Netlist} {before af
 -- where the reply is an answer, what was examined is such a netlist
 checks-at : (c : tie.After-reply2)
     → Checked (now (c .before .before .before .before .before .before .before .before .args .bytes)) (c .reply2 .given .0 .0)
-    (c .before .before .before .before .examine .result .netlist) (replicate 51200 0) (c .before .before .before .before .examine .last .1 .1 .0)
+    (c .before .before .before .before .examine .result .netlist) (replicate most-work 0) (c .before .before .before .before .examine .last .1 .1 .0)
 checks-at c =
     let promised = c .before .before .before .before .examine .ensures in
-    checked _ _ (length-replicate {A = ℕ} 51200 0) (c .reply2 .given .1) (promised .0) (promised .1 .0) (promised .1 .1 .0)
+    checked _ _ (length-replicate {A = ℕ} most-work 0) (c .reply2 .given .1) (promised .0) (promised .1 .0) (promised .1 .1 .0)
 
 slice-aggregate-examine : tie.Need-slice-aggregate-examine
 slice-aggregate-examine c = search needs
@@ -147,7 +147,7 @@ returns : tie.Need-returns
 returns c =
     let told = c .before .before .before .before .before in
     let promised = told .before .before .before .before .examine .ensures in
-    appended-as (refused-text _ _ (length-replicate {A = ℕ} 51200 0) (told .reply .given .1) (promised .0)) (c .before .before .put-refusal .ensures)
+    appended-as (refused-text _ _ (length-replicate {A = ℕ} most-work 0) (told .reply .given .1) (promised .0)) (c .before .before .put-refusal .ensures)
 
 same-length-2 : tie.Need-same-length-2
 same-length-2 c = search needs

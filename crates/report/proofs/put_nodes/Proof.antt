@@ -7,10 +7,10 @@ use native.Mathlib.Omega.{arith}
 use borrow.Author.Needs.{needs}
 use lib.ListN.{length, getD}
 use Rattle.rules.specs.declared.Node.{Node}
-use Rattle.rules.specs.Records.{input, Netlist, kindOf}
+use Rattle.rules.specs.Records.{input, Netlist, kindOf, most-nodes, most-sets}
 use Rattle.rules.specs.Families.{families}
 use Rattle.rules.specs.Slices.{entry, workBytes}
-use Rattle.rules.specs.Listing.{decimal, line, kindName, nodeLines}
+use Rattle.rules.specs.Listing.{decimal, line, kindName, nodeLines, most-line}
 use Rattle.rules.proofs.Listing.{firstLines, first-none, first-more, first-all}
 use Rattle.records.specs.declared.Netlist as Value
 use Rattle.records.specs.Netlists.{blank, flatOf, Formed}
@@ -46,7 +46,7 @@ abbrev Inv-loop : tie.InvT-loop
 Inv-loop text₀ at work netlist count end₀ i₀ text end i =
     (i ≤ count)
     × (length text ≡ length text₀)
-    × (end ≤ at + 18 * i)
+    × (end ≤ at + most-line * i)
     × ((n : Netlist) (rest : List ℕ) → netlist ≡ flatOf n → work ≡ workBytes (families n) ++ rest → Appended text₀ text at end (firstLines n i))
 
 abbrev μ-loop : tie.MeasureT-loop
@@ -56,7 +56,7 @@ abbrev μ-loop : tie.MeasureT-loop
 abbrev start : tie.At-loop Inv-loop μ-loop → tie.Start Inv-loop μ-loop
 start c = c .before .before .before
 
-few : (c : tie.Start Inv-loop μ-loop) → c .args .t3 .count ≤ 200
+few : (c : tie.Start Inv-loop μ-loop) → c .args .t3 .count ≤ most-nodes
 few c = few-nodes (c .pre .1)
 
 loop-holds : tie.Need-loop-holds Inv-loop μ-loop
@@ -84,7 +84,7 @@ size-requires-2 : tie.Need-size-requires-2 Inv-loop μ-loop
 size-requires-2 c κs = omega arith
 
 -- a part has at most 1,024 sets, and so has what is answered of its size
-few-sets : (work : List ℕ) (part : ℕ) {size : ℕ} → size ≡ length (familyAt work part) → size ≤ 1024
+few-sets : (work : List ℕ) (part : ℕ) {size : ℕ} → size ≡ length (familyAt work part) → size ≤ most-sets
 few-sets work part e = rw e (length-at work part)
 
 put-node-requires : tie.Need-put-node-requires Inv-loop μ-loop

@@ -3,6 +3,7 @@ use Prim.Native.Nat.{_^_, _≤_}
 use native.Mathlib.Omega.{arith}
 use borrow.Author.Needs.{needs}
 use lib.Pow.{pow-mono}
+use Rattle.rules.specs.Records.{most-variables}
 use Rattle.scan.proofs.bit_if.Statement.{statement}
 use Rattle.scan.proofs.bit_if.Tie as tie
 
@@ -11,7 +12,7 @@ shl-result c = search needs
 
 returns : tie.Need-returns
 returns c =
-    let small : 2 ^ c .before .args .v ≤ 2 ^ 10 = pow-mono {j = 10} (omega arith) in
+    let small : 2 ^ c .before .args .v ≤ 2 ^ most-variables = pow-mono {j = most-variables} (omega arith) in
     rw (c .if1 .taken) (omega arith)
 
 returns-2 : tie.Need-returns-2

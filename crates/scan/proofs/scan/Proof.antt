@@ -10,7 +10,7 @@ use borrow.Author.Count.{below-more}
 use borrow.Author.Needs.{needs}
 use lib.ListN.{length, getD}
 use Rattle.rules.specs.Records as Records
-use Rattle.rules.specs.Records.{secret, mask, input, kindOf, classByte}
+use Rattle.rules.specs.Records.{secret, mask, input, kindOf, classByte, most-variables, most-nodes, most-sets}
 use Rattle.rules.specs.Families.{suspectAt}
 use Rattle.rules.specs.Slices.{entry}
 use Rattle.records.specs.Netlists.{blank, flatOf}
@@ -25,7 +25,7 @@ Inv-loop layer work netlist secrets masks count i set₀ part set =
     (n : Records.Netlist) → netlist ≡ flatOf n → Searched n layer work i set
 
 abbrev μ-loop : tie.MeasureT-loop
-μ-loop layer work netlist secrets masks count i set₀ part set = 1024 - set
+μ-loop layer work netlist secrets masks count i set₀ part set = most-sets - set
 
 abbrev Inv-nodes : tie.InvT-nodes
 Inv-nodes layer work netlist secrets masks count i₀ set₀ i set =
@@ -42,7 +42,7 @@ abbrev start : tie.At-nodes Inv-loop μ-loop Inv-nodes μ-nodes → tie.Start In
 start c = c .before .before .before .before
 
 -- the bounds of the netlist
-few : (c : tie.Start Inv-loop μ-loop Inv-nodes μ-nodes) → (c .args .t1 .variables ≤ 10) × (c .args .t1 .count ≤ 200)
+few : (c : tie.Start Inv-loop μ-loop Inv-nodes μ-nodes) → (c .args .t1 .variables ≤ most-variables) × (c .args .t1 .count ≤ most-nodes)
 few c = (few-variables (c .pre .0 .formed), few-nodes (c .pre .0 .formed))
 
 variables-of-requires : tie.Need-variables-of-requires Inv-loop μ-loop Inv-nodes μ-nodes

@@ -12,7 +12,7 @@ use lib.Pow.{pow-mono}
 use lib.Seq.{take-all}
 use Rattle.rules.specs.Lists.{digit}
 use Rattle.rules.specs.Records as Records
-use Rattle.rules.specs.Records.{Class, public, classByte, number}
+use Rattle.rules.specs.Records.{Class, public, classByte, number, most-variables}
 use Rattle.rules.specs.Values.{same}
 use Rattle.records.specs.Netlists.{flatOf}
 use Rattle.records.proofs.Netlists.{flat-class-at}
@@ -48,7 +48,7 @@ bit-small c =
 
 add-set : tie.Need-add-set Inv-loop μ-loop
 add-set c =
-    let few : 2 ^ c .before .before .before .loop .v ≤ 2 ^ 10 = pow-mono {j = 10} (omega arith) in
+    let few : 2 ^ c .before .before .before .loop .v ≤ 2 ^ most-variables = pow-mono {j = most-variables} (omega arith) in
     omega (arith, bit-small c)
 
 add-v : tie.Need-add-v Inv-loop μ-loop
