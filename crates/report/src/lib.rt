@@ -1,132 +1,28 @@
-// The listing's text, made on slices. Each function below `telgouin_listing` puts a text behind the first `at` bytes of a slice,
-// and answers where the next one goes.
+// The listing of netlist bytes: they are checked, and the text is made of its lines and copied to the lent slice.
 ghost use mathlib.Core.Path.{_≡_};
-ghost use mathlib.Core.List.{List, [], _∷_, _++_};
-ghost use Prim.Native.Nat.{ℕ, _+_, _*_, _<_, _≤_};
+ghost use mathlib.Core.List.{List, _++_};
+ghost use Prim.Native.Nat.{ℕ, _+_, _*_, _≤_};
 ghost use lib.ListN.{length};
 ghost use Rattle.rules.specs.Records as Records;
-ghost use Rattle.rules.specs.Records.{Cell, kindOf, most-variables, most-nodes, most-sets};
+ghost use Rattle.rules.specs.Records.{most-variables, most-nodes};
 ghost use Rattle.rules.specs.Families.{families, findings};
 ghost use Rattle.rules.specs.Slices.{workBytes};
-ghost use Rattle.rules.specs.Listing.{word, decimal, line, kindName, nodeLines, halfLine, netlistText, listing, shown, most-line, most-text};
-ghost use Rattle.rules.specs.Paper.{numberOf, placeOf, findingOf, findingsOf};
+ghost use Rattle.rules.specs.Listing.{nodeLines, netlistText, listing, shown, most-line, most-text};
+ghost use Rattle.rules.specs.Paper.{findingsOf};
 ghost use Rattle.records.specs.Netlists.{flatOf, Formed};
-ghost use Rattle.report.specs.Text.{Room, Appended, Short, foundText};
+ghost use Rattle.lines.specs.Text.{Room, Appended, Short};
+use lines::put_counts;
+use lines::put_halves;
+use lines::put_node;
+use lines::put_refusal;
 use records::Netlist;
 use rules::Answer;
-use rules::Half;
 use rules::MOST_NODES;
 use rules::MOST_WORK;
-use rules::Refusal;
 use rules::Reply;
 
 // How many bytes have room for every listing: 203 lines of at most 18 bytes, or one refusal.
 pub const MOST_TEXT: usize = 18 * (MOST_NODES + 3);
-
-// ---- words and numbers
-
-// One byte.
-fn put_byte(text: &mut [u8], at: usize, byte: u8) -> usize
-    requires { ⌜ Room (now text) at 1 ⌝ }
-    ensures { λ r. ⌜ Appended (now (text .entry)) (now (text .exit)) at r (byte ∷ []) ⌝ }
-{
-    text[at] = byte;
-    at + 1
-}
-
-// A word, byte by byte.
-fn put_word(text: &mut [u8], at: usize, letters: &[u8]) -> usize
-    requires { ⌜ Room (now text) at (length (now letters)) ⌝ }
-    ensures { λ r. ⌜ Appended (now (text .entry)) (now (text .exit)) at r (now (letters .entry)) ⌝ }
-{
-    let mut k = 0;
-    while k < letters.len() {
-        text[at + k] = letters[k];
-        k += 1;
-    }
-    at + k
-}
-
-// A number in base ten: the digit of its last place behind those of the rest.
-fn put_decimal(text: &mut [u8], at: usize, number: usize) -> usize
-    requires { ⌜ Room (now text) at (length (decimal number)) ⌝ }
-    ensures { λ r. ⌜ Appended (now (text .entry)) (now (text .exit)) at r (decimal number) ⌝ }
-{
-    if number < 10 {
-        return put_byte(text, at, 48 + (number as u8));
-    }
-    let last = put_decimal(text, at, number / 10);
-    put_byte(text, last, 48 + ((number % 10) as u8))
-}
-
-// A blank and a number.
-fn put_field(text: &mut [u8], at: usize, number: usize) -> usize
-    requires { ⌜ Room (now text) at (1 + length (decimal number)) ⌝ }
-    ensures { λ r. ⌜ Appended (now (text .entry)) (now (text .exit)) at r (32 ∷ decimal number) ⌝ }
-{
-    let behind = put_byte(text, at, 32);
-    put_decimal(text, behind, number)
-}
-
-// ---- lines
-
-// The line of a refusal.
-fn put_refusal(text: &mut [u8], refusal: Refusal) -> usize
-    requires { ⌜ Room (now text) 0 most-text ⌝ }
-    ensures { λ r. ⌜ Appended (now (text .entry)) (now (text .exit)) 0 r
-        (line (word "refused" ∷ decimal (numberOf refusal) ∷ decimal (placeOf refusal) ∷ [])) ⌝ }
-{
-    let number = put_word(text, 0, b"refused");
-    let place = put_field(text, number, rules::number_of(refusal));
-    let end = put_field(text, place, rules::place_of(refusal));
-    put_byte(text, end, 10)
-}
-
-// The line of the counts.
-fn put_counts(text: &mut [u8], variables: usize, count: usize) -> usize
-    requires { ⌜ Room (now text) 0 most-line × (variables ≤ most-variables) × (count ≤ most-nodes) ⌝ }
-    ensures { λ r. ⌜ Appended (now (text .entry)) (now (text .exit)) 0 r
-        (line (word "vars" ∷ decimal variables ∷ word "nodes" ∷ decimal count ∷ [])) ⌝ }
-    ensures few { λ r. ⌜ r ≤ most-line ⌝ }
-{
-    let first = put_word(text, 0, b"vars");
-    let middle = put_field(text, first, variables);
-    let second = put_word(text, middle, b" nodes");
-    let end = put_field(text, second, count);
-    put_byte(text, end, 10)
-}
-
-// A kind's name, with a blank before it.
-fn put_kind(text: &mut [u8], at: usize, kind: u8) -> usize
-    requires { ⌜ Room (now text) at 4 ⌝ }
-    ensures { λ r. ⌜ ((cell : Cell) → kind ≡ kindOf cell →
-        Appended (now (text .entry)) (now (text .exit)) at r (32 ∷ kindName cell)) ⌝ }
-    ensures few { λ r. ⌜ r ≤ at + 4 ⌝ }
-{
-    match kind {
-        2 => put_word(text, at, b" in"),
-        3 => put_word(text, at, b" not"),
-        4 => put_word(text, at, b" xor"),
-        5 => put_word(text, at, b" and"),
-        6 => put_word(text, at, b" or"),
-        _ => put_word(text, at, b" reg"),
-    }
-}
-
-// The line of a node: number, kind name, number of sets in the settled family, number in the glitch family.
-fn put_node(text: &mut [u8], at: usize, i: usize, kind: u8, settled: usize, glitch: usize) -> usize
-    requires { ⌜ Room (now text) at most-line × (i < most-nodes) × (settled ≤ most-sets) × (glitch ≤ most-sets) ⌝ }
-    ensures { λ r. ⌜ ((cell : Cell) → kind ≡ kindOf cell →
-        Appended (now (text .entry)) (now (text .exit)) at r
-        (line (decimal i ∷ kindName cell ∷ decimal settled ∷ decimal glitch ∷ []))) ⌝ }
-    ensures few { λ r. ⌜ r ≤ at + most-line ⌝ }
-{
-    let name = put_decimal(text, at, i);
-    let first = put_kind(text, name, kind);
-    let second = put_field(text, first, settled);
-    let end = put_field(text, second, glitch);
-    put_byte(text, end, 10)
-}
 
 // The lines of all nodes, whose families are in the work bytes.
 fn put_nodes(text: &mut [u8], at: usize, netlist: Netlist, work: &[u8]) -> usize
@@ -149,34 +45,6 @@ fn put_nodes(text: &mut [u8], at: usize, netlist: Netlist, work: &[u8]) -> usize
     end
 }
 
-// What a half says, with a blank before it, and the end of its line.
-fn put_finding(text: &mut [u8], at: usize, half: Half) -> usize
-    requires { ⌜ Room (now text) at 10 × Short half ⌝ }
-    ensures { λ r. ⌜ Appended (now (text .entry)) (now (text .exit)) at r (foundText (findingOf half)) ⌝ }
-    ensures few { λ r. ⌜ r ≤ at + 10 ⌝ }
-{
-    match half {
-        Half::Clear => put_word(text, at, b" clear\n"),
-        Half::Suspect(node, set) => {
-            let behind = put_field(text, at, node);
-            let end = put_field(text, behind, set);
-            put_byte(text, end, 10)
-        }
-    }
-}
-
-// The lines of both halves.
-fn put_halves(text: &mut [u8], at: usize, settled: Half, glitch: Half) -> usize
-    requires { ⌜ Room (now text) at 36 × Short settled × Short glitch ⌝ }
-    ensures { λ r. ⌜ Appended (now (text .entry)) (now (text .exit)) at r
-        (halfLine (word "settled") (findingOf settled) ++ halfLine (word "glitch") (findingOf glitch)) ⌝ }
-{
-    let first = put_word(text, at, b"settled");
-    let next = put_finding(text, first, settled);
-    let second = put_word(text, next, b"glitch");
-    put_finding(text, second, glitch)
-}
-
 // The text of a netlist that was checked.
 fn put_answer(text: &mut [u8], answer: Answer, netlist: Netlist, work: &[u8]) -> usize
     requires { ⌜ Room (now text) 0 most-text × Formed netlist × (256 * netlist .count ≤ length (now work))
@@ -191,8 +59,6 @@ fn put_answer(text: &mut [u8], answer: Answer, netlist: Netlist, work: &[u8]) ->
     let halves = put_nodes(text, lines, netlist, work);
     put_halves(text, halves, settled, glitch)
 }
-
-// ---- the listing
 
 // The whole text, in a slice that has room for every listing.
 fn put_listing(text: &mut [u8], bytes: &[u8]) -> usize

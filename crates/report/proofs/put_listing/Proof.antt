@@ -28,8 +28,8 @@ use Rattle.records.specs.declared.Netlist as Value
 use Rattle.records.specs.Netlists.{flatOf, Formed}
 use Rattle.records.proofs.Netlists.{value-count}
 use Rattle.checker.specs.Work.{kept}
-use Rattle.report.specs.Text.{Short}
-use Rattle.report.proofs.Text.{appended-as}
+use Rattle.lines.specs.Text.{Short}
+use Rattle.lines.proofs.Text.{appended-as}
 use Rattle.report.proofs.put_listing.Statement.{statement}
 use Rattle.report.proofs.put_listing.Tie as tie
 

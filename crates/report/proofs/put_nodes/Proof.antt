@@ -18,8 +18,8 @@ use Rattle.records.proofs.Netlists.{value-count, value-entry, few-nodes, well-f
 use Rattle.families.specs.Parts.{familyAt}
 use Rattle.families.proofs.Parts.{length-at}
 use Rattle.families.proofs.Work.{settled-size, glitch-size}
-use Rattle.report.specs.Text.{Appended}
-use Rattle.report.proofs.Text.{appended-none, appended-more, appended-as}
+use Rattle.lines.specs.Text.{Appended}
+use Rattle.lines.proofs.Text.{appended-none, appended-more, appended-as}
 use Rattle.report.proofs.put_nodes.Statement.{statement}
 use Rattle.report.proofs.put_nodes.Tie as tie
 

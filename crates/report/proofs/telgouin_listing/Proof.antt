@@ -9,8 +9,8 @@ use borrow.Author.Tests.{le-leb, lt-leb}
 use lib.ListN.{length, take, drop, length-replicate}
 use lib.Seq.{length-take-le, take-length}
 use Rattle.rules.specs.Listing.{shown, most-text}
-use Rattle.report.specs.Text.{Appended}
-use Rattle.report.proofs.Text.{appended-within}
+use Rattle.lines.specs.Text.{Appended}
+use Rattle.lines.proofs.Text.{appended-within}
 use Rattle.report.proofs.telgouin_listing.Statement.{statement}
 use Rattle.report.proofs.telgouin_listing.Tie as tie
 

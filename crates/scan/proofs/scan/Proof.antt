@@ -1,7 +1,7 @@
 -- `scan::scan` meets its contract. The nodes' loop: the nodes passed report nothing. The loop in it: of the node's sets, those passed are
 -- not suspect members. Each measure is what is left to pass. Assumes nothing.
-use Prim.Native.Nat.{_-_, _≤_, _<_}
-use mathlib.Core.Path.{_≡_, refl, sym, _∙_}
+use Prim.Native.Nat.{ℕ, _-_, _≤_, _<_}
+use mathlib.Core.Path.{_≡_, refl, sym, ap, _∙_}
 use mathlib.Core.Logic.{⊎-elim}
 use mathlib.Core.Bool.{true}
 use denote.Ref.{now}
@@ -132,8 +132,8 @@ returns c =
     λ n e.
     ⊎-elim (λ w. absurd (omega arith))
     (λ w.
-    rw (w .7)
-    (broken-off
+    ap (λ (A : ℕ). suspectAt (c .before .before .nodes .i) A) (w .7)
+    ∙ broken-off
     record {
       before = record {
         before = record {
@@ -147,7 +147,7 @@ returns c =
       };
       suspect-in = w .5;
     }
-    (w .6 .taken) n e))
+    (w .6 .taken) n e)
     (c .before .nodes-test .came)
 
 returns-2 : tie.Need-returns-2 Inv-loop μ-loop Inv-nodes μ-nodes

@@ -1,9 +1,9 @@
--- `report::put_byte` meets its contract: the byte is stored behind the front. Assumes nothing.
+-- `lines::put_byte` meets its contract: the byte is stored behind the front. Assumes nothing.
 use borrow.Author.Needs.{needs}
 use native.Mathlib.Omega.{arith}
-use Rattle.report.proofs.Text.{appended-byte}
-use Rattle.report.proofs.put_byte.Statement.{statement}
-use Rattle.report.proofs.put_byte.Tie as tie
+use Rattle.lines.proofs.Text.{appended-byte}
+use Rattle.lines.proofs.put_byte.Statement.{statement}
+use Rattle.lines.proofs.put_byte.Tie as tie
 
 slice-write-text : tie.Need-slice-write-text
 slice-write-text c = search needs

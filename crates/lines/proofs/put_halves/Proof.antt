@@ -1,14 +1,14 @@
--- `report::put_halves` meets its contract: for each half its name, and behind that what it says. Assumes nothing.
+-- `lines::put_halves` meets its contract: for each half its name, and behind that what it says. Assumes nothing.
 use Prim.Native.Nat.{ℕ}
 use mathlib.Core.Path.{_≡_, refl}
 use mathlib.Core.List.{List, _++_}
 use borrow.Author.Needs.{needs}
 use Rattle.rules.specs.Families.{Finding, clear, suspectAt}
 use Rattle.rules.specs.Listing.{word, line, halfLine}
-use Rattle.report.specs.Text.{foundText}
-use Rattle.report.proofs.Text.{appended-more}
-use Rattle.report.proofs.put_halves.Statement.{statement}
-use Rattle.report.proofs.put_halves.Tie as tie
+use Rattle.lines.specs.Text.{foundText}
+use Rattle.lines.proofs.Text.{appended-more}
+use Rattle.lines.proofs.put_halves.Statement.{statement}
+use Rattle.lines.proofs.put_halves.Tie as tie
 
 -- a half's line: its name, and what it says behind that
 half-text : (name : List ℕ) (found : Finding) → halfLine name found ≡ name ++ foundText found

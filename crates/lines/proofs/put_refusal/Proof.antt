@@ -1,4 +1,4 @@
--- `report::put_refusal` meets its contract: the refusal's number has at most two digits, and its place, which fits a `usize`, at most twenty.
+-- `lines::put_refusal` meets its contract: the refusal's number has at most two digits, and its place, which fits a `usize`, at most twenty.
 -- Assumes nothing.
 use Prim.Native.Nat.{_≤_}
 use native.Mathlib.Omega.{arith}
@@ -7,9 +7,9 @@ use lib.ListN.{length}
 use Rattle.rules.specs.Listing.{word, decimal, line}
 use Rattle.rules.proofs.Decimal.{decimal-short}
 use Rattle.rules.proofs.Paper.{number-most}
-use Rattle.report.proofs.Text.{appended-more}
-use Rattle.report.proofs.put_refusal.Statement.{statement}
-use Rattle.report.proofs.put_refusal.Tie as tie
+use Rattle.lines.proofs.Text.{appended-more}
+use Rattle.lines.proofs.put_refusal.Statement.{statement}
+use Rattle.lines.proofs.put_refusal.Tie as tie
 
 -- how many digits the number and the place have
 number-digits : (c : tie.After-number-of) → length (decimal (c .number-of .result)) ≤ 2

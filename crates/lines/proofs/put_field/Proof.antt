@@ -1,8 +1,8 @@
--- `report::put_field` meets its contract: the number is behind a blank. Assumes nothing.
+-- `lines::put_field` meets its contract: the number is behind a blank. Assumes nothing.
 use borrow.Author.Needs.{needs}
-use Rattle.report.proofs.Text.{appended-more}
-use Rattle.report.proofs.put_field.Statement.{statement}
-use Rattle.report.proofs.put_field.Tie as tie
+use Rattle.lines.proofs.Text.{appended-more}
+use Rattle.lines.proofs.put_field.Statement.{statement}
+use Rattle.lines.proofs.put_field.Tie as tie
 
 put-byte-requires : tie.Need-put-byte-requires
 put-byte-requires c κs = search needs

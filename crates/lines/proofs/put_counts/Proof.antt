@@ -1,4 +1,4 @@
--- `report::put_counts` meets its contract: word and number by turns, the number of variables in at most two digits and that of the nodes in at
+-- `lines::put_counts` meets its contract: word and number by turns, the number of variables in at most two digits and that of the nodes in at
 -- most three. Assumes nothing.
 use Prim.Native.Nat.{_≤_}
 use native.Mathlib.Omega.{arith}
@@ -6,9 +6,9 @@ use borrow.Author.Needs.{needs}
 use lib.ListN.{length}
 use Rattle.rules.specs.Listing.{word, decimal, line}
 use Rattle.rules.proofs.Decimal.{decimal-short}
-use Rattle.report.proofs.Text.{appended-more}
-use Rattle.report.proofs.put_counts.Statement.{statement}
-use Rattle.report.proofs.put_counts.Tie as tie
+use Rattle.lines.proofs.Text.{appended-more}
+use Rattle.lines.proofs.put_counts.Statement.{statement}
+use Rattle.lines.proofs.put_counts.Tie as tie
 
 -- how many digits each number has
 abbrev Digits : tie.Start → Type 0

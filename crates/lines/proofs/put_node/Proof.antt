@@ -1,13 +1,13 @@
--- `report::put_node` meets its contract: the node's number in at most three digits, the kind's name, and two counts in at most four. Assumes nothing.
+-- `lines::put_node` meets its contract: the node's number in at most three digits, the kind's name, and two counts in at most four. Assumes nothing.
 use Prim.Native.Nat.{ℕ, _≤_}
 use native.Mathlib.Omega.{arith}
 use borrow.Author.Needs.{needs}
 use lib.ListN.{length}
 use Rattle.rules.specs.Listing.{decimal, line}
 use Rattle.rules.proofs.Decimal.{decimal-short}
-use Rattle.report.proofs.Text.{appended-more}
-use Rattle.report.proofs.put_node.Statement.{statement}
-use Rattle.report.proofs.put_node.Tie as tie
+use Rattle.lines.proofs.Text.{appended-more}
+use Rattle.lines.proofs.put_node.Statement.{statement}
+use Rattle.lines.proofs.put_node.Tie as tie
 
 -- how many digits each number has
 record Digits (i settled glitch : ℕ) : Type 0 where

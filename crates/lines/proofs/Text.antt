@@ -7,7 +7,7 @@ use native.Mathlib.Numerals.{add-one}
 use native.Mathlib.Omega.{arith}
 use lib.ListN.{length, take, set, length-append, length-take, length-set}
 use lib.Seq.{take-suc-set, length-take-le}
-use Rattle.report.specs.Text.{Appended}
+use Rattle.lines.specs.Text.{Appended}
 
 -- the empty text is written by doing nothing
 pub appended-none : (slice : List ℕ) (at : ℕ) → Appended slice slice at at []

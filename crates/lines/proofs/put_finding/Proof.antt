@@ -1,4 +1,4 @@
--- `report::put_finding` meets its contract: a word, or the node in at most three digits and the set in at most four. Assumes nothing.
+-- `lines::put_finding` meets its contract: a word, or the node in at most three digits and the set in at most four. Assumes nothing.
 use Prim.Native.Nat.{ℕ, _≤_}
 use mathlib.Core.Path.{_≡_}
 use native.Mathlib.Omega.{arith}
@@ -7,11 +7,11 @@ use lib.ListN.{length}
 use Rattle.rules.specs.declared.Half.{Half}
 use Rattle.rules.specs.declared.Half.the-variants.{Suspect}
 use Rattle.rules.specs.Listing.{word, decimal, line}
-use Rattle.report.specs.Text.{Short, foundText}
+use Rattle.lines.specs.Text.{Short, foundText}
 use Rattle.rules.proofs.Decimal.{decimal-short}
-use Rattle.report.proofs.Text.{appended-more}
-use Rattle.report.proofs.put_finding.Statement.{statement}
-use Rattle.report.proofs.put_finding.Tie as tie
+use Rattle.lines.proofs.Text.{appended-more}
+use Rattle.lines.proofs.put_finding.Statement.{statement}
+use Rattle.lines.proofs.put_finding.Tie as tie
 
 -- how many digits the node and the set have
 digits : {half : Half} {i A : ℕ} → half ≡ Suspect i A → Short half → (length (decimal i) ≤ 3) × (length (decimal A) ≤ 4)

@@ -1,4 +1,4 @@
--- `report::put_word` meets its contract. The loop's invariant: the word's first k bytes are behind the front. The measure is what is left of the
+-- `lines::put_word` meets its contract. The loop's invariant: the word's first k bytes are behind the front. The measure is what is left of the
 -- word. Assumes nothing.
 use Prim.Native.Nat.{_+_, _-_, _≤_}
 use native.Mathlib.Nat.{add-zero, add-assoc}
@@ -7,10 +7,10 @@ use native.Mathlib.Omega.{arith}
 use lib.ListN.{length, take}
 use lib.Seq.{take-suc, take-all}
 use denote.Ref.{now}
-use Rattle.report.specs.Text.{Appended}
-use Rattle.report.proofs.Text.{appended-none, appended-byte, appended-more, appended-as}
-use Rattle.report.proofs.put_word.Statement.{statement}
-use Rattle.report.proofs.put_word.Tie as tie
+use Rattle.lines.specs.Text.{Appended}
+use Rattle.lines.proofs.Text.{appended-none, appended-byte, appended-more, appended-as}
+use Rattle.lines.proofs.put_word.Statement.{statement}
+use Rattle.lines.proofs.put_word.Tie as tie
 
 abbrev Inv-loop : tie.InvT-loop
 Inv-loop text₀ at letters k₀ text k = (k ≤ length letters) × Appended text₀ text at (at + k) (take k letters)

@@ -1,4 +1,4 @@
--- `report::put_kind` meets its contract: each arm writes the name of the cells whose kind has its number, and the last arm that of a register.
+-- `lines::put_kind` meets its contract: each arm writes the name of the cells whose kind has its number, and the last arm that of a register.
 -- Assumes nothing.
 use Prim.Native.Nat.{ℕ, _≤_}
 use mathlib.Core.Path.{_≡_, refl, sym, ap, _∙_}
@@ -8,10 +8,10 @@ use borrow.Author.Needs.{needs}
 use lib.ListN.{getD}
 use Rattle.rules.specs.Records.{Cell, input, NOT, XOR, AND, OR, register, kindOf}
 use Rattle.rules.specs.Listing.{word, kindName}
-use Rattle.report.specs.Text.{Appended}
-use Rattle.report.proofs.Text.{appended-as}
-use Rattle.report.proofs.put_kind.Statement.{statement}
-use Rattle.report.proofs.put_kind.Tie as tie
+use Rattle.lines.specs.Text.{Appended}
+use Rattle.lines.proofs.Text.{appended-as}
+use Rattle.lines.proofs.put_kind.Statement.{statement}
+use Rattle.lines.proofs.put_kind.Tie as tie
 
 -- the word for a kind
 wordFor : ℕ → List ℕ
