@@ -2,7 +2,7 @@
 // the next one goes; its caller shows that there is room.
 ghost use mathlib.Core.Path.{_≡_};
 ghost use mathlib.Core.List.{[], _∷_, _++_};
-ghost use Prim.Native.Nat.{_+_, _<_, _≤_};
+ghost use Prim.Native.Nat.{_+_, _*_, _<_, _≤_};
 ghost use lib.ListN.{length};
 ghost use Rattle.rules.specs.Records.{Cell, kindOf, most-variables, most-nodes, most-sets};
 ghost use Rattle.rules.specs.Listing.{word, decimal, line, kindName, halfLine, most-line, most-text};
@@ -141,7 +141,7 @@ fn put_finding(text: &mut [u8], at: usize, half: Half) -> usize
 
 // The lines of both halves.
 pub fn put_halves(text: &mut [u8], at: usize, settled: Half, glitch: Half) -> usize
-    requires { ⌜ Room (now text) at 36 × Short settled × Short glitch ⌝ }
+    requires { ⌜ Room (now text) at (2 * most-line) × Short settled × Short glitch ⌝ }
     ensures { λ r. ⌜ Appended (now (text .entry)) (now (text .exit)) at r
         (halfLine (word "settled") (findingOf settled) ++ halfLine (word "glitch") (findingOf glitch)) ⌝ }
 {
