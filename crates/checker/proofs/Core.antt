@@ -19,12 +19,12 @@ use Rattle.rules.specs.declared.Reply.the-variants.{Refused, Answered}
 use Rattle.rules.proofs.Halves.{exactly-when}
 use Rattle.rules.proofs.Probe.{one-probe}
 use Rattle.records.specs.declared.Netlist as Value
-use Rattle.records.specs.Netlists.{flatOf, Ready}
+use Rattle.records.specs.Netlists.{flatOf, Ready, kept}
 use Rattle.records.proofs.Netlists.{value-variables, value-count, well-formed}
 use Rattle.scan.specs.Suspects.{found}
 use Rattle.scan.proofs.Search.{found-half}
 use Rattle.checker.specs.declared.Examined.{Examined}
-use Rattle.checker.specs.Work.{kept, Examines}
+use Rattle.checker.specs.Work.{Examines}
 
 -- a refusal, with nothing kept and nothing written
 refusal : (r : Refusal) (k p : ℕ) (examined : Examined) (work : List ℕ) → numberOf r ≡ k → placeOf r ≡ p

@@ -2,27 +2,20 @@
 -- what the rules say it holds at exit. By recursion on the number of records. Assumes nothing.
 use Prim.Native.Nat.{ℕ, zero, suc, _+_, _<_, _≤_, zero-le}
 use mathlib.Core.Path.{_≡_, refl, sym, _∙_, ap, subst}
-use mathlib.Core.List.{List, [], _∷_, _++_, map}
-use native.Mathlib.Nat.{not-suc-le-zero, le-of-suc-le-suc, le-of-lt, le-add-right}
+use mathlib.Core.List.{List, _++_, map}
+use native.Mathlib.Nat.{zero-add, le-add-right}
+use native.Mathlib.Omega.{arith}
 use native.Mathlib.Numerals.{add-one}
 use lib.ListN.{length, getD, take, drop, set, length-set, length-append, length-map}
-use lib.Seq.{take-append-seam}
+use lib.Seq.{take-append-seam, paste-suc}
 use Rattle.rules.specs.declared.Node.{Node}
 use Rattle.rules.specs.Records.{Netlist, empty}
 use Rattle.rules.specs.Slices.{entry, filled, nodesAfter}
 use Rattle.rules.specs.Checks.{Outcome, answered, refused, admitted}
 use Rattle.rules.proofs.Reading.{read-well-formed}
 use Rattle.rules.proofs.Room.{admitted-says}
-use Rattle.records.specs.Netlists.{padded, blank, flatOf}
-use Rattle.checker.specs.Work.{kept, stored}
-
--- an element behind those that stand at the front
-one-more {ℓ} : {A : Type ℓ} (d : A) (k : ℕ) (xs ys : List A) → k < length xs → k < length ys
-    → set (take k xs ++ drop k ys) k (getD xs k d) ≡ take (suc k) xs ++ drop (suc k) ys
-one-more d k [] ys h h′ = absurd (not-suc-le-zero h)
-one-more d k (x ∷ xs) [] h h′ = absurd (not-suc-le-zero h′)
-one-more d zero (x ∷ xs) (y ∷ ys) h h′ = refl
-one-more {A = A} d (suc k) (x ∷ xs) (y ∷ ys) h h′ = ap {B = List A} (λ zs. x ∷ zs) (one-more d k xs ys (le-of-suc-le-suc h) (le-of-suc-le-suc h′))
+use Rattle.records.specs.Netlists.{padded, blank, flatOf, kept}
+use Rattle.checker.specs.Work.{stored}
 
 module _ (records before : List Node) where
   pub stored-none : stored records before 0 ≡ before
@@ -42,7 +35,7 @@ module _ (records before : List Node) where
   unfolding stored
   stored-front zero h h′ = refl
   stored-front (suc k) h h′ =
-      ap (λ (zs : List Node). set zs k (getD records k blank)) (stored-front k (le-of-lt h) (le-of-lt h′)) ∙ one-more blank k records before h h′
+      rw (stored-front k (omega arith) (omega arith)) (simp zero-add at (paste-suc before 0 records k blank (omega arith) (omega arith)))
 
 -- all records of a netlist by value
 flat-stored : (n : Netlist) (before : List Node) → length (n .nodes) ≤ length before

@@ -4,18 +4,14 @@ use mathlib.Core.Path.{_≡_}
 use mathlib.Core.List.{List}
 use lib.ListN.{getD, set}
 use Rattle.rules.specs.declared.Node.{Node}
-use Rattle.rules.specs.Records.{Netlist, empty}
+use Rattle.rules.specs.Records.{Netlist}
 use Rattle.rules.specs.Families.{families, findings}
 use Rattle.rules.specs.Slices.{workBytes, filled}
-use Rattle.rules.specs.Checks.{Outcome, answered, refused, andThen}
+use Rattle.rules.specs.Checks.{Outcome, answered, andThen}
 use Rattle.rules.specs.Paper.{replyOf}
 use Rattle.records.specs.Netlists.{blank, flatOf}
+unfoldable pub use Rattle.records.specs.Netlists.{kept}
 use Rattle.checker.specs.declared.Examined.{Examined}
-
--- the netlist of which records are kept: none on a refusal
-unfoldable pub kept : Outcome Netlist → Netlist
-kept (answered n) = n
-kept (refused k p) = empty
 
 -- what is examined where the outcome of reading and of the slices is `outcome`, and the work slice held `before` and then holds `after`
 pub record Examines (outcome : Outcome Netlist) (examined : Examined) (before after : List ℕ) : Type 0 where

@@ -10,12 +10,12 @@ ghost use Rattle.rules.specs.Slices.{nodesAfter, workAfter, reply};
 ghost use Rattle.rules.specs.Checks.{answered, slicesFit, admitted};
 ghost use Rattle.rules.specs.Demands.{GlitchClear, NothingSuspect, OneProbe};
 ghost use Rattle.rules.specs.Paper.{replyOf};
-ghost use Rattle.records.specs.Netlists.{blank, flatOf, Formed, Ready};
-ghost use Rattle.checker.specs.Work.{kept, Examines, stored};
+ghost use Rattle.records.specs.Netlists.{blank, flatOf, Formed, Ready, kept};
+ghost use Rattle.checker.specs.Work.{Examines, stored};
 use records::Netlist;
-use records::Stage;
 use rules::Answer;
 use rules::Node;
+use rules::QueryOutcome;
 use rules::Refusal;
 use rules::Reply;
 
@@ -82,13 +82,12 @@ pub fn examine(bytes: &[u8], entries: usize, work: &mut [u8]) -> Examined
         NothingSuspect (now (bytes .entry)) entries (length (now (work .entry))) ⌝ }
     ensures probe { λ r. ⌜ (GlitchClear (replyOf (r .reply)) → OneProbe (now (bytes .entry))) ⌝ }
 {
-    let progress = records::read(bytes);
-    let stage = progress.stage;
-    let netlist = progress.netlist;
-    match stage {
-        Stage::Refused(refusal) => refused(refusal),
-        Stage::Reading => refused(Refusal::NoEnd(bytes.len())),
-        Stage::Ended => admit(netlist, entries, work),
+    let file = records::read(bytes);
+    let outcome = file.outcome;
+    let netlist = file.netlist;
+    match outcome {
+        QueryOutcome::Refused(refusal) => refused(refusal),
+        QueryOutcome::Answered => admit(netlist, entries, work),
     }
 }
 

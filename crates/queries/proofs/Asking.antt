@@ -1,5 +1,5 @@
--- The way to a query's reply: what is asked where a query is refused and where it stands, what is given then, and what is known of the
--- netlist, the node and the number of a query that stands. Assumes nothing.
+-- The way to a query's reply: one check more of a file that was read, what is given where a query is refused and where it stands, and what is
+-- known of the netlist, the node and the number of a query that stands. Assumes nothing.
 use Prim.Native.Nat.{ℕ, _^_, _≤_, _<_}
 use mathlib.Core.Path.{_≡_, refl, sym, ap, _∙_}
 use mathlib.Core.Bool.{true, false}
@@ -11,120 +11,108 @@ use lib.Pow.{pow-mono}
 use Rattle.rules.specs.Records.{Netlist}
 use Rattle.rules.specs.Checks.{Outcome, answered, refused, andThen, Check, check, judged, undeclared, read, nodeCheck, numberCheck, queried, queriedWith}
 use Rattle.rules.specs.Queries.{given}
-use Rattle.rules.specs.Paper.{numberOf, placeOf, queryOf}
+use Rattle.rules.specs.Paper.{queryOf}
 use Rattle.rules.specs.declared.Refusal.{Refusal}
 use Rattle.rules.specs.declared.QueryOutcome.{QueryOutcome}
 use Rattle.rules.specs.declared.QueryOutcome.the-variants as Query
 use Rattle.rules.proofs.Records.{condition, passes, answer}
-use Rattle.rules.proofs.Reading.{read-well-formed}
-use Rattle.records.specs.Netlists.{flatOf, Formed}
-use Rattle.records.proofs.Netlists.{value-count}
-use Rattle.queries.specs.declared.Asked.{Asked}
-use Rattle.queries.specs.Replies.{Asks}
+use Rattle.records.specs.declared.ReadFile.{ReadFile}
+use Rattle.records.specs.Netlists.{Formed, Reads}
+use Rattle.records.proofs.Netlists.{value-variables, value-count, few-variables, Stands, read-refused, read-formed}
 
--- ---- what is asked
+-- ---- one check more
 
-module _ (asked : Asked) (end : Outcome Netlist) where
-  -- a refusal, and a netlist
-  pub asks-refused : (r : Refusal) → asked .outcome ≡ Query.Refused r → end ≡ refused (numberOf r) (placeOf r) → Asks asked end
+-- an outcome with one row more behind it
+abbrev checked : Outcome Netlist → (Netlist → Check) → Outcome Netlist
+checked o row = andThen o (λ n. judged (row n ∷ []) n)
+
+module _ (file : ReadFile) (o : Outcome Netlist) (row : Netlist → Check) where
+  -- what is refused stays refused
+  pub stays-refused : Reads file o → (r : Refusal) → file .outcome ≡ Query.Refused r → Reads file (checked o row)
   unfolding andThen
-  asks-refused r o e = record { outcome = rw (o, e); netlist = λ n a. let z : _≡_ {A = ℕ} 0 1 = cc in absurd (omega arith) }
+  stays-refused reads r is = let e = read-refused o r reads is in rw e (rw e at reads)
 
-  pub asks-answered : (n : Netlist) → asked .outcome ≡ Query.Answered → asked .netlist ≡ flatOf n → end ≡ answered n → Asks asked end
-  unfolding andThen
-  asks-answered n o t e = record { outcome = rw (o, e); netlist = λ m a. let same : n ≡ m = cc in rw (← same) t }
+  -- what stands the row refuses or not
+  module _ (n : Netlist) (is : o ≡ answered n) {k p : ℕ} where
+    pub row-refuses : row n ≡ check k true p → Reads file (refused k p) → Reads file (checked o row)
+    unfolding andThen judged
+    row-refuses h reads = rw (is, h) reads
 
--- the query stands, of this netlist
-pub record Stands (asked : Asked) (end : Outcome Netlist) : Type 0 where
-  pub netlist : Netlist
-  pub is : end ≡ answered netlist
-  pub value : asked .netlist ≡ flatOf netlist
+    pub row-passes : row n ≡ check k false p → Reads file o → Reads file (checked o row)
+    unfolding andThen judged
+    row-passes h reads = rw (is, h) (rw is at reads)
 
-module _ {asked : Asked} where
-  pub asked-stands : (end : Outcome Netlist) → Asks asked end → asked .outcome ≡ Query.Answered → Stands asked end
-  unfolding andThen
-  asked-stands (answered n) a o = record { netlist = n; is = refl; value = a .netlist n refl }
-  asked-stands (refused k p) a o =
-      let never = sym (ap queryOf o) ∙ a .outcome in
-      let z : _≡_ {A = ℕ} 0 1 = cc in
-      absurd (omega arith)
+  -- what stands behind the row stood before it, and the row does not refuse it
+  module _ (s : Stands file (checked o row)) where
+    through : (q : Outcome Netlist) → checked q row ≡ answered (s .netlist) → (q ≡ answered (s .netlist)) × (condition (row (s .netlist)) ≡ false)
+    unfolding andThen
+    through (answered n) e =
+        let same = answer (row n ∷ []) n _ e in (ap answered same, rw (← same) (passes (row n ∷ []) n _ e 0))
+    through (refused k p) e = (cc, cc)
 
-  pub asked-refused : (end : Outcome Netlist) (r : Refusal) → Asks asked end → asked .outcome ≡ Query.Refused r → end ≡ refused (numberOf r) (placeOf r)
-  unfolding andThen
-  asked-refused (answered n) r a o =
-      let never = sym (ap queryOf o) ∙ a .outcome in
-      let z : _≡_ {A = ℕ} 0 1 = cc in
-      absurd (omega arith)
-  asked-refused (refused k p) r a o = let same = sym (ap queryOf o) ∙ a .outcome in cc
+    stood : Stands file o
+    stood = record { netlist = s .netlist; is = through o (s .is) .0; value = s .value }
 
-  -- ---- what is given
-
-  module _ {A : Type 0} (instead : A) (f : Netlist → A) where
-    pub given-refused : (end : Outcome Netlist) (r : Refusal) → Asks asked end → asked .outcome ≡ Query.Refused r
-        → record { outcome = queryOf (asked .outcome); gives = instead } ≡ given instead f end
-    unfolding given
-    given-refused end r a o = rw (o, asked-refused end r a o)
-
-    pub given-answered : (end : Outcome Netlist) (s : Stands asked end) (outcome : QueryOutcome) (v : A) → outcome ≡ Query.Answered → v ≡ f (s .netlist)
-        → record { outcome = queryOf outcome; gives = v } ≡ given instead f end
-    unfolding given
-    given-answered end s outcome v o e = rw (o, s .is, e)
-
--- ---- a query that stands
-
--- where a row behind an outcome leaves an answer, that is the outcome's, and the row does not refuse it
-through : (o : Outcome Netlist) (row : Netlist → Check) (n : Netlist) → andThen o (λ m. judged (row m ∷ []) m) ≡ answered n
-    → (o ≡ answered n) × (condition (row n) ≡ false)
-unfolding andThen
-through (answered m) row n e =
-    let same = answer (row m ∷ []) m n e in (ap answered same, rw (← same) (passes (row m ∷ []) m n e 0))
-through (refused k p) row n e = let z : _≡_ {A = ℕ} 0 1 = cc in absurd (omega arith)
+    not-refused : condition (row (s .netlist)) ≡ false
+    not-refused = through o (s .is) .1
 
 -- two rows are the second behind the first
-two-rows : (o : Outcome Netlist) (first second : Netlist → Check)
-    → andThen o (λ n. judged (first n ∷ second n ∷ []) n) ≡ andThen (andThen o (λ n. judged (first n ∷ []) n)) (λ n. judged (second n ∷ []) n)
+two-rows : (o : Outcome Netlist) (first second : Netlist → Check) → andThen o (λ n. judged (first n ∷ second n ∷ []) n) ≡ checked (checked o first) second
 unfolding andThen judged
 two-rows (answered n) first second = go (first n)
   where
-    go : (c : Check) → judged (c ∷ second n ∷ []) n ≡ andThen (judged (c ∷ []) n) (λ m. judged (second m ∷ []) m)
+    go : (c : Check) → judged (c ∷ second n ∷ []) n ≡ checked (judged (c ∷ []) n) second
     go (check k true p) = refl
     go (check k false p) = refl
 two-rows (refused k p) first second = refl
 
+-- ---- what is given
+
+module _ {file : ReadFile} {A : Type 0} (instead : A) (f : Netlist → A) (end : Outcome Netlist) where
+  pub given-refused : (r : Refusal) → Reads file end → file .outcome ≡ Query.Refused r
+      → record { outcome = queryOf (file .outcome); gives = instead } ≡ given instead f end
+  unfolding given
+  given-refused r reads is = rw (is, read-refused end r reads is)
+
+  pub given-answered : (s : Stands file end) (outcome : QueryOutcome) (v : A) → outcome ≡ Query.Answered → v ≡ f (s .netlist)
+      → record { outcome = queryOf outcome; gives = v } ≡ given instead f end
+  unfolding given
+  given-answered s outcome v is e = rw (is, s .is, e)
+
+-- ---- a query that stands
+
 module _ (bytes : List ℕ) (i : ℕ) where
   -- the check of the number comes behind that of the node
-  pub node-first : (x : ℕ) → queriedWith bytes i x ≡ andThen (queried bytes i) (λ n. judged (numberCheck x n ∷ []) n)
+  pub node-first : (x : ℕ) → queriedWith bytes i x ≡ checked (queried bytes i) (numberCheck x)
   unfolding queriedWith queried
   node-first x = two-rows (read bytes) (nodeCheck i) (numberCheck x)
 
-  pub queried-read : (n : Netlist) → queried bytes i ≡ answered n → (read bytes ≡ answered n) × (i < length (n .nodes))
-  unfolding queried nodeCheck
-  queried-read n e =
-      let (first, passes) = through (read bytes) (nodeCheck i) n e in
-      (first, leb-false _ _ passes)
-
-  pub queried-number : (x : ℕ) (n : Netlist) → queriedWith bytes i x ≡ answered n → (queried bytes i ≡ answered n) × (x < 2 ^ length (n .variables))
-  unfolding numberCheck undeclared
-  queried-number x n e =
-      let (first, passes) = through (queried bytes i) (numberCheck x) n (sym (node-first x) ∙ e) in
-      (first, leb-false _ _ passes)
-
-  module _ {asked : Asked} where
+  module _ {file : ReadFile} where
     -- what is asked of a node: a netlist that obeys the record rules, and has that node
-    pub stands-formed : Stands asked (queried bytes i) → Formed (asked .netlist)
-    stands-formed s =
-        record { netlist = s .netlist; is = s .value; obeys = read-well-formed bytes (s .netlist) (queried-read (s .netlist) (s .is) .0) }
+    module _ (s : Stands file (queried bytes i)) where
+      pub stands-formed : Formed (file .netlist)
+      unfolding queried
+      stands-formed = read-formed bytes (stood file (read bytes) (nodeCheck i) s)
 
-    pub stands-node : Stands asked (queried bytes i) → i < asked .netlist .count
-    stands-node s = omega (arith, value-count (s .netlist) (s .value), queried-read (s .netlist) (s .is) .1)
+      pub stands-node : i < file .netlist .count
+      unfolding queried nodeCheck
+      stands-node =
+          let there : i < length (s .netlist .nodes) = leb-false _ _ (not-refused file (read bytes) (nodeCheck i) s) in
+          omega (arith, value-count (s .netlist) (s .value))
 
     -- and with a number: the same, and a set's number
-    module _ (x : ℕ) (s : Stands asked (queriedWith bytes i x)) where
-      pub stands-with : Stands asked (queried bytes i)
-      stands-with = record { netlist = s .netlist; is = queried-number x (s .netlist) (s .is) .0; value = s .value }
+    module _ (x : ℕ) (s : Stands file (queriedWith bytes i x)) where
+      behind : Stands file (checked (queried bytes i) (numberCheck x))
+      behind = rw node-first at s
+
+      pub stands-with : Stands file (queried bytes i)
+      stands-with = stood file (queried bytes i) (numberCheck x) behind
 
       pub stands-number : x < 1024
-      unfolding stands-formed stands-with
+      unfolding numberCheck undeclared
       stands-number =
-          let most : 2 ^ length (s .netlist .variables) ≤ 2 ^ 10 = pow-mono (stands-formed stands-with .obeys .few-variables) in
-          omega (arith, queried-number x (s .netlist) (s .is) .1)
+          let low : x < 2 ^ length (behind .netlist .variables) = leb-false _ _ (not-refused file (queried bytes i) (numberCheck x) behind) in
+          let few : length (behind .netlist .variables) ≤ 10 =
+          omega (arith, few-variables (stands-formed stands-with), value-variables (behind .netlist) (behind .value)) in
+          let most : 2 ^ length (behind .netlist .variables) ≤ 2 ^ 10 = pow-mono few in
+          omega arith

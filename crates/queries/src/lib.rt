@@ -3,7 +3,6 @@
 // netlist, the node or the number is refused, it gives value 0, and every mark and membership no.
 ghost use mathlib.Core.Path.{_≡_};
 ghost use mathlib.Core.Bool.{false};
-ghost use mathlib.Core.List.{[], _∷_};
 ghost use Prim.Native.Nat.{_<_};
 ghost use lib.ListN.{length};
 ghost use Rattle.rules.specs.Lists.{member, tabulate};
@@ -12,13 +11,13 @@ ghost use Rattle.rules.specs.Records.{Cell, bits, most-nodes, most-sets};
 ghost use Rattle.rules.specs.Values.{exclusiveOr, valueRule, values, feeding};
 ghost use Rattle.rules.specs.Families.{familiesAt};
 ghost use Rattle.rules.specs.Slices.{entry};
-ghost use Rattle.rules.specs.Checks.{queried, queriedWith, judged, nodeCheck};
+ghost use Rattle.rules.specs.Checks.{queried, queriedWith};
 ghost use Rattle.rules.specs.Queries.{valueQuery, feedingQuery, membershipQuery};
 ghost use Rattle.rules.specs.Paper.{valueOf, feedingOf, membershipOf};
-ghost use Rattle.records.specs.Netlists.{padded, flatOf, Formed};
-ghost use Rattle.queries.specs.Replies.{Asks, handedOn};
+ghost use Rattle.records.specs.Netlists.{padded, flatOf, Formed, Reads};
+ghost use Rattle.queries.specs.Replies.{handedOn};
 use records::Netlist;
-use records::Stage;
+use records::ReadFile;
 use rules::FeedingReply;
 use rules::MOST_NODES;
 use rules::MOST_WORK;
@@ -28,66 +27,38 @@ use rules::QueryOutcome;
 use rules::Refusal;
 use rules::ValueReply;
 
-// What is asked: whether the query is answered, and the netlist by value, which is empty on a refusal.
-struct Asked {
-    outcome: QueryOutcome,
-    netlist: Netlist,
-}
-
 // ---- refusals
 
-// A refusal, with no netlist.
-fn refused(refusal: Refusal) -> Asked
-    ensures { λ r. ⌜ r .outcome ≡ QueryOutcome.Refused refusal ⌝ }
+// The netlist of a query of a node, or the refusal.
+fn ask(bytes: &[u8], node: usize) -> ReadFile
+    ensures { λ r. ⌜ Reads r (queried (now (bytes .entry)) node) ⌝ }
 {
-    Asked {
-        outcome: QueryOutcome::Refused(refusal),
-        netlist: records::no_records(),
-    }
-}
-
-// A query of a node of a netlist that was read.
-fn of_node(netlist: Netlist, node: usize) -> Asked
-    requires { ⌜ Formed netlist ⌝ }
-    ensures { λ r. ⌜ ((n : Records.Netlist) → netlist ≡ flatOf n → Asks r (judged (nodeCheck node n ∷ []) n)) ⌝ }
-{
-    if netlist.count <= node {
-        return refused(Refusal::NoSuchNode(node));
-    }
-    Asked {
-        outcome: QueryOutcome::Answered,
-        netlist,
-    }
-}
-
-// A query of a node.
-fn ask(bytes: &[u8], node: usize) -> Asked
-    ensures { λ r. ⌜ Asks r (queried (now (bytes .entry)) node) ⌝ }
-{
-    let progress = records::read(bytes);
-    let stage = progress.stage;
-    let netlist = progress.netlist;
-    match stage {
-        Stage::Refused(refusal) => refused(refusal),
-        Stage::Reading => refused(Refusal::NoEnd(bytes.len())),
-        Stage::Ended => of_node(netlist, node),
-    }
-}
-
-// A query of a node with an assignment or a set.
-fn ask_with(bytes: &[u8], node: usize, number: usize) -> Asked
-    ensures { λ r. ⌜ Asks r (queriedWith (now (bytes .entry)) node number) ⌝ }
-{
-    let asked = ask(bytes, node);
-    let outcome = asked.outcome;
-    let netlist = asked.netlist;
+    let file = records::read(bytes);
+    let outcome = file.outcome;
+    let netlist = file.netlist;
     let QueryOutcome::Answered = outcome else {
-        return asked;
+        return file;
+    };
+    if netlist.count <= node {
+        return records::refused(Refusal::NoSuchNode(node));
+    }
+    file
+}
+
+// The same for a query of a node with an assignment or a set.
+fn ask_with(bytes: &[u8], node: usize, number: usize) -> ReadFile
+    ensures { λ r. ⌜ Reads r (queriedWith (now (bytes .entry)) node number) ⌝ }
+{
+    let file = ask(bytes, node);
+    let outcome = file.outcome;
+    let netlist = file.netlist;
+    let QueryOutcome::Answered = outcome else {
+        return file;
     };
     if records::undeclared_bit(netlist.variables, number) {
-        return refused(Refusal::UndeclaredBit(number));
+        return records::refused(Refusal::UndeclaredBit(number));
     }
-    asked
+    file
 }
 
 // ---- the settled value
@@ -149,9 +120,9 @@ fn settled_values(netlist: Netlist, assignment: usize) -> [bool; MOST_NODES]
 pub fn settled_value(bytes: &[u8], node: usize, assignment: usize) -> ValueReply
     ensures { λ r. ⌜ valueOf r ≡ valueQuery (now (bytes .entry)) node assignment ⌝ }
 {
-    let asked = ask_with(bytes, node, assignment);
-    let outcome = asked.outcome;
-    let netlist = asked.netlist;
+    let file = ask_with(bytes, node, assignment);
+    let outcome = file.outcome;
+    let netlist = file.netlist;
     let QueryOutcome::Answered = outcome else {
         return ValueReply {
             outcome,
@@ -212,9 +183,9 @@ fn feeding_marks(netlist: Netlist, node: usize) -> [bool; MOST_NODES]
 pub fn feeding_points(bytes: &[u8], node: usize) -> FeedingReply
     ensures { λ r. ⌜ feedingOf r ≡ feedingQuery (now (bytes .entry)) node ⌝ }
 {
-    let asked = ask(bytes, node);
-    let outcome = asked.outcome;
-    let netlist = asked.netlist;
+    let file = ask(bytes, node);
+    let outcome = file.outcome;
+    let netlist = file.netlist;
     let QueryOutcome::Answered = outcome else {
         return FeedingReply {
             outcome,
@@ -250,9 +221,9 @@ fn in_families(netlist: Netlist, node: usize, set: usize) -> MembershipReply
 pub fn memberships(bytes: &[u8], node: usize, set: usize) -> MembershipReply
     ensures { λ r. ⌜ membershipOf r ≡ membershipQuery (now (bytes .entry)) node set ⌝ }
 {
-    let asked = ask_with(bytes, node, set);
-    let outcome = asked.outcome;
-    let netlist = asked.netlist;
+    let file = ask_with(bytes, node, set);
+    let outcome = file.outcome;
+    let netlist = file.netlist;
     let QueryOutcome::Answered = outcome else {
         return MembershipReply {
             outcome,

@@ -9,18 +9,17 @@ use lib.ListN.{length, getD, take, set, replicate, length-append, length-map, Li
 use lib.Seq.{append-snoc, set-append-seam, take-at}
 use Rattle.rules.specs.declared.Node.{Node}
 use Rattle.rules.specs.declared.Refusal.{Refusal}
+use Rattle.rules.specs.declared.QueryOutcome.the-variants as Query
 use Rattle.rules.specs.Records.{public, Cell, input, NOT, XOR, AND, OR, register, Netlist, WellFormed, classOf, classByte, kindOf, operands, setOf}
 use Rattle.rules.specs.Slices.{entry}
-use Rattle.rules.specs.Checks.{Outcome, answered, refused, reading, finished, read}
-use Rattle.rules.specs.Paper.{numberOf, placeOf}
+use Rattle.rules.specs.Checks.{Outcome, answered, refused, andThen, read}
+use Rattle.rules.specs.Paper.{numberOf, placeOf, queryOf}
 use Rattle.rules.proofs.Members.{all-at}
 use Rattle.rules.proofs.Records.{class-of-byte}
 use Rattle.rules.proofs.Reading.{read-well-formed}
 use Rattle.records.specs.declared.Netlist.{Netlist as Flat}
-use Rattle.records.specs.declared.Stage.{Stage}
-use Rattle.records.specs.declared.Stage.the-variants as Stage
-use Rattle.records.specs.declared.Progress.{Progress}
-use Rattle.records.specs.Netlists.{padded, blank, flatOf, Formed, RefusedAs, Reached}
+use Rattle.records.specs.declared.ReadFile.{ReadFile}
+use Rattle.records.specs.Netlists.{padded, blank, flatOf, Formed, kept, Reads}
 
 -- ---- padded lists
 
@@ -173,54 +172,36 @@ module _ {value : Flat} (f : Formed value) where
       below : (k : ℕ) → getD own k 0 < 200
       below = all-at (λ a. a < 200) own 0 (λ a t. omega (arith, f .obeys .lower i here a t, few-nodes)) (omega arith)
 
--- ---- a file that is being read
+-- ---- a file that was read
 
-module _ (s : Progress) (n : Netlist) (here : ℕ) (e : Reached s (reading n here)) where
-  pub reading-stage : s .stage ≡ Stage.Reading
-  unfolding Reached
-  reading-stage = ap (λ (p : Progress). p .stage) e
-
-  pub reading-here : s .here ≡ here
-  unfolding Reached
-  reading-here = ap (λ (p : Progress). p .here) e
-
-  pub reading-netlist : s .netlist ≡ flatOf n
-  unfolding Reached
-  reading-netlist = ap (λ (p : Progress). p .netlist) e
-
--- ---- a file that is read
-
--- the reading of a file has ended with its netlist
-pub record Ends (s : Progress) (outcome : Outcome Netlist) : Type 0 where
+-- it stands: it is answered with this netlist
+pub record Stands (file : ReadFile) (end : Outcome Netlist) : Type 0 where
   pub netlist : Netlist
-  pub is : outcome ≡ answered netlist
-  pub value : s .netlist ≡ flatOf netlist
+  pub is : end ≡ answered netlist
+  pub value : file .netlist ≡ flatOf netlist
 
-module _ (s : Progress) where
-  pub read-ended : (o : Outcome Netlist) → Reached s (finished o) → s .stage ≡ Stage.Ended → Ends s o
-  unfolding RefusedAs Reached
-  read-ended (answered n) e t = record { netlist = n; is = refl; value = ap (λ (p : Progress). p .netlist) e }
-  read-ended (refused k p) e t = absurd (subst (λ (x : Stage). RefusedAs x k p) t (e .stage))
+module _ {file : ReadFile} where
+  pub read-value : (n : Netlist) → Reads file (answered n) → file .netlist ≡ flatOf n
+  unfolding kept
+  read-value n r = r .netlist
 
-  -- which obeys the record rules
-  pub read-formed : (bytes : List ℕ) → Reached s (finished (read bytes)) → s .stage ≡ Stage.Ended → Formed (s .netlist)
-  read-formed bytes e t =
-      let ends = read-ended (read bytes) e t in record { netlist = ends .netlist; is = ends .value; obeys = read-well-formed bytes _ (ends .is) }
-
-  pub read-refused : (o : Outcome Netlist) (r : Refusal) → Reached s (finished o) → s .stage ≡ Stage.Refused r → o ≡ refused (numberOf r) (placeOf r)
-  unfolding RefusedAs Reached
-  read-refused (answered n) r e t =
-      let over : _≡_ {A = Stage} Stage.Ended (Stage.Refused r) = sym (ap (λ (p : Progress). p .stage) e) ∙ t in
+  pub read-stands : (end : Outcome Netlist) → Reads file end → file .outcome ≡ Query.Answered → Stands file end
+  unfolding andThen
+  read-stands (answered n) r o = record { netlist = n; is = refl; value = read-value n r }
+  read-stands (refused k p) r o =
+      let never = sym (ap queryOf o) ∙ r .outcome in
       let no : _≡_ {A = ℕ} 0 1 = cc in
       absurd (omega arith)
-  read-refused (refused k p) r e t =
-      let is : (numberOf r ≡ k) × (placeOf r ≡ p) = subst (λ (x : Stage). RefusedAs x k p) t (e .stage) in rw (is .0, is .1)
 
-  -- no file is still being read
-  pub read-over : (o : Outcome Netlist) → Reached s (finished o) → s .stage ≡ Stage.Reading → ⊥
-  unfolding RefusedAs Reached
-  read-over (answered n) e t =
-      let over : _≡_ {A = Stage} Stage.Ended Stage.Reading = sym (ap (λ (p : Progress). p .stage) e) ∙ t in
+  pub read-refused : (end : Outcome Netlist) (refusal : Refusal) → Reads file end → file .outcome ≡ Query.Refused refusal
+      → end ≡ refused (numberOf refusal) (placeOf refusal)
+  unfolding andThen
+  read-refused (answered n) refusal r o =
+      let never = sym (ap queryOf o) ∙ r .outcome in
       let no : _≡_ {A = ℕ} 0 1 = cc in
-      omega arith
-  read-over (refused k p) e t = subst (λ (x : Stage). RefusedAs x k p) t (e .stage)
+      absurd (omega arith)
+  read-refused (refused k p) refusal r o = let same = sym (ap queryOf o) ∙ r .outcome in cc
+
+  -- a netlist that is read obeys the record rules
+  pub read-formed : (bytes : List ℕ) → Stands file (read bytes) → Formed (file .netlist)
+  read-formed bytes s = record { netlist = s .netlist; is = s .value; obeys = read-well-formed bytes (s .netlist) (s .is) }

@@ -1,7 +1,7 @@
 -- The forms of a file that is being read, as values of this crate's types. Assumes nothing.
 use Prim.Native.Nat.{ℕ, _+_, _*_, _-_, _^_, _≤_, _<_}
 use mathlib.Core.Path.{_≡_}
-use mathlib.Core.Bool.{false}
+use mathlib.Core.Bool.{Bool, true, false}
 use mathlib.Core.List.{List, _++_, map}
 use lib.ListN.{length, getD, replicate}
 use Rattle.rules.specs.declared.Node.{Node}
@@ -10,12 +10,11 @@ use Rattle.rules.specs.Records.{Record, empty, most-variables, most-nodes, said
 use Rattle.rules.specs.Slices.{entry}
 use Rattle.rules.specs.Checks as C
 use Rattle.rules.specs.Checks.{Outcome, answered, refused, andThen, overLimit, judgedAt, reading, finished}
-use Rattle.rules.specs.Paper.{numberOf, placeOf}
+use Rattle.rules.specs.Paper.{numberOf, placeOf, queryOf}
 use Rattle.records.specs.declared.Found.{Found}
 use Rattle.records.specs.declared.Found.the-variants as Found
 use Rattle.records.specs.declared.Netlist.{Netlist}
-use Rattle.records.specs.declared.Stage.{Stage}
-use Rattle.records.specs.declared.Stage.the-variants as Stage
+use Rattle.records.specs.declared.ReadFile.{ReadFile}
 use Rattle.records.specs.declared.Progress.{Progress}
 
 -- the bytes of a record: its kind byte and the two behind it
@@ -66,27 +65,38 @@ pub record Ready (value : Netlist) (work : ℕ) : Type 0 where
   pub formed : Formed value
   pub room : 256 * value .count ≤ work
 
+-- the netlist of an outcome: the empty one on a refusal
+unfoldable pub kept : Outcome R.Netlist → R.Netlist
+kept (answered n) = n
+kept (refused k p) = empty
+
+-- what a file that was read says, where reading and what else is checked come to `end`
+pub record Reads (file : ReadFile) (end : Outcome R.Netlist) : Type 0 where
+  pub outcome : queryOf (file .outcome) ≡ andThen end (λ n. answered tt)
+  pub netlist : file .netlist ≡ flatOf (kept end)
+
 -- the record of these bytes has a kind and, where it is a variable, a class; and there is room for it behind those of a reading
 pub record RoomFor (progress : Progress) (k b c : ℕ) : Type 0 where
   pub kind : k ≤ last-kind
   pub class : k ≡ 1 → b ≤ 2
-  pub room : overLimit (progress .netlist .variables) (progress .netlist .count) (said k b c) ≡ false
+  pub room : overLimit (progress .file .netlist .variables) (progress .file .netlist .count) (said k b c) ≡ false
   pub here : progress .here + most-record < 2 ^ 64
 
--- a stage is the refusal with this number and place
-unfoldable pub RefusedAs : Stage → (number place : ℕ) → Type 0
-RefusedAs Stage.Reading k p = ⊥
-RefusedAs Stage.Ended k p = ⊥
-RefusedAs (Stage.Refused r) k p = (numberOf r ≡ k) × (placeOf r ≡ p)
+-- whether a reading is over, the offset of its next record, and what the records so far come to
+abbrev pub isOver : C.Progress → Bool
+isOver (reading n here) = false
+isOver (finished outcome) = true
 
--- a reading that ended so keeps nothing
-pub record RefusedWith (s : Progress) (number place : ℕ) : Type 0 where
-  pub stage : RefusedAs (s .stage) number place
-  pub here : s .here ≡ 0
-  pub netlist : s .netlist ≡ flatOf empty
+abbrev pub offsetOf : C.Progress → ℕ
+offsetOf (reading n here) = here
+offsetOf (finished outcome) = 0
+
+abbrev pub soFar : C.Progress → Outcome R.Netlist
+soFar (reading n here) = answered n
+soFar (finished outcome) = outcome
 
 -- how far the reading of a file has come
-unfoldable pub Reached : Progress → C.Progress → Type 0
-Reached s (reading n here) = s ≡ record { stage = Stage.Reading; here = here; netlist = flatOf n }
-Reached s (finished (answered n)) = s ≡ record { stage = Stage.Ended; here = 0; netlist = flatOf n }
-Reached s (finished (refused k p)) = RefusedWith s k p
+pub record Reached (s : Progress) (p : C.Progress) : Type 0 where
+  pub over : s .over ≡ isOver p
+  pub here : s .here ≡ offsetOf p
+  pub file : Reads (s .file) (soFar p)

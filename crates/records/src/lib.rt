@@ -7,17 +7,18 @@ ghost use lib.ListN.{getD};
 ghost use Rattle.rules.specs.Records.{Cell, Class, said, size, node, classByte, empty, withVariable, withNode, most-variables, most-nodes, last-kind, most-record};
 ghost use Rattle.rules.specs.Records as Records;
 ghost use Rattle.rules.specs.Slices.{entry};
-ghost use Rattle.rules.specs.Checks.{answered, undeclared, judgedRecord, finished, taken, step};
+ghost use Rattle.rules.specs.Checks.{undeclared, judgedRecord, taken, step, outcomeOf};
 ghost use Rattle.rules.specs.Checks as Checks;
 ghost use Rattle.rules.specs.Paper.{numberOf, placeOf};
-ghost use Rattle.records.specs.Netlists.{foundOf, foundIf, foundAt, flatOf, RoomFor, Reached};
+ghost use Rattle.records.specs.Netlists.{foundOf, foundIf, foundAt, flatOf, Reads, RoomFor, Reached};
 use rules::MOST_NODES;
 use rules::MOST_VARIABLES;
 use rules::Node;
+use rules::QueryOutcome;
 use rules::Refusal;
 
 // No more records than the variables and nodes there may be, and the end.
-const MOST_RECORDS: usize = 211;
+const MOST_RECORDS: usize = MOST_VARIABLES + MOST_NODES + 1;
 
 // What taking one record finds: its kind and the two bytes behind it, which a shorter body leaves unused; or a refusal.
 pub enum Found {
@@ -33,19 +34,18 @@ pub struct Netlist {
     pub nodes: [Node; MOST_NODES],
 }
 
-// How far a file is read: to its next record, to its end record, or to a refusal.
-pub enum Stage {
-    Reading,
-    Ended,
-    Refused(Refusal),
+// A file that was read: whether it is answered or refused, and its netlist by value, the empty one on a refusal.
+pub struct ReadFile {
+    pub outcome: QueryOutcome,
+    pub netlist: Netlist,
 }
 
-// The stage, the offset of the next record (0 once the reading is over) and the netlist so far (an empty one on a
-// refusal).
-pub struct Progress {
-    pub stage: Stage,
-    pub here: usize,
-    pub netlist: Netlist,
+// How far a file is read: whether the reading is over, the offset of the next record (0 once it is over), and what the
+// records so far come to.
+struct Progress {
+    over: bool,
+    here: usize,
+    file: ReadFile,
 }
 
 // The netlist bytes together with the offset of the next record.
@@ -339,14 +339,22 @@ fn size_of(k: u8) -> usize
     3
 }
 
-// A refusal ends the reading.
-fn refused(refusal: Refusal) -> Progress
-    ensures { λ r. ⌜ ((n : Records.Netlist) (here : ℕ) →
-        Reached r (taken n here (Checks.refused (numberOf refusal) (placeOf refusal)))) ⌝ }
+// A file that is answered with this netlist.
+fn answered(netlist: Netlist) -> ReadFile
+    ensures { λ r. ⌜ ((n : Records.Netlist) → netlist ≡ flatOf n → Reads r (Checks.answered n)) ⌝ }
 {
-    Progress {
-        stage: Stage::Refused(refusal),
-        here: 0,
+    ReadFile {
+        outcome: QueryOutcome::Answered,
+        netlist,
+    }
+}
+
+// A file that is refused.
+pub fn refused(refusal: Refusal) -> ReadFile
+    ensures { λ r. ⌜ Reads r (Checks.refused (numberOf refusal) (placeOf refusal)) ⌝ }
+{
+    ReadFile {
+        outcome: QueryOutcome::Refused(refusal),
         netlist: no_records(),
     }
 }
@@ -356,28 +364,29 @@ fn refused(refusal: Refusal) -> Progress
 fn with_record(progress: Progress, k: u8, b: u8, c: u8) -> Progress
     requires { ⌜ RoomFor progress k b c ⌝ }
     ensures { λ r. ⌜ ((n : Records.Netlist) (here : ℕ) → Reached progress (Checks.reading n here) →
-        Reached r (taken n here (answered (said k b c)))) ⌝ }
+        Reached r (taken n here (Checks.answered (said k b c)))) ⌝ }
 {
-    let netlist = progress.netlist;
+    let file = progress.file;
     if k == 0 {
         return Progress {
-            stage: Stage::Ended,
+            over: true,
             here: 0,
-            netlist,
+            file,
         };
     }
     let here = progress.here + size_of(k);
+    let netlist = file.netlist;
     if k == 1 {
         return Progress {
-            stage: Stage::Reading,
+            over: false,
             here,
-            netlist: with_variable(netlist, b),
+            file: answered(with_variable(netlist, b)),
         };
     }
     Progress {
-        stage: Stage::Reading,
+        over: false,
         here,
-        netlist: with_node(netlist, entry_of(k, b, c)),
+        file: answered(with_node(netlist, entry_of(k, b, c))),
     }
 }
 
@@ -385,33 +394,45 @@ fn with_record(progress: Progress, k: u8, b: u8, c: u8) -> Progress
 fn take_record(bytes: &[u8], progress: Progress) -> Progress
     ensures { λ r. ⌜ ((p : Checks.Progress) → Reached progress p → Reached r (step (now (bytes .entry)) p)) ⌝ }
 {
-    let stage = progress.stage;
-    let Stage::Reading = stage else {
+    if progress.over {
         return progress;
-    };
+    }
     let here = progress.here;
-    let netlist = progress.netlist;
-    let variables = netlist.variables;
-    let count = netlist.count;
-    match next_record(bytes, here, variables, count) {
-        Found::Refused(refusal) => refused(refusal),
+    let file = progress.file;
+    let netlist = file.netlist;
+    match next_record(bytes, here, netlist.variables, netlist.count) {
+        Found::Refused(refusal) => Progress {
+            over: true,
+            here: 0,
+            file: refused(refusal),
+        },
         Found::Record(k, b, c) => with_record(progress, k, b, c),
     }
 }
 
+// What a reading comes to. One that is not over has met no end record.
+fn outcome_of(bytes: &[u8], progress: Progress) -> ReadFile
+    ensures { λ r. ⌜ ((p : Checks.Progress) → Reached progress p → Reads r (outcomeOf (now (bytes .entry)) p)) ⌝ }
+{
+    if progress.over {
+        return progress.file;
+    }
+    refused(Refusal::NoEnd(bytes.len()))
+}
+
 // Reads a whole file: its netlist, or the refusal.
-pub fn read(bytes: &[u8]) -> Progress
-    ensures { λ r. ⌜ Reached r (finished (Checks.read (now (bytes .entry)))) ⌝ }
+pub fn read(bytes: &[u8]) -> ReadFile
+    ensures { λ r. ⌜ Reads r (Checks.read (now (bytes .entry))) ⌝ }
 {
     let mut progress = Progress {
-        stage: Stage::Reading,
+        over: false,
         here: 0,
-        netlist: no_records(),
+        file: answered(no_records()),
     };
     let mut records: usize = 0;
     while records < MOST_RECORDS {
         progress = take_record(bytes, progress);
         records += 1;
     }
-    progress
+    outcome_of(bytes, progress)
 }

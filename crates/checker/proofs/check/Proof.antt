@@ -48,13 +48,13 @@ use Rattle.rules.specs.Slices.{nodesAfter, workAfter, reply}
 use Rattle.rules.specs.Checks.{admitted}
 use Rattle.rules.specs.Demands.{GlitchClear, NothingSuspect, OneProbe}
 use Rattle.rules.specs.Paper.{replyOf}
-use Rattle.records.specs.Netlists.{flatOf}
+use Rattle.records.specs.Netlists.{flatOf, kept}
 use Rattle.records.specs.declared.Netlist.{Netlist}
 use Rattle.rules.proofs.Node as T
 use Rattle.rules.proofs.Reply as R
 use Rattle.rules.proofs.Reply.Laws as R′
 use Rattle.checker.specs.declared.Examined.{Examined}
-use Rattle.checker.specs.Work.{kept, stored}
+use Rattle.checker.specs.Work.{stored}
 use Rattle.checker.proofs.Examined as E
 use Rattle.checker.proofs.Examined.Laws as E′
 use Rattle.checker.proofs.Stored.{kept-fits, kept-stored}

@@ -4,7 +4,8 @@ use borrow.Author.Needs.{needs}
 use lib.ListN.{replicate}
 use Rattle.rules.specs.Queries.{feedingQuery}
 use Rattle.rules.proofs.Packing.{tabulate-constant}
-use Rattle.queries.proofs.Asking.{asked-stands, given-refused, given-answered, stands-formed, stands-node}
+use Rattle.records.proofs.Netlists.{read-stands}
+use Rattle.queries.proofs.Asking.{given-refused, given-answered, stands-formed, stands-node}
 use Rattle.queries.proofs.feeding_points.Statement.{statement}
 use Rattle.queries.proofs.feeding_points.Tie as tie
 
@@ -24,14 +25,14 @@ returns c =
 
 feeding-marks-requires : tie.Need-feeding-marks-requires
 feeding-marks-requires c κs =
-    let s = asked-stands _ (c .before .before .before .ask .ensures) (c .enum-told .given .1) in
+    let s = read-stands _ (c .before .before .before .ask .ensures) (c .enum-told .given .1) in
     (stands-formed _ _ s, stands-node _ _ s)
 
 returns-2 : tie.Need-returns-2
 unfolding feedingQuery
 returns-2 c =
     let told = c .before in
-    let s = asked-stands _ (told .before .before .before .ask .ensures) (told .enum-told .given .1) in
+    let s = read-stands _ (told .before .before .before .ask .ensures) (told .enum-told .given .1) in
     given-answered _ _ _ s _ _ (told .enum-told .given .1) (c .feeding-marks .ensures (s .netlist) (s .value))
 
 pub feeding-points-spec : {M : Type 1} → statement M

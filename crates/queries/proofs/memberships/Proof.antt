@@ -1,7 +1,8 @@
 -- `queries::memberships` meets its contract: a refused query gives no for both, and of one that stands both are looked up. Assumes nothing.
 use borrow.Author.Needs.{needs}
 use Rattle.rules.specs.Queries.{membershipQuery}
-use Rattle.queries.proofs.Asking.{asked-stands, given-refused, given-answered, stands-formed, stands-node, stands-with, stands-number}
+use Rattle.records.proofs.Netlists.{read-stands}
+use Rattle.queries.proofs.Asking.{given-refused, given-answered, stands-formed, stands-node, stands-with, stands-number}
 use Rattle.queries.proofs.memberships.Statement.{statement}
 use Rattle.queries.proofs.memberships.Tie as tie
 
@@ -20,7 +21,7 @@ returns c = given-refused _ _ _ _ (c .before .before .before .ask-with .ensures)
 
 in-families-requires : tie.Need-in-families-requires
 in-families-requires c κs =
-    let s = asked-stands _ (c .before .before .before .ask-with .ensures) (c .enum-told .given .1) in
+    let s = read-stands _ (c .before .before .before .ask-with .ensures) (c .enum-told .given .1) in
     let w = stands-with _ _ _ s in
     (stands-formed _ _ w, stands-node _ _ w, stands-number _ _ _ s)
 
@@ -28,7 +29,7 @@ returns-2 : tie.Need-returns-2
 unfolding membershipQuery
 returns-2 c =
     let told = c .before in
-    let s = asked-stands _ (told .before .before .before .ask-with .ensures) (told .enum-told .given .1) in
+    let s = read-stands _ (told .before .before .before .ask-with .ensures) (told .enum-told .given .1) in
     let both = c .in-families .ensures (s .netlist) (s .value) in
     given-answered _ _ _ s _ _ (both .0) (rw (both .1, both .2))
 

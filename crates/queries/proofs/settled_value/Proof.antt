@@ -9,8 +9,8 @@ use borrow.Author.Needs.{needs}
 use lib.ListN.{getD}
 use Rattle.rules.specs.Queries.{valueQuery}
 use Rattle.records.specs.Netlists.{padded}
-use Rattle.records.proofs.Netlists.{padded-same, few-nodes}
-use Rattle.queries.proofs.Asking.{asked-stands, given-refused, given-answered, stands-formed, stands-node, stands-with}
+use Rattle.records.proofs.Netlists.{padded-same, few-nodes, read-stands}
+use Rattle.queries.proofs.Asking.{given-refused, given-answered, stands-formed, stands-node, stands-with}
 use Rattle.queries.proofs.settled_value.Statement.{statement}
 use Rattle.queries.proofs.settled_value.Tie as tie
 
@@ -32,19 +32,19 @@ returns c = given-refused _ _ _ _ (c .before .before .before .ask-with .ensures)
 
 settled-values-requires : tie.Need-settled-values-requires
 settled-values-requires c κs =
-    stands-formed _ _ (stands-with _ _ _ (asked-stands _ (c .before .before .before .ask-with .ensures) (c .enum-told .given .1)))
+    stands-formed _ _ (stands-with _ _ _ (read-stands _ (c .before .before .before .ask-with .ensures) (c .enum-told .given .1)))
 
 array-read-t11 : tie.Need-array-read-t11
 array-read-t11 c =
     let told = c .before in
-    let s = stands-with _ _ _ (asked-stands _ (told .before .before .before .ask-with .ensures) (told .enum-told .given .1)) in
+    let s = stands-with _ _ _ (read-stands _ (told .before .before .before .ask-with .ensures) (told .enum-told .given .1)) in
     omega (arith, stands-node _ _ s, few-nodes (stands-formed _ _ s))
 
 returns-2 : tie.Need-returns-2
 unfolding valueQuery
 returns-2 c =
     let told = c .before in
-    let s = asked-stands _ (told .before .before .before .ask-with .ensures) (told .enum-told .given .1) in
+    let s = read-stands _ (told .before .before .before .ask-with .ensures) (told .enum-told .given .1) in
     given-answered _ _ _ s _ _ (told .enum-told .given .1) (value-at _ _ _ (c .settled-values .ensures (s .netlist) (s .value)))
 
 pub settled-value-spec : {M : Type 1} → statement M

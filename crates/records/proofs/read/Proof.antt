@@ -1,12 +1,11 @@
 -- `records::read` meets its contract. The loop's invariant: the progress is that of the rules after as many records as were taken, at most 211.
--- No file is still being read then. The measure is what is left of them. Assumes nothing.
+-- The measure is what is left of them. What it comes to is the outcome of the rules' own progress. Assumes nothing.
 use Prim.Native.Nat.{_-_, _≤_}
-use mathlib.Core.Path.{_≡_, subst, ap, _∙_}
+use mathlib.Core.Path.{_≡_, refl}
 use native.Mathlib.Numerals.{add-one}
 use native.Mathlib.Omega.{arith}
 use borrow.Author.Needs.{needs}
-use Rattle.rules.specs.Checks.{after, most-records}
-use Rattle.rules.proofs.Reading.{always-finished}
+use Rattle.rules.specs.Checks.{after, most-records, read}
 use Rattle.records.specs.Netlists.{Reached}
 use Rattle.records.proofs.read.Statement.{statement}
 use Rattle.records.proofs.read.Tie as tie
@@ -20,9 +19,12 @@ abbrev μ-loop : tie.MeasureT-loop
 no-records-requires : tie.Need-no-records-requires Inv-loop μ-loop
 no-records-requires c κs = search needs
 
+answered-requires : tie.Need-answered-requires Inv-loop μ-loop
+answered-requires c κs = search needs
+
 loop-holds : tie.Need-loop-holds Inv-loop μ-loop
-unfolding after Reached
-loop-holds c = (omega arith, rw (c .no-records .ensures))
+unfolding after
+loop-holds c = (omega arith, record { over = refl; here = refl; file = c .answered .ensures _ (c .before .no-records .ensures) })
 
 take-record-requires : tie.Need-take-record-requires Inv-loop μ-loop
 take-record-requires c κs = search needs
@@ -37,10 +39,14 @@ loop-again : tie.Need-loop-again Inv-loop μ-loop
 unfolding after
 loop-again c = (omega arith, rw add-one (c .take-record .ensures _ (c .before .before .loop .inv .1)))
 
+outcome-of-requires : tie.Need-outcome-of-requires Inv-loop μ-loop
+outcome-of-requires c κs = search needs
+
 returns : tie.Need-returns Inv-loop μ-loop
+unfolding read
 returns c =
-    let all : c .before .loop .records ≡ most-records = omega arith in
-    subst (Reached (c .before .loop .progress)) (ap (after _) all ∙ always-finished _) (c .before .loop .inv .1)
+    let all : c .before .before .loop .records ≡ most-records = omega arith in
+    rw all at (c .outcome-of .ensures _ (c .before .before .loop .inv .1))
 
 pub read-spec : {M : Type 1} → statement M
 read-spec =
@@ -49,9 +55,11 @@ read-spec =
     Inv-loop
     μ-loop
     no-records-requires
+    answered-requires
     loop-holds
     take-record-requires
     add-records
     loop-less
     loop-again
+    outcome-of-requires
     returns)

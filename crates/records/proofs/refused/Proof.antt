@@ -1,8 +1,8 @@
 -- `records::refused` meets its contract: field by field. Assumes nothing.
 use mathlib.Core.Path.{refl}
 use borrow.Author.Needs.{needs}
-use Rattle.rules.specs.Checks.{taken}
-use Rattle.records.specs.Netlists.{RefusedAs, Reached}
+use Rattle.rules.specs.Checks.{andThen}
+use Rattle.records.specs.Netlists.{kept}
 use Rattle.records.proofs.refused.Statement.{statement}
 use Rattle.records.proofs.refused.Tie as tie
 
@@ -10,8 +10,8 @@ no-records-requires : tie.Need-no-records-requires
 no-records-requires c κs = search needs
 
 returns : tie.Need-returns
-unfolding taken Reached RefusedAs
-returns c n here = record { stage = (refl, refl); here = refl; netlist = c .no-records .ensures }
+unfolding andThen kept
+returns c = record { outcome = refl; netlist = c .no-records .ensures }
 
 pub refused-spec : {M : Type 1} → statement M
 refused-spec = tie.close (tie.spec no-records-requires returns)

@@ -1,8 +1,8 @@
 -- `records::take_record` meets its contract: what is over stays, and what is read takes the record that the rules take there. Assumes nothing.
 use Prim.Native.Nat.{ℕ, _^_, _<_}
 use mathlib.Core.Path.{_≡_, refl, sym, ap, subst, _∙_}
+use mathlib.Core.Bool.{true, false}
 use mathlib.Core.List.{List}
-use mathlib.Core.Logic.{⊎-elim}
 use native.Mathlib.Omega.{arith}
 use lib.ListN.{length}
 use borrow.Author.Needs.{needs}
@@ -12,11 +12,9 @@ use Rattle.rules.specs.Checks as C
 use Rattle.rules.specs.Checks.{Outcome, answered, refused, andThen, judgedRecord, judgedAt, recordAt, reading, finished, taken, step}
 use Rattle.rules.proofs.Records.{passes, answer}
 use Rattle.records.specs.declared.Found.the-variants as Found
-use Rattle.records.specs.declared.Stage.{Stage}
-use Rattle.records.specs.declared.Stage.the-variants as Stage
 use Rattle.records.specs.declared.Progress.{Progress}
-use Rattle.records.specs.Netlists.{RecordBytes, foundOf, foundIf, foundAt, flatOf, RoomFor, RefusedAs, Reached}
-use Rattle.records.proofs.Netlists.{reading-stage, reading-here, reading-netlist}
+use Rattle.records.specs.Netlists.{RecordBytes, foundOf, foundIf, foundAt, flatOf, RoomFor, Reached}
+use Rattle.records.proofs.Netlists.{read-value}
 use Rattle.records.proofs.take_record.Statement.{statement}
 use Rattle.records.proofs.take_record.Tie as tie
 
@@ -35,7 +33,7 @@ found-refusal (refused i p) k b c number place e = cc
 
 -- a record that they accept has a kind, a class and room
 judged-room : (total : ℕ) (s : Progress) (k b c : ℕ) → total < 2 ^ 63
-    → judgedRecord total (s .netlist .variables) (s .netlist .count) (s .here) k b c ≡ answered (said k b c) → RoomFor s k b c
+    → judgedRecord total (s .file .netlist .variables) (s .file .netlist .count) (s .here) k b c ≡ answered (said k b c) → RoomFor s k b c
 unfolding judgedRecord said
 judged-room total s k b c short e =
     let p = passes _ _ _ e in
@@ -49,42 +47,35 @@ judged-room total s k b c short e =
 
 -- so has one that is found in a file, and what it says is what they judge there
 module _ (bytes : List ℕ) (s : Progress) (k b c : ℕ)
-    (found : foundOf (Found.Record k b c) ≡ foundAt bytes (s .netlist .variables) (s .netlist .count) (s .here)) where
+    (found : foundOf (Found.Record k b c) ≡ foundAt bytes (s .file .netlist .variables) (s .file .netlist .count) (s .here)) where
   found-room : length bytes < 2 ^ 63 → RoomFor s k b c
   found-room short =
       let (judged, same) = found-record _ _ _ _ _ _ _ _ _ refl found in
       subst (λ (x : RecordBytes). RoomFor s (x .kind) (x .first) (x .second)) (sym same) (judged-room _ s _ _ _ short judged)
 
-  found-judged : answered (said k b c) ≡ judgedAt bytes (s .netlist .variables) (s .netlist .count) (s .here)
+  found-judged : answered (said k b c) ≡ judgedAt bytes (s .file .netlist .variables) (s .file .netlist .count) (s .here)
   found-judged =
       let (judged, same) = found-record _ _ _ _ _ _ _ _ _ refl found in
       ap (λ (x : RecordBytes). answered (said (x .kind) (x .first) (x .second))) same ∙ sym judged
 
 module _ (bytes : List ℕ) (s : Progress) where
   -- a reading that is over stays
-  stays : ((n : Netlist) (here : ℕ) → Reached s (reading n here) → ⊥) → (p : C.Progress) → Reached s p → Reached s (step bytes p)
+  stays : s .over ≡ true → (p : C.Progress) → Reached s p → Reached s (step bytes p)
   unfolding step
-  stays over (reading n here) e = absurd (over n here e)
+  stays over (reading n here) e = let no : _≡_ {A = ℕ} 0 1 = cc in absurd (omega arith)
   stays over (finished o) e = e
 
   -- one that goes on takes the record at its offset
-  goes-on : (r : Progress) (o : Outcome Record) → s .stage ≡ Stage.Reading → o ≡ judgedAt bytes (s .netlist .variables) (s .netlist .count) (s .here)
+  goes-on : (r : Progress) (o : Outcome Record) → s .over ≡ false → o ≡ judgedAt bytes (s .file .netlist .variables) (s .file .netlist .count) (s .here)
       → ((n : Netlist) (here : ℕ) → Reached s (reading n here) → Reached r (taken n here o)) → (p : C.Progress) → Reached s p → Reached r (step bytes p)
-  unfolding step recordAt flatOf RefusedAs Reached
+  unfolding step recordAt flatOf
   goes-on r o on found next (reading n here) e =
-      let same = rw (reading-netlist s n here e, reading-here s n here e) at found in
+      let same = rw (read-value n (e .file), e .here) at found in
       subst (λ (q : Outcome Record). Reached r (taken n here q)) same (next n here e)
-  goes-on r o on found next (finished (answered n)) e =
-      let over : _≡_ {A = Stage} Stage.Reading Stage.Ended = sym on ∙ ap (λ (q : Progress). q .stage) e in
-      let no : _≡_ {A = ℕ} 0 1 = cc in
-      absurd (omega arith)
-  goes-on r o on found next (finished (refused k p)) e = absurd (subst (λ (t : Stage). RefusedAs t k p) on (e .stage))
-
-enum-told : tie.Need-enum-told
-enum-told c = search needs
+  goes-on r o on found next (finished end) e = let no : _≡_ {A = ℕ} 0 1 = cc in absurd (omega arith)
 
 returns : tie.Need-returns
-returns c = stays _ _ (λ n here e. ⊎-elim (λ t. omega arith) (λ t. omega arith) (rw (reading-stage _ n here e) at (c .match .keys2)))
+returns c = stays _ _ (c .if1 .taken)
 
 next-record-requires : tie.Need-next-record-requires
 next-record-requires c κs = search needs
@@ -105,30 +96,23 @@ with-record-requires c κs =
     found-room (start .args .bytes .now) (start .args .progress) _ _ _ found (omega (arith, start .good))
 
 returns-2 : tie.Need-returns-2
+unfolding taken
 returns-2 c =
-    let args = c .before .before .before .before .before .before .before .before .before .args in
-    let bytes = args .bytes .now in
-    let progress = args .progress in
+    let on = c .before .before .before .before .before .before .before .if1 .left in
     let found = ap foundOf (sym (c .before .before .refusal .given .1)) ∙ c .before .before .before .before .next-record .ensures in
-    goes-on bytes progress _ _ (c .before .before .before .before .before .before .enum-told .given .1)
-    (found-refusal _ _ _ _ _ _ found)
-    (λ n here e. c .refused .ensures n here)
+    goes-on _ _ _ _ on (found-refusal _ _ _ _ _ _ found) (λ n here e. record { over = refl; here = refl; file = c .refused .ensures })
 
 returns-3 : tie.Need-returns-3
 returns-3 c =
     let args = c .before .before .before .before .before .before .before .before .before .args in
-    let bytes = args .bytes .now in
-    let progress = args .progress in
+    let on = c .before .before .before .before .before .before .before .if1 .left in
     let found = ap foundOf (sym (c .before .before .k .given .1)) ∙ c .before .before .before .before .next-record .ensures in
-    goes-on bytes progress _ _ (c .before .before .before .before .before .before .enum-told .given .1)
-    (found-judged bytes progress _ _ _ found)
-    (c .with-record .ensures)
+    goes-on _ _ _ _ on (found-judged (args .bytes .now) (args .progress) _ _ _ found) (c .with-record .ensures)
 
 pub take-record-spec : {M : Type 1} → statement M
 take-record-spec =
     tie.close
     (tie.spec
-    enum-told
     returns
     next-record-requires
     enum-known-refusal
