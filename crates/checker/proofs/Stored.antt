@@ -1,6 +1,6 @@
 -- The records that are stored at the front of a slice: those of a netlist by value are the entries of its nodes, and so the slice holds
 -- what the rules say it holds at exit. By recursion on the number of records. Assumes nothing.
-use Prim.Native.Nat.{ℕ, zero, suc, _+_, _<_, _≤_, zero-le}
+use Prim.Native.Nat.{ℕ, zero, suc, _+_, _≤_, zero-le}
 use mathlib.Core.Path.{_≡_, refl, sym, _∙_, ap, subst}
 use mathlib.Core.List.{List, _++_, map}
 use native.Mathlib.Nat.{zero-add, le-add-right}

@@ -10,6 +10,7 @@ use Rattle.rules.specs.Slices.{workBytes, filled}
 use Rattle.rules.specs.Checks.{Outcome, answered, andThen}
 use Rattle.rules.specs.Paper.{replyOf}
 use Rattle.records.specs.Netlists.{blank, flatOf}
+-- what is kept of an outcome, for whoever cites the contracts
 unfoldable pub use Rattle.records.specs.Netlists.{kept}
 use Rattle.checker.specs.declared.Examined.{Examined}
 

@@ -1,7 +1,7 @@
 -- The way to a query's reply: one check more of a file that was read, what is given where a query is refused and where it stands, and what is
 -- known of the netlist, the node and the number of a query that stands. Assumes nothing.
 use Prim.Native.Nat.{ℕ, _^_, _≤_, _<_}
-use mathlib.Core.Path.{_≡_, refl, sym, ap, _∙_}
+use mathlib.Core.Path.{_≡_, refl, ap}
 use mathlib.Core.Bool.{true, false}
 use mathlib.Core.List.{List, [], _∷_}
 use native.Mathlib.Omega.{arith}

@@ -1,5 +1,6 @@
 -- Netlists by value: a store behind the entries is one entry more, each entry stands in the flat form, and no two netlists have the same one. By laws
--- of padded lists of any length, so that no array is unfolded. Assumes nothing.
+-- of padded lists of any length, so that no array is unfolded. And what follows of a file that was read where it is answered, and where it is
+-- refused. Assumes nothing.
 use Prim.Native.Nat.{ℕ, zero, suc, _-_, _≤_, _<_}
 use mathlib.Core.Path.{_≡_, refl, sym, ap, subst, _∙_}
 use mathlib.Core.List.{List, [], _∷_, _++_, map, map-append}
@@ -37,7 +38,7 @@ module _ {ℓ} {A : Type ℓ} (k : ℕ) (rest : A) where
       let after : k - length (xs ++ (v ∷ [])) ≡ left = omega (arith, length-append xs (v ∷ [])) in
       rw (before, after) (set-append-seam xs rest (replicate left rest) v ∙ sym (append-snoc xs v (replicate left rest)))
 
-  pub padded-at : (xs : List A) (i : ℕ) (d : A) → i < length xs → getD (padded k rest xs) i d ≡ getD xs i d
+  padded-at : (xs : List A) (i : ℕ) (d : A) → i < length xs → getD (padded k rest xs) i d ≡ getD xs i d
   unfolding padded
   padded-at xs i d h = List·getD-append xs (replicate (k - length xs) rest) d i h
 
@@ -174,34 +175,30 @@ module _ {value : Flat} (f : Formed value) where
 
 -- ---- a file that was read
 
--- it stands: it is answered with this netlist
+-- it stands, with this netlist
 pub record Stands (file : ReadFile) (end : Outcome Netlist) : Type 0 where
   pub netlist : Netlist
   pub is : end ≡ answered netlist
   pub value : file .netlist ≡ flatOf netlist
 
 module _ {file : ReadFile} where
+  -- its netlist by value
   pub read-value : (n : Netlist) → Reads file (answered n) → file .netlist ≡ flatOf n
   unfolding kept
   read-value n r = r .netlist
 
+  -- it is answered, and so stands; or it is refused
   pub read-stands : (end : Outcome Netlist) → Reads file end → file .outcome ≡ Query.Answered → Stands file end
   unfolding andThen
   read-stands (answered n) r o = record { netlist = n; is = refl; value = read-value n r }
-  read-stands (refused k p) r o =
-      let never = sym (ap queryOf o) ∙ r .outcome in
-      let no : _≡_ {A = ℕ} 0 1 = cc in
-      absurd (omega arith)
+  read-stands (refused k p) r o = let no : _≡_ {A = ℕ} 0 1 = cc (ap queryOf o) in absurd (omega arith)
 
   pub read-refused : (end : Outcome Netlist) (refusal : Refusal) → Reads file end → file .outcome ≡ Query.Refused refusal
       → end ≡ refused (numberOf refusal) (placeOf refusal)
   unfolding andThen
-  read-refused (answered n) refusal r o =
-      let never = sym (ap queryOf o) ∙ r .outcome in
-      let no : _≡_ {A = ℕ} 0 1 = cc in
-      absurd (omega arith)
-  read-refused (refused k p) refusal r o = let same = sym (ap queryOf o) ∙ r .outcome in cc
+  read-refused (answered n) refusal r o = cc (ap queryOf o)
+  read-refused (refused k p) refusal r o = cc (ap queryOf o)
 
-  -- a netlist that is read obeys the record rules
+  -- the netlist of a file that is read obeys the record rules
   pub read-formed : (bytes : List ℕ) → Stands file (read bytes) → Formed (file .netlist)
   read-formed bytes s = record { netlist = s .netlist; is = s .value; obeys = read-well-formed bytes (s .netlist) (s .is) }

@@ -1,4 +1,4 @@
--- The forms of a file that is being read, as values of this crate's types. Assumes nothing.
+-- A file that is being read, and one that was read, as values of this crate's types. Cited by its contracts and its callers'. Assumes nothing.
 use Prim.Native.Nat.{ℕ, _+_, _*_, _-_, _^_, _≤_, _<_}
 use mathlib.Core.Path.{_≡_}
 use mathlib.Core.Bool.{Bool, true, false}
@@ -65,12 +65,12 @@ pub record Ready (value : Netlist) (work : ℕ) : Type 0 where
   pub formed : Formed value
   pub room : 256 * value .count ≤ work
 
--- the netlist of an outcome: the empty one on a refusal
+-- the netlist that is kept of an outcome: the empty one on a refusal
 unfoldable pub kept : Outcome R.Netlist → R.Netlist
 kept (answered n) = n
 kept (refused k p) = empty
 
--- what a file that was read says, where reading and what else is checked come to `end`
+-- a file that was read, where reading and the checks after it come to `end`: answered or refused, with number and place, and the netlist that is kept
 pub record Reads (file : ReadFile) (end : Outcome R.Netlist) : Type 0 where
   pub outcome : queryOf (file .outcome) ≡ andThen end (λ n. answered tt)
   pub netlist : file .netlist ≡ flatOf (kept end)

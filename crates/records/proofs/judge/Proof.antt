@@ -1,5 +1,7 @@
 -- `records::judge` meets its contract: outside the file and above kind 7 by the first two rows of the table, else by what the function for
 -- the kind ensures. Assumes nothing.
+use Prim.Native.Nat.{_≤_}
+use native.Mathlib.Omega.{arith}
 use borrow.Author.Needs.{needs}
 use borrow.Author.Tests.{lt-ltb, le-leb, lt-leb}
 use mathlib.Core.Logic.{inl, inr}
@@ -10,7 +12,7 @@ use Rattle.records.proofs.judge.Tie as tie
 
 returns : tie.Need-returns
 unfolding foundIf andThen judgedRecord judged
-returns c = rw (le-leb _ _ (c .if1 .taken))
+returns c = let over : c .before .args .total ≤ c .before .args .here = omega arith in rw (le-leb _ _ over)
 
 judge-end-requires : tie.Need-judge-end-requires
 judge-end-requires c κs = search needs
