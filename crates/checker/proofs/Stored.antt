@@ -9,7 +9,7 @@ use native.Mathlib.Numerals.{add-one}
 use lib.ListN.{length, getD, take, drop, set, length-set, length-append, length-map}
 use lib.Seq.{take-append-seam, paste-suc}
 use Rattle.rules.specs.declared.Node.{Node}
-use Rattle.rules.specs.Records.{Netlist, empty}
+use Rattle.rules.specs.Records.{Netlist, empty, most-nodes}
 use Rattle.rules.specs.Slices.{entry, filled, nodesAfter}
 use Rattle.rules.specs.Checks.{Outcome, answered, refused, admitted}
 use Rattle.rules.proofs.Reading.{read-well-formed}
@@ -57,11 +57,11 @@ flat-stored n before enough =
 
 -- the count of what is kept
 pub kept-fits : (bytes : List ℕ) (entries work : ℕ)
-    → (flatOf (kept (admitted bytes entries work)) .count ≤ entries) × (flatOf (kept (admitted bytes entries work)) .count ≤ 200)
+    → (flatOf (kept (admitted bytes entries work)) .count ≤ entries) × (flatOf (kept (admitted bytes entries work)) .count ≤ most-nodes)
 unfolding flatOf kept
 kept-fits bytes entries work = go (admitted bytes entries work) refl
   where
-    go : (o : Outcome Netlist) → admitted bytes entries work ≡ o → (flatOf (kept o) .count ≤ entries) × (flatOf (kept o) .count ≤ 200)
+    go : (o : Outcome Netlist) → admitted bytes entries work ≡ o → (flatOf (kept o) .count ≤ entries) × (flatOf (kept o) .count ≤ most-nodes)
     go (answered n) e =
         let says = admitted-says bytes entries work n e in
         (says .room .enough-entries, read-well-formed bytes n (says .is-read) .few-nodes)

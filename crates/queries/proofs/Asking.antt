@@ -8,7 +8,7 @@ use native.Mathlib.Omega.{arith}
 use borrow.Author.Tests.{leb-false}
 use lib.ListN.{length}
 use lib.Pow.{pow-mono}
-use Rattle.rules.specs.Records.{Netlist}
+use Rattle.rules.specs.Records.{Netlist, most-variables, most-sets}
 use Rattle.rules.specs.Checks.{Outcome, answered, refused, andThen, Check, check, judged, undeclared, read, nodeCheck, numberCheck, queried, queriedWith}
 use Rattle.rules.specs.Queries.{given}
 use Rattle.rules.specs.Paper.{queryOf}
@@ -108,11 +108,11 @@ module _ (bytes : List ℕ) (i : ℕ) where
       pub stands-with : Stands file (queried bytes i)
       stands-with = stood file (queried bytes i) (numberCheck x) behind
 
-      pub stands-number : x < 1024
+      pub stands-number : x < most-sets
       unfolding numberCheck undeclared
       stands-number =
           let low : x < 2 ^ length (behind .netlist .variables) = leb-false _ _ (not-refused file (queried bytes i) (numberCheck x) behind) in
-          let few : length (behind .netlist .variables) ≤ 10 =
+          let few : length (behind .netlist .variables) ≤ most-variables =
           omega (arith, few-variables (stands-formed stands-with), value-variables (behind .netlist) (behind .value)) in
-          let most : 2 ^ length (behind .netlist .variables) ≤ 2 ^ 10 = pow-mono few in
+          let most : 2 ^ length (behind .netlist .variables) ≤ 2 ^ most-variables = pow-mono few in
           omega arith

@@ -9,7 +9,7 @@ use native.Mathlib.Omega.{arith}
 use lib.Dec.{leb, ltb}
 use lib.Pow.{pow-pos}
 use borrow.Author.Tests.{lt-ltb, le-ltb, lt-leb, ltb-true, ltb-false}
-use Rattle.rules.specs.Records.{Cell, input, NOT, XOR, AND, OR, register, Record, node, said, size, recordBytes, body, operands, setOf}
+use Rattle.rules.specs.Records.{Cell, input, NOT, XOR, AND, OR, register, Record, node, said, size, recordBytes, body, operands, setOf, most-variables, most-nodes}
 use Rattle.rules.specs.Checks.{andThen, Check, check, judged, overLimit, undeclared, undeclaredSet, notBelow, badOperand, judgedRecord}
 use Rattle.records.specs.Netlists.{foundIf}
 
@@ -59,7 +59,7 @@ module _ (total v n here b c : ℕ) where
 
   -- the rows that a gate or a register of so many bytes has
   abbrev gateRows : (bytes : ℕ) (operands : List ℕ) → List Check
-  gateRows bytes operands = check 3 (leb 200 n) here ∷ check 4 (ltb (total - here) bytes) here ∷ operandRows n here operands
+  gateRows bytes operands = check 3 (leb most-nodes n) here ∷ check 4 (ltb (total - here) bytes) here ∷ operandRows n here operands
 
   -- the kind byte stands inside the file
   module _ (inside : here < total) where
@@ -77,7 +77,7 @@ module _ (total v n here b c : ℕ) where
         (dropped refl
         (kept (same-test (here + 1) total 1 (total - here) (λ h. omega arith) (λ h. omega arith)) none)))))))))
 
-    pub variable-checks : Left 1 (check 2 (ltb 0 n) here ∷ check 3 (leb 10 v) here ∷ check 4 (ltb (total - here) 2) here ∷ check 5 (ltb 2 b) here ∷ [])
+    pub variable-checks : Left 1 (check 2 (ltb 0 n) here ∷ check 3 (leb most-variables v) here ∷ check 4 (ltb (total - here) 2) here ∷ check 5 (ltb 2 b) here ∷ [])
     unfolding judgedRecord said overLimit size recordBytes undeclaredSet badOperand
     variable-checks =
         same 1 b c (said 1 b c)
@@ -94,7 +94,7 @@ module _ (total v n here b c : ℕ) where
     -- a node, by what is left of the rows on its set and on its operands
     node-checks : (k : ℕ) (cell : Cell) {rows : List Check} → k ≤ 7 → said k b c ≡ node cell
         → Leaves (check 6 (undeclared v (setOf cell)) here ∷ check 7 (notBelow n (operands cell)) here ∷ check 9 false (here + 1) ∷ []) rows
-        → Left k (check 3 (leb 200 n) here ∷ check 4 (ltb (total - here) (size (node cell))) here ∷ rows)
+        → Left k (check 3 (leb most-nodes n) here ∷ check 4 (ltb (total - here) (size (node cell))) here ∷ rows)
     unfolding judgedRecord overLimit undeclaredSet badOperand
     node-checks k cell known says rest =
         rw says
@@ -106,7 +106,7 @@ module _ (total v n here b c : ℕ) where
         (kept (ends-within total here (size (node cell)) inside)
         (dropped refl rest)))))))
 
-    pub input-checks : Left 2 (check 3 (leb 200 n) here ∷ check 4 (ltb (total - here) 3) here ∷ check 6 (undeclared v (b + 256 * c)) here ∷ [])
+    pub input-checks : Left 2 (check 3 (leb most-nodes n) here ∷ check 4 (ltb (total - here) 3) here ∷ check 6 (undeclared v (b + 256 * c)) here ∷ [])
     unfolding said size recordBytes body setOf operands notBelow
     input-checks = node-checks 2 (input (b + 256 * c)) (omega arith) refl (kept refl (dropped refl (dropped refl none)))
 

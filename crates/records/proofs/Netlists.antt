@@ -11,7 +11,7 @@ use lib.Seq.{append-snoc, set-append-seam, take-at}
 use Rattle.rules.specs.declared.Node.{Node}
 use Rattle.rules.specs.declared.Refusal.{Refusal}
 use Rattle.rules.specs.declared.QueryOutcome.the-variants as Query
-use Rattle.rules.specs.Records.{public, Cell, input, NOT, XOR, AND, OR, register, Netlist, WellFormed, classOf, classByte, kindOf, operands, setOf}
+use Rattle.rules.specs.Records.{public, Cell, input, NOT, XOR, AND, OR, register, Netlist, WellFormed, classOf, classByte, kindOf, operands, setOf, most-variables, most-nodes}
 use Rattle.rules.specs.Slices.{entry}
 use Rattle.rules.specs.Checks.{Outcome, answered, refused, andThen, read}
 use Rattle.rules.specs.Paper.{numberOf, placeOf, queryOf}
@@ -89,11 +89,11 @@ module _ {ℓ κ} {A : Type ℓ} {B : Type κ} (f : A → B) (k : ℕ) (rest : B
 -- each class and each node stands in the flat netlist
 pub flat-class-at : (n : Netlist) (i : ℕ) → i < length (n .variables) → getD (flatOf n .classes) i 0 ≡ classByte (getD (n .variables) i public)
 unfolding flatOf
-flat-class-at n i h = made-at classByte 10 0 (n .variables) i public h
+flat-class-at n i h = made-at classByte most-variables 0 (n .variables) i public h
 
 pub flat-entry-at : (n : Netlist) (i : ℕ) → i < length (n .nodes) → getD (flatOf n .nodes) i blank ≡ entry (getD (n .nodes) i (input 0))
 unfolding flatOf
-flat-entry-at n i h = made-at entry 200 blank (n .nodes) i (input 0) h
+flat-entry-at n i h = made-at entry most-nodes blank (n .nodes) i (input 0) h
 
 -- a node is read back off its record
 cellOf : Node → Cell
@@ -125,8 +125,8 @@ flat-injective : (n m : Netlist) → flatOf n ≡ flatOf m → n ≡ m
 unfolding flatOf
 flat-injective n m e =
     let variables =
-    made-back classByte 10 0 classOf class-of-byte (n .variables) (m .variables) (ap (λ (t : Flat). t .variables) e) (ap (λ (t : Flat). t .classes) e) in
-    let nodes = made-back entry 200 blank cellOf cell-back (n .nodes) (m .nodes) (ap (λ (t : Flat). t .count) e) (ap (λ (t : Flat). t .nodes) e) in
+    made-back classByte most-variables 0 classOf class-of-byte (n .variables) (m .variables) (ap (λ (t : Flat). t .variables) e) (ap (λ (t : Flat). t .classes) e) in
+    let nodes = made-back entry most-nodes blank cellOf cell-back (n .nodes) (m .nodes) (ap (λ (t : Flat). t .count) e) (ap (λ (t : Flat). t .nodes) e) in
     let same : _≡_ {A = Netlist} (record { variables = n .variables; nodes = n .nodes }) (record { variables = m .variables; nodes = m .nodes }) = cc in
     same
 
@@ -146,10 +146,10 @@ module _ {value : Flat} (n : Netlist) (e : value ≡ flatOf n) where
 
 -- of one that obeys the record rules
 module _ {value : Flat} (f : Formed value) where
-  pub few-variables : value .variables ≤ 10
+  pub few-variables : value .variables ≤ most-variables
   few-variables = omega (arith, value-variables (f .netlist) (f .is), f .obeys .few-variables)
 
-  pub few-nodes : value .count ≤ 200
+  pub few-nodes : value .count ≤ most-nodes
   few-nodes = omega (arith, value-count (f .netlist) (f .is), f .obeys .few-nodes)
 
   -- it is the value of one netlist only, and that one obeys the rules
@@ -160,7 +160,7 @@ module _ {value : Flat} (f : Formed value) where
   well-formed n e = subst (λ (m : Netlist). WellFormed m) (one-netlist n e) (f .obeys)
 
   -- both operand fields of a node's record are numbers of nodes; where the kind has no such operand the field is 0
-  pub operands-below : (i : ℕ) → i < value .count → (getD (value .nodes) i blank .first < 200) × (getD (value .nodes) i blank .second < 200)
+  pub operands-below : (i : ℕ) → i < value .count → (getD (value .nodes) i blank .first < most-nodes) × (getD (value .nodes) i blank .second < most-nodes)
   unfolding entry
   operands-below i h = rw (value-entry (f .netlist) (f .is) i h) (below 0, below 1)
     where
@@ -170,8 +170,8 @@ module _ {value : Flat} (f : Formed value) where
       here : i < length (f .netlist .nodes)
       here = omega (arith, value-count (f .netlist) (f .is))
 
-      below : (k : ℕ) → getD own k 0 < 200
-      below = all-at (λ a. a < 200) own 0 (λ a t. omega (arith, f .obeys .lower i here a t, few-nodes)) (omega arith)
+      below : (k : ℕ) → getD own k 0 < most-nodes
+      below = all-at (λ a. a < most-nodes) own 0 (λ a t. omega (arith, f .obeys .lower i here a t, few-nodes)) (omega arith)
 
 -- ---- a file that was read
 

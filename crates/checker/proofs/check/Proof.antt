@@ -42,6 +42,7 @@ use denote.Triple.Clauses.{ensured, lasts}
 use denote.Triple.Table.{entered, cited}
 use denote.Triple.Walked.{says, Stays, stay-none-slice, gave-slice, walkOf, goes-none-slice, goes-gave-slice, Walks, ends-at, walked, walk-meets}
 use denote.Exit.{yes}
+use Rattle.rules.specs.Records.{most-nodes}
 use Rattle.rules.specs.declared.Node.{Node}
 use Rattle.rules.specs.declared.Reply.{Reply}
 use Rattle.rules.specs.Slices.{nodesAfter, workAfter, reply}
@@ -196,7 +197,7 @@ module _ {M : Type 1} (𝓤 : URA M) (H : Heap 𝓤) (A : Atoms 𝓤) (W : Given
   to-reply e v = ((tt, tt, tt, (e, tt), (v ∷ [], tt)), tt)
 
   module _ (e : Examined) (v : Val) (is-e : Is E.the-row e (v ∷ [])) where
-    goes-store : (e .netlist .count ≤ length ys) × (e .netlist .count ≤ 200) → ent 𝓤 (sep 𝓤 (A .lft κ₁ q₁) (sem 𝓤 H A Own₁)) (Store 𝓤 H A mem run .pre (to-store e v))
+    goes-store : (e .netlist .count ≤ length ys) × (e .netlist .count ≤ most-nodes) → ent 𝓤 (sep 𝓤 (A .lft κ₁ q₁) (sem 𝓤 H A Own₁)) (Store 𝓤 H A mem run .pre (to-store e v))
     goes-store few =
         qed W (‵ (flft κ₁ q₁) ∷ ‵ Own₁ ∷ []) ∵ says ! few $ nothing ! $ move ! (1 ∷ 0 ∷ []) $ join ! $ frame ! $
         nothing ! $ owned ! E.the-row (Is E.the-row) (LL.makes E.the-type E′.the-plain 𝓤 H A) e _ is-e $ fjoin ! $ move ! (1 ∷ 0 ∷ []) $ fjoin ! $ done !
@@ -262,8 +263,8 @@ module _ {M : Type 1} (𝓤 : URA M) (H : Heap 𝓤) (A : Atoms 𝓤) (W : Given
           Stored : List Node
           Stored = stored (e .netlist .nodes) ys (e .netlist .count)
 
-          few : (e .netlist .count ≤ length ys) × (e .netlist .count ≤ 200)
-          few = subst (λ (n : Netlist). (n .count ≤ length ys) × (n .count ≤ 200)) (sym is-table) (kept-fits xs (length ys) (length zs))
+          few : (e .netlist .count ≤ length ys) × (e .netlist .count ≤ most-nodes)
+          few = subst (λ (n : Netlist). (n .count ≤ length ys) × (n .count ≤ most-nodes)) (sym is-table) (kept-fits xs (length ys) (length zs))
 
       -- the bytes are examined
       starts : Sq W (Locals (froom (sliceTy (tyRef erased mut (tyInt w8))) l₇ 0) (froom (tyRef erased mut (tyInt w8)) l₆ 0) (froom (tyInt w64) l₅ 0) (froom E′.mir l₄ 0)

@@ -51,6 +51,7 @@ use denote.Triple.Table.{entered, cited}
 use denote.Triple.Walked.{says, needs, Stays, stay-slice, stay-none, walkOf, goes-slice, goes-none, Walks, ends-at, walked, walk-meets}
 use denote.Exit.{yes}
 use Rattle.records.specs.Netlists.{blank}
+use Rattle.rules.specs.Records.{most-nodes}
 use Rattle.rules.specs.declared.Node.{Node}
 use Rattle.rules.proofs.Node as T
 use Rattle.rules.proofs.Node.Laws as T′
@@ -95,7 +96,7 @@ module _ {M : Type 1} (𝓤 : URA M) (H : Heap 𝓤) (A : Atoms 𝓤) (mem : Mem
   record-says e i r = exE 𝓤 _ (λ ws. snd∗ 𝓤 (sem 𝓤 H A (lasts record-of.ended tt (e, (i, tt)) ws)) (fact 𝓤 (r ≡ getD (e .netlist .nodes) i blank)))
 
 module _ {M : Type 1} (𝓤 : URA M) (H : Heap 𝓤) (A : Atoms 𝓤) (W : Given 𝓤 H A) (mem : Memory → SProp 𝓤) (run : Routine → Fun 𝓤) (κ : Lft) (q : Share) (b o : ℕ) (γ : GName) (ys : List Node) (e : Examined) (v : Val)
-    (is-e : Is E.the-row e (v ∷ [])) (room : Room T.the-row (length ys)) (few : (e .netlist .count ≤ length ys) × (e .netlist .count ≤ 200)) where
+    (is-e : Is E.the-row e (v ∷ [])) (room : Room T.the-row (length ys)) (few : (e .netlist .count ≤ length ys) × (e .netlist .count ≤ most-nodes)) where
   abbrev n : ℕ
   n = e .netlist .count
 

@@ -7,7 +7,7 @@ use mathlib.Core.List.{List}
 use native.Mathlib.Omega.{arith}
 use lib.ListN.{length, getD, replicate, length-set, length-replicate}
 use Rattle.rules.specs.Lists.{member, tabulate}
-use Rattle.rules.specs.Records.{Cell, input, Netlist}
+use Rattle.rules.specs.Records.{Cell, input, Netlist, most-nodes}
 use Rattle.rules.specs.Values.{feeding}
 use Rattle.rules.specs.Slices.{entry}
 use Rattle.records.specs.declared.Netlist as Value
@@ -22,8 +22,8 @@ module _ {value : Value.Netlist} (f : Formed value) where
   inside : (i : ℕ) → i < value .count → i < length (f .netlist .nodes)
   inside i h = omega (arith, value-count (f .netlist) (f .is))
 
-  -- a node and both of its operands are below 200
-  few : (i : ℕ) → i < value .count → (i < 200) × (getD (value .nodes) i blank .first < 200) × (getD (value .nodes) i blank .second < 200)
+  -- a node and both of its operands are below `most-nodes`
+  few : (i : ℕ) → i < value .count → (i < most-nodes) × (getD (value .nodes) i blank .first < most-nodes) × (getD (value .nodes) i blank .second < most-nodes)
   few i h = let below = operands-below f i h in (omega (arith, few-nodes f), below .0, below .1)
 
   -- node i has handed its mark on
@@ -32,20 +32,20 @@ module _ {value : Value.Netlist} (f : Formed value) where
     handed-on : after ≡ handedOn marks i (getD (f .netlist .nodes) i (input 0))
     handed-on = handed _ (value-entry (f .netlist) (f .is) i h)
 
-    same-length : length marks ≡ 200 → length after ≡ 200
+    same-length : length marks ≡ most-nodes → length after ≡ most-nodes
     same-length e = ap length handed-on ∙ handed-length marks i _ ∙ e
 
-    next : (node j : ℕ) → j ≤ i + 1 → length marks ≡ 200 → Leads (f .netlist) node marks j → Leads (f .netlist) node after i
+    next : (node j : ℕ) → j ≤ i + 1 → length marks ≡ most-nodes → Leads (f .netlist) node marks j → Leads (f .netlist) node after i
     next node j l e leads =
         rw handed-on (leads-next (f .netlist) (f .obeys) node marks i j (omega arith) (inside i h) (omega (arith, few-nodes f)) leads)
 
-  finished : (node : ℕ) (marks : List Bool) (i : ℕ) → i ≤ 0 → length marks ≡ 200 → Leads (f .netlist) node marks i
-      → (n : Netlist) → value ≡ flatOf n → marks ≡ tabulate (λ p. member p (feeding n node)) 200
+  finished : (node : ℕ) (marks : List Bool) (i : ℕ) → i ≤ 0 → length marks ≡ most-nodes → Leads (f .netlist) node marks i
+      → (n : Netlist) → value ≡ flatOf n → marks ≡ tabulate (λ p. member p (feeding n node)) most-nodes
   finished node marks i none e leads n same =
-      rw (← one-netlist f n same) (leads-end (f .netlist) 200 node marks i none e leads)
+      rw (← one-netlist f n same) (leads-end (f .netlist) most-nodes node marks i none e leads)
 
 abbrev Inv-loop : tie.InvT-loop
-Inv-loop node netlist marks₀ i₀ marks i = (i ≤ node + 1) × (length marks ≡ 200) × ((f : Formed netlist) → Leads (f .netlist) node marks i)
+Inv-loop node netlist marks₀ i₀ marks i = (i ≤ node + 1) × (length marks ≡ most-nodes) × ((f : Formed netlist) → Leads (f .netlist) node marks i)
 
 abbrev μ-loop : tie.MeasureT-loop
 μ-loop node netlist marks₀ i₀ marks i = i
@@ -59,8 +59,8 @@ add-i c = omega (arith, few-nodes (c .pre .0))
 loop-holds : tie.Need-loop-holds Inv-loop μ-loop
 loop-holds c = (
   omega arith,
-  length-set (replicate 200 false) (c .args .node) true ∙ length-replicate 200 false,
-  λ f. leads-start (f .netlist) 200 (c .args .node) (omega (arith, few-nodes f)) (inside f _ (c .pre .1)),
+  length-set (replicate most-nodes false) (c .args .node) true ∙ length-replicate most-nodes false,
+  λ f. leads-start (f .netlist) most-nodes (c .args .node) (omega (arith, few-nodes f)) (inside f _ (c .pre .1)),
 )
 
 sub-i : tie.Need-sub-i Inv-loop μ-loop

@@ -2,6 +2,7 @@
 use mathlib.Core.Bool.{false}
 use borrow.Author.Needs.{needs}
 use lib.ListN.{replicate}
+use Rattle.rules.specs.Records.{most-nodes}
 use Rattle.rules.specs.Queries.{feedingQuery}
 use Rattle.rules.proofs.Packing.{tabulate-constant}
 use Rattle.records.proofs.Netlists.{read-stands}
@@ -21,7 +22,7 @@ enum-told-2 c = search needs
 returns : tie.Need-returns
 unfolding feedingQuery
 returns c =
-    rw (tabulate-constant false 200) (given-refused (replicate 200 false) _ _ _ (c .before .before .before .ask .ensures) (c .enum-told2 .given .1))
+    rw (tabulate-constant false most-nodes) (given-refused (replicate most-nodes false) _ _ _ (c .before .before .before .ask .ensures) (c .enum-told2 .given .1))
 
 feeding-marks-requires : tie.Need-feeding-marks-requires
 feeding-marks-requires c κs =

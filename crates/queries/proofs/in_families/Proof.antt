@@ -1,11 +1,12 @@
 -- `queries::in_families` meets its contract: the work bytes hold the families of all nodes, and a part of them holds just the sets of one of a
--- node's two families. They are 51,200, which have room for 200 nodes. Assumes nothing.
+-- node's two families. They are `most-work`, which have room for every netlist. Assumes nothing.
 use Prim.Native.Nat.{ℕ, _+_, _*_, _≤_, _<_}
 use mathlib.Core.Path.{_≡_, refl, _∙_}
 use mathlib.Core.List.{List, _++_}
 use native.Mathlib.Omega.{arith}
 use lib.ListN.{length, length-replicate}
 use borrow.Author.Needs.{needs}
+use Rattle.rules.specs.Checks.{most-work}
 use Rattle.rules.specs.Lists.{member}
 use Rattle.rules.specs.Records.{Netlist}
 use Rattle.rules.specs.Families.{families, familiesAt}
@@ -19,11 +20,11 @@ use Rattle.queries.proofs.in_families.Statement.{statement}
 use Rattle.queries.proofs.in_families.Tie as tie
 
 module _ {value : Value.Netlist} (f : Formed value) where
-  ready : (k : ℕ) → k ≡ 51200 → Ready value k
+  ready : (k : ℕ) → k ≡ most-work → Ready value k
   ready k e = record { formed = f; room = omega (arith, few-nodes f) }
 
   -- a node's parts are there
-  has-part : (k i part : ℕ) → i < value .count → part ≤ 2 * i + 1 → 51200 ≡ k → 128 * part + 128 ≤ k
+  has-part : (k i part : ℕ) → i < value .count → part ≤ 2 * i + 1 → most-work ≡ k → 128 * part + 128 ≤ k
   has-part k i part h l e = omega (arith, few-nodes f)
 
   -- what they hold once the families of all nodes are written
@@ -39,7 +40,7 @@ slice-aggregate-all-families : tie.Need-slice-aggregate-all-families
 slice-aggregate-all-families c = search needs
 
 all-families-requires : tie.Need-all-families-requires
-all-families-requires c κs = ready (c .before .pre .0) _ (length-replicate {A = ℕ} 51200 0)
+all-families-requires c κs = ready (c .before .pre .0) _ (length-replicate {A = ℕ} most-work 0)
 
 slice-aggregate-holds : tie.Need-slice-aggregate-holds
 slice-aggregate-holds c = search needs

@@ -7,6 +7,7 @@ use mathlib.Core.List.{List}
 use native.Mathlib.Omega.{arith}
 use borrow.Author.Needs.{needs}
 use lib.ListN.{getD}
+use Rattle.rules.specs.Records.{most-nodes}
 use Rattle.rules.specs.Queries.{valueQuery}
 use Rattle.records.specs.Netlists.{padded}
 use Rattle.records.proofs.Netlists.{padded-same, few-nodes, read-stands}
@@ -14,8 +15,8 @@ use Rattle.queries.proofs.Asking.{given-refused, given-answered, stands
 use Rattle.queries.proofs.settled_value.Statement.{statement}
 use Rattle.queries.proofs.settled_value.Tie as tie
 
-value-at : (all values : List Bool) (i : ℕ) → all ≡ padded 200 false values → getD all i false ≡ getD values i false
-value-at all values i e = rw e (padded-same 200 false values i)
+value-at : (all values : List Bool) (i : ℕ) → all ≡ padded most-nodes false values → getD all i false ≡ getD values i false
+value-at all values i e = rw e (padded-same most-nodes false values i)
 
 ask-with-requires : tie.Need-ask-with-requires
 ask-with-requires c κs = search needs

@@ -9,7 +9,7 @@ use native.Mathlib.Omega.{arith}
 use lib.ListN.{length, getD, take, set, replicate, length-set, length-replicate}
 use lib.Seq.{take-all}
 use Rattle.rules.specs.Tables.{table}
-use Rattle.rules.specs.Records.{Cell, input, NOT, XOR, AND, OR, register, Netlist, bits}
+use Rattle.rules.specs.Records.{Cell, input, NOT, XOR, AND, OR, register, Netlist, bits, most-nodes}
 use Rattle.rules.specs.Values.{Assignment, valueRule, values}
 use Rattle.rules.specs.Slices.{entry}
 use Rattle.rules.proofs.Tables.{first-length, first-next}
@@ -40,7 +40,7 @@ abbrev first : Netlist → Assignment → ℕ → List Bool
 first n x i = table (valueRule x) [] (take i (n .nodes))
 
 abbrev valuesDone : Netlist → ℕ → ℕ → List Bool
-valuesDone n x i = padded 200 false (first n (under n x) i)
+valuesDone n x i = padded most-nodes false (first n (under n x) i)
 
 module _ (n : Netlist) (x : Assignment) where
   none-first : (k : ℕ) → replicate k false ≡ padded k false (first n x 0)
@@ -63,13 +63,13 @@ module _ {value : Value.Netlist} (f : Formed value) where
       let before = first n (under n x) i in
       let here : i < length (n .nodes) = omega (arith, value-count n (f .is)) in
       let value : r ≡ valueRule (under n x) before own =
-      is own (value-entry n (f .is) i h) ∙ rw (value-variables n (f .is), e) (rule-padded (under n x) 200 before own) in
+      is own (value-entry n (f .is) i h) ∙ rw (value-variables n (f .is), e) (rule-padded (under n x) most-nodes before own) in
       let long : length before ≡ i = first-length (valueRule (under n x)) (n .nodes) i (omega arith) in
-      let stored = padded-set 200 false before r (omega (arith, f .obeys .few-nodes)) in
+      let stored = padded-set most-nodes false before r (omega (arith, f .obeys .few-nodes)) in
       rw (e, ← first-next (valueRule (under n x)) (n .nodes) i (input 0) here, ← value) (rw long at stored)
 
   finished : (x : ℕ) (done : List Bool) (i : ℕ) → value .count ≤ i → done ≡ valuesDone (f .netlist) x i
-      → (n : Netlist) → value ≡ flatOf n → done ≡ padded 200 false (values n (under n x))
+      → (n : Netlist) → value ≡ flatOf n → done ≡ padded most-nodes false (values n (under n x))
   finished x done i h e n same =
       let own = f .netlist in
       let all : length (own .nodes) ≤ i = omega (arith, value-count own (f .is)) in
@@ -77,13 +77,13 @@ module _ {value : Value.Netlist} (f : Formed value) where
 
 abbrev Inv-loop : tie.InvT-loop
 Inv-loop assignment netlist variables count values₀ i₀ values i =
-    (i ≤ count) × (length values ≡ 200) × ((f : Formed netlist) → values ≡ valuesDone (f .netlist) assignment i)
+    (i ≤ count) × (length values ≡ most-nodes) × ((f : Formed netlist) → values ≡ valuesDone (f .netlist) assignment i)
 
 abbrev μ-loop : tie.MeasureT-loop
 μ-loop assignment netlist variables count values₀ i₀ values i = count - i
 
 loop-holds : tie.Need-loop-holds Inv-loop μ-loop
-loop-holds c = (omega arith, length-replicate 200 false, λ f. none-first (f .netlist) _ 200)
+loop-holds c = (omega arith, length-replicate most-nodes false, λ f. none-first (f .netlist) _ most-nodes)
 
 slice-aggregate-value-from : tie.Need-slice-aggregate-value-from Inv-loop μ-loop
 slice-aggregate-value-from c = sym (c .before .before .loop .inv .1)

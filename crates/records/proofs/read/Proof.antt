@@ -1,4 +1,4 @@
--- `records::read` meets its contract. The loop's invariant: the progress is that of the rules after as many records as were taken, at most 211.
+-- `records::read` meets its contract. The loop's invariant: the progress is that of the rules after as many records as were taken, at most `most-records`.
 -- The measure is what is left of them. What it comes to is the outcome of the rules' own progress. Assumes nothing.
 use Prim.Native.Nat.{_-_, _≤_}
 use mathlib.Core.Path.{_≡_, refl}

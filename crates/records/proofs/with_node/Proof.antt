@@ -3,6 +3,7 @@ use Prim.Native.Nat.{_<_}
 use mathlib.Core.List.{[], _∷_}
 use lib.ListN.{length, length-append}
 use borrow.Author.Needs.{needs}
+use Rattle.rules.specs.Records.{most-nodes}
 use Rattle.rules.specs.Slices.{entry}
 use Rattle.records.specs.Netlists.{blank, flatOf}
 use Rattle.records.proofs.Netlists.{made-set}
@@ -22,8 +23,8 @@ returns : tie.Need-returns
 unfolding flatOf
 returns c n cell e l =
     let nodes = n .nodes in
-    let room : length nodes < 200 = rw e at (c .pre) in
-    rw (e, l, made-set entry 200 blank nodes cell room) (cc (length-append nodes (cell ∷ [])))
+    let room : length nodes < most-nodes = rw e at (c .pre) in
+    rw (e, l, made-set entry most-nodes blank nodes cell room) (cc (length-append nodes (cell ∷ [])))
 
 pub with-node-spec : {M : Type 1} → statement M
 with-node-spec = tie.close (tie.spec mul-last element-set-from-last add-longer returns)

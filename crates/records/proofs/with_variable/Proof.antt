@@ -3,7 +3,7 @@ use Prim.Native.Nat.{_<_}
 use mathlib.Core.List.{[], _∷_}
 use lib.ListN.{length, length-append}
 use borrow.Author.Needs.{needs}
-use Rattle.rules.specs.Records.{classByte}
+use Rattle.rules.specs.Records.{classByte, most-variables}
 use Rattle.records.specs.Netlists.{flatOf}
 use Rattle.records.proofs.Netlists.{made-set}
 use Rattle.records.proofs.with_variable.Statement.{statement}
@@ -19,8 +19,8 @@ returns : tie.Need-returns
 unfolding flatOf
 returns c n class e l =
     let variables = n .variables in
-    let room : length variables < 10 = rw e at (c .pre) in
-    rw (e, l, made-set classByte 10 0 variables class room) (cc (length-append variables (class ∷ [])))
+    let room : length variables < most-variables = rw e at (c .pre) in
+    rw (e, l, made-set classByte most-variables 0 variables class room) (cc (length-append variables (class ∷ [])))
 
 pub with-variable-spec : {M : Type 1} → statement M
 with-variable-spec = tie.close (tie.spec element-write-longer add-longer returns)
