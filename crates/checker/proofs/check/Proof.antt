@@ -119,8 +119,8 @@ module _ {M : Type 1} (𝓤 : URA M) (H : Heap 𝓤) (A : Atoms 𝓤) (W : Given
   zs = work .now
 
   -- the netlist whose records are stored
-  abbrev table : Netlist
-  table = flatOf (kept (admitted xs (length ys) (length zs)))
+  abbrev flat : Netlist
+  flat = flatOf (kept (admitted xs (length ys) (length zs)))
 
   -- the machine values
   abbrev s₀ : Val
@@ -237,9 +237,9 @@ module _ {M : Type 1} (𝓤 : URA M) (H : Heap 𝓤) (A : Atoms 𝓤) (W : Given
           ∷ Locals (fat fullShare (sliceTy (tyRef erased mut (tyInt w8))) l₇ 0 s₂) (fat fullShare (tyRef erased mut (tyInt w8)) l₆ 0 (vptr (work .ptr .0) (work .ptr .1))) (fat fullShare (tyInt w64) l₅ 0 (vint w64 (length ys))) (fat fullShare E′.mir l₄ 0 v) []
 
       -- the records are stored, and the reply is returned
-      finishes : (e : Examined) (v : Val) (ws : List ℕ) → Is E.the-row e (v ∷ []) → Says (e .reply) → e .netlist ≡ table → ws ≡ workAfter xs (length ys) zs → length ws ≡ length zs
+      finishes : (e : Examined) (v : Val) (ws : List ℕ) → Is E.the-row e (v ∷ []) → Says (e .reply) → e .netlist ≡ flat → ws ≡ workAfter xs (length ys) zs → length ws ≡ length zs
           → Sq W (Between v ws) (runs C Λ En mir.t-5 (atRet En Post))
-      finishes e v ws is-e f is-table is-ws l₂ =
+      finishes e v ws is-e f is-flat is-ws l₂ =
           assigns ! (addr ! (from ! (fld ! refl (hop ! (look-in ! 21 (sub ! 0 refl (whole !))) (stop !))))) (from ! (stop !)) (init ! 7 refl (tt, tt)) $
           assigns ! (agg ! (and-then ! (load ! (from ! (stop !)) (look ! 7 refl)) (and-then ! (load ! (from ! (fld ! refl (stop !))) (look-in ! 21 (sub ! 1 refl (whole !)))) (no-more !)))) (from ! (stop !)) (init ! 5 refl (tt, (tt, (record { fits = room₁ .0 }, tt)))) $
           move ! (2 ∷ 3 ∷ []) $ use2 W (raw (Store 𝓤 H A mem run .pre (to-store e v))) (goes-store e v is-e few) $
@@ -258,13 +258,13 @@ module _ {M : Type 1} (𝓤 : URA M) (H : Heap 𝓤) (A : Atoms 𝓤) (W : Given
           move ! (27 ∷ 28 ∷ []) $ free1 ! $ move ! (25 ∷ 26 ∷ []) $ free1 ! $ move ! (23 ∷ 24 ∷ []) $ free1 ! $ move ! (21 ∷ 22 ∷ []) $ free1 ! $ move ! (19 ∷ 20 ∷ []) $ free1 ! $ move ! (17 ∷ 18 ∷ []) $ free1 ! $
           move ! (15 ∷ 16 ∷ []) $ free1 ! $ move ! (13 ∷ 14 ∷ []) $ free1 ! $ move ! (11 ∷ 12 ∷ []) $ free1 ! $ move ! (9 ∷ 10 ∷ []) $ free1 ! $ move ! (7 ∷ 8 ∷ []) $ free1 ! $ free0 ! $
           keep ! (0 ∷ 1 ∷ 2 ∷ 4 ∷ 5 ∷ 6 ∷ []) $
-          by ! (exits r t (ns .0) ws (subst Says (sym is-r) f) (is-ns ∙ ap (λ (n : Netlist). stored (n .nodes) ys (n .count)) is-table ∙ kept-stored xs ys (length zs)) is-ws l₁ l₂)))))))))))
+          by ! (exits r t (ns .0) ws (subst Says (sym is-r) f) (is-ns ∙ ap (λ (n : Netlist). stored (n .nodes) ys (n .count)) is-flat ∙ kept-stored xs ys (length zs)) is-ws l₁ l₂)))))))))))
         where
           Stored : List Node
           Stored = stored (e .netlist .nodes) ys (e .netlist .count)
 
           few : (e .netlist .count ≤ length ys) × (e .netlist .count ≤ most-nodes)
-          few = subst (λ (n : Netlist). (n .count ≤ length ys) × (n .count ≤ most-nodes)) (sym is-table) (kept-fits xs (length ys) (length zs))
+          few = subst (λ (n : Netlist). (n .count ≤ length ys) × (n .count ≤ most-nodes)) (sym is-flat) (kept-fits xs (length ys) (length zs))
 
       -- the bytes are examined
       starts : Sq W (Locals (froom (sliceTy (tyRef erased mut (tyInt w8))) l₇ 0) (froom (tyRef erased mut (tyInt w8)) l₆ 0) (froom (tyInt w64) l₅ 0) (froom E′.mir l₄ 0)
@@ -281,14 +281,14 @@ module _ {M : Type 1} (𝓤 : URA M) (H : Heap 𝓤) (A : Atoms 𝓤) (W : Given
           calls-at ! fm (Examine 𝓤 H A mem run) known-examine to-examine (and-then ! (load ! (from ! (stop !)) (look ! 23 refl)) (and-then ! (load ! (from ! (stop !)) (look ! 15 refl)) (and-then ! (load ! (from ! (stop !)) (look ! 11 refl)) (no-more !)))) (λ v.
           use1 W (later (some (λ (e : Examined). (Alive ⊛ ‵ (E.the-row .own e (v ∷ []))) ⊛ raw (ensured 𝓤 H A examine.ended (examine.clauses 𝓤 H A mem run) (κ₀, (κ₂, tt)) (bytes, (length ys, (work, tt))) tt e)))) (id⊢ 𝓤 _) $ await ! tt $ pick ! (λ e.
           split ! $ move ! (1 ∷ []) $ use1 W (some (λ (ws : Unit {0} × (Unit {0} × (List ℕ × Unit {0}))). ‵ (lasts examine.ended (κ₀, (κ₂, tt)) (bytes, (length ys, (work, tt))) ws)
-          ⊛ raw (fact 𝓤 (Replied (e .reply))) ⊛ raw (fact 𝓤 (e .netlist ≡ table)) ⊛ raw (fact 𝓤 (ws .1 .1 .0 ≡ workAfter xs (length ys) zs)) ⊛ raw (fact 𝓤 (Cleared (e .reply))) ⊛ raw (fact 𝓤 (Probed (e .reply))))) (id⊢ 𝓤 _) $ pick ! (λ ws.
-          split ! $ move ! (1 ∷ []) $ split ! $ heard ! (Replied (e .reply)) (λ replied. split ! $ heard ! (e .netlist ≡ table) (λ is-table. split ! $ heard ! (ws .1 .1 .0 ≡ workAfter xs (length ys) zs) (λ is-ws.
+          ⊛ raw (fact 𝓤 (Replied (e .reply))) ⊛ raw (fact 𝓤 (e .netlist ≡ flat)) ⊛ raw (fact 𝓤 (ws .1 .1 .0 ≡ workAfter xs (length ys) zs)) ⊛ raw (fact 𝓤 (Cleared (e .reply))) ⊛ raw (fact 𝓤 (Probed (e .reply))))) (id⊢ 𝓤 _) $ pick ! (λ ws.
+          split ! $ move ! (1 ∷ []) $ split ! $ heard ! (Replied (e .reply)) (λ replied. split ! $ heard ! (e .netlist ≡ flat) (λ is-flat. split ! $ heard ! (ws .1 .1 .0 ≡ workAfter xs (length ys) zs) (λ is-ws.
           split ! $ heard ! (Cleared (e .reply)) (λ cleared. heard ! (Probed (e .reply)) (λ probed.
           fsplit ! $ drop ! $ fsplit ! $ drop ! $ fsplit ! $ fsplit ! $ move ! (1 ∷ []) $ feqL ! (λ l.
           -- [the work's last list; true; Alive and what e owns; the nodes' token; true; what nodes owns; what bytes owns; the locals]
           move ! (2 ∷ []) $ split ! $ move ! (1 ∷ []) $ facts ! E.the-row (Is E.the-row) (shows 𝓤 H A E.the-row) e (v ∷ []) (λ is-e. land ! (from ! (stop !)) (init ! 19 refl (LL.lawful E.the-type E′.the-laws 𝓤 H A W .typed e _ is-e .0)) $
           keep ! (0 ∷ 1 ∷ 3 ∷ 5 ∷ 6 ∷ 7 ∷ 8 ∷ 9 ∷ 10 ∷ 11 ∷ 12 ∷ 13 ∷ 14 ∷ 15 ∷ 16 ∷ 17 ∷ 18 ∷ 19 ∷ 20 ∷ 21 ∷ 22 ∷ 23 ∷ 24 ∷ 25 ∷ 26 ∷ 27 ∷ 28 ∷ []) $
-          finishes e v (ws .1 .1 .0) is-e (replied, cleared, probed) is-table is-ws l))))))))))
+          finishes e v (ws .1 .1 .0) is-e (replied, cleared, probed) is-flat is-ws l))))))))))
 
     walk : ent 𝓤 (onEntry 𝓤 H A check.signature (κ₀, (κ₁, (κ₂, tt))) (q₀, (q₁, (q₂, tt))) x at) (WpFn 𝓤 H C Λ code.function (s₀ ∷ s₁ ∷ s₂ ∷ []) Post)
     walk =

@@ -1,4 +1,4 @@
--- `records::with_variable` meets its contract: the store behind the classes is one variable more of the table. Assumes nothing.
+-- `records::with_variable` meets its contract: the store behind the classes is one variable more of the flat netlist. Assumes nothing.
 use Prim.Native.Nat.{_<_}
 use mathlib.Core.List.{[], _∷_}
 use lib.ListN.{length, length-append}
