@@ -71,7 +71,7 @@ pub enum Reply {
     Answered(Answer),
 }
 
-// Whether a query is answered.
+// Whether a query is answered, or a file read.
 pub enum QueryOutcome {
     Answered,
     Refused(Refusal),
