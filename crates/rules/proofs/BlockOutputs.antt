@@ -1,13 +1,13 @@
 -- The listing, the node records and the queries on blocks, which antt computes from the rules: document 01's text for block A, a node of each
 -- kind, and each refusal of a query. Assumes nothing.
-use Prim.Native.Nat.{ℕ}
+use Prim.Native.Nat.{ℕ, _-_}
 use mathlib.Core.Path.{_≡_, refl}
 use mathlib.Core.Bool.{true, false, xor}
 use mathlib.Core.List.{List, [], _∷_}
 use lib.ListN.{replicate}
 use Rattle.rules.specs.declared.Node.{Node}
 use Rattle.rules.specs.Lists.{tabulate}
-use Rattle.rules.specs.Records.{bits}
+use Rattle.rules.specs.Records.{most-nodes, bits}
 use Rattle.rules.specs.Values.{exclusiveOr, valueRule, values, feedingRule, feedings, feeding}
 use Rattle.rules.specs.Families.{familiesAt}
 use Rattle.rules.specs.Checks.{answered, refused, nodeCheck, numberCheck, queried, queriedWith}
@@ -72,8 +72,8 @@ unfolding replyTo bits xor exclusiveOr valueRule values nodeCheck numberCheck qu
 values-of-each-kind = (refl, refl, refl)
 
 -- node 5 of block B is fed by input 1 and register 4
-pub points-of-B : (feedingQuery (P10 .bytes) 5 ≡ gave (false ∷ true ∷ false ∷ false ∷ true ∷ replicate 195 false))
-    × (feedingQuery (P10 .bytes) 6 ≡ refusing 12 6 (replicate 200 false))
+pub points-of-B : (feedingQuery (P10 .bytes) 5 ≡ gave (false ∷ true ∷ false ∷ false ∷ true ∷ replicate (most-nodes - 5) false))
+    × (feedingQuery (P10 .bytes) 6 ≡ refusing 12 6 (replicate most-nodes false))
 unfolding replyTo tabulate feedingRule feedings feeding nodeCheck queried given feedingQuery
 points-of-B = (refl, refl)
 
