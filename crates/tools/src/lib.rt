@@ -10,19 +10,6 @@ use rules::Half;
 use rules::Refusal;
 use rules::Reply;
 
-// A sum that stays where it is at a billion, which no count of these programs comes near.
-pub fn sum(x: usize, more: usize) -> usize
-    ensures { λ r. ⌜ r ≡ cond (leb x 1000000000 && leb more 1000000000) (x + more) x ⌝ }
-{
-    if x > 1000000000 {
-        return x;
-    }
-    if more > 1000000000 {
-        return x;
-    }
-    x + more
-}
-
 pub fn one_if(yes: bool) -> usize
     ensures { λ r. ⌜ r ≡ digit yes ⌝ }
 {
@@ -47,37 +34,39 @@ pub fn print_number(x: usize) {
     io::print_decimal(STDOUT_FILENO, x as u64);
 }
 
-fn print_byte(byte: u8) {
+pub fn print_byte(byte: u8) {
     let one = [byte; 1];
     print(&one);
 }
 
-// The count at `k`, where there is one, and the end of its line.
+// The count at `k`, where there is one.
 fn print_count(counts: &[usize], k: usize) {
     if k < counts.len() {
         print_number(counts[k]);
     }
-    print(b"\n");
 }
 
-// Lines with a name and a count: a line feed ends each name.
-pub fn print_counts(names: &[u8], counts: &[usize]) {
+// A text with counts: a `#` stands for the next count, and the end of a line has the next one before it, where there is one.
+pub fn print_counts(text: &[u8], counts: &[usize]) {
     let mut k: usize = 0;
     let mut i = 0;
-    while i < names.len() {
-        k = print_letter(names[i], counts, k);
+    while i < text.len() {
+        k = print_letter(text[i], counts, k);
         i += 1;
     }
 }
 
-// A letter of name `k`, or its count where the name is out: the name of the next letter.
+// A letter of the text, where count `k` is the next one: the next count behind the letter.
 fn print_letter(letter: u8, counts: &[usize], k: usize) -> usize {
-    if letter == 10 {
+    let mut next = k;
+    if letter == b'#' || letter == b'\n' {
         print_count(counts, k);
-        return sum(k, 1);
+        next = std::num::wrapping_add_usize(k, 1);
     }
-    print_byte(letter);
-    k
+    if letter != b'#' {
+        print_byte(letter);
+    }
+    next
 }
 
 // The words of a reply, with a blank before each.

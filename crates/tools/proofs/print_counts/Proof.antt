@@ -1,4 +1,4 @@
--- `tools::print_counts` is safe and ends: each turn leaves less of the names. Assumes nothing.
+-- `tools::print_counts` is safe and ends: each turn leaves less of the text. Assumes nothing.
 use borrow.Author.Needs.{needs}
 use Prim.Native.Nat.{_-_}
 use lib.ListN.{length}
@@ -6,10 +6,10 @@ use Rattle.tools.proofs.print_counts.Statement.{statement}
 use Rattle.tools.proofs.print_counts.Tie as tie
 
 abbrev Inv-loop : tie.InvT-loop
-Inv-loop names counts k₀ i₀ k i = Unit
+Inv-loop text counts k₀ i₀ k i = Unit
 
 abbrev μ-loop : tie.MeasureT-loop
-μ-loop names counts k₀ i₀ k i = length names - i
+μ-loop text counts k₀ i₀ k i = length text - i
 
 loop-holds : tie.Need-loop-holds Inv-loop μ-loop
 loop-holds c = search needs
