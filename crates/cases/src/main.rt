@@ -8,17 +8,22 @@
 //     value NODE NUMBER : BLOCK             the settled value alone
 //     points NODE : BLOCK                   the points that feed a node alone
 //     list BYTES : BLOCK : NAME             the listing, its length, and from where on the text is as it was
+//     node NODE : BLOCK : NAME              the reply, the node's record and its two families, set by set
 //
 // A block is written record by record, in hexadecimal digits with a blank before each record; `200*020000` is a record 200
 // times. A line that starts with `=` is printed as it stands behind the sign and a blank; one that starts with `#` says nothing,
 // nor does an empty one. Any other line is printed as not understood.
-ghost use Prim.Native.Nat.{_≤_};
+ghost use Prim.Native.Nat.{_+_, _*_, _≤_, _<_};
 ghost use lib.ListN.{length};
+ghost use Rattle.rules.specs.Records.{most-nodes, most-sets};
+ghost use Rattle.families.specs.Parts.{HasPart};
 use check::same;
+use families::SETS;
 use libc::STDIN_FILENO;
 use report::MOST_TEXT;
 use rules::MOST_NODES;
 use rules::MOST_WORK;
+use rules::Node;
 use rules::QueryOutcome;
 use tools::least;
 use tools::print;
@@ -276,6 +281,55 @@ fn list(bytes: &[u8], room: usize) {
     list_in(bytes, &mut text[0..count]);
 }
 
+fn print_node(i: usize, node: Node) {
+    print_byte(b'\n');
+    print_counts(
+        b"node# kind# operands## set#",
+        &[
+            i,
+            node.kind as usize,
+            node.first as usize,
+            node.second as usize,
+            node.set as usize,
+        ],
+    );
+}
+
+fn print_set(work: &[u8], part: usize, set: usize)
+    requires { ⌜ HasPart (now work) part × (set < most-sets) ⌝ }
+{
+    if families::holds(work, part, set) {
+        print_number(set);
+    }
+}
+
+// A family's name and size, and its sets.
+fn print_family(name: &[u8], work: &[u8], part: usize)
+    requires { ⌜ HasPart (now work) part ⌝ }
+{
+    print_byte(b'\n');
+    print_counts(name, &[families::size(work, part)]);
+    let mut set = 0;
+    while set < SETS {
+        print_set(work, part, set);
+        set += 1;
+    }
+}
+
+fn node(bytes: &[u8], i: usize)
+    requires { ⌜ i < most-nodes ⌝ }
+{
+    let mut work = [0u8; MOST_WORK];
+    let seen = trial::check_over(bytes, MOST_NODES, trial::entry_before(), &mut work);
+    let reply = seen.reply;
+    let nodes = seen.nodes;
+    print_byte(b':');
+    print_reply(reply);
+    print_node(i, trial::entry_at(nodes, i));
+    print_family(b"settled family# in all:", &work, 2 * i);
+    print_family(b"glitch family# in all:", &work, 2 * i + 1);
+}
+
 // ---- lines
 
 // Runs a command of two numbers; answers whether there is such a command.
@@ -304,6 +358,12 @@ fn run_one(command: &[u8], bytes: &[u8], number: usize) -> bool {
     if same(command, b"list") {
         list(bytes, number);
         return true;
+    }
+    if same(command, b"node") {
+        if number < MOST_NODES {
+            node(bytes, number);
+            return true;
+        }
     }
     false
 }

@@ -1,2 +1,4 @@
 -- What is proved of the lowest number from which on a test holds, for the two functions that look for it.
 pub mod Kept
+-- An array of node records that is lent and taken back, for the two functions that lend one.
+pub mod Lent

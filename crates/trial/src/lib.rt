@@ -2,13 +2,14 @@
 // its own. For test programs.
 ghost use mathlib.Core.Path.{_≡_};
 ghost use mathlib.Core.List.{_++_};
-ghost use Prim.Native.Nat.{_-_, min};
+ghost use Prim.Native.Nat.{_-_, _<_, min};
 ghost use lib.Dec.{eqb};
 ghost use lib.ListN.{length, getD, replicate};
 ghost use Rattle.rules.specs.Lists.{tabulate};
 ghost use Rattle.rules.specs.Records.{most-nodes};
 ghost use Rattle.rules.specs.Slices.{nodesAfter, workAfter, reply};
 ghost use Rattle.rules.specs.Paper.{replyOf};
+ghost use Rattle.records.specs.Netlists.{blank};
 ghost use Rattle.trial.specs.Before.{entryBefore, byteBefore, isBefore, keptFrom};
 use rules::MOST_NODES;
 use rules::Node;
@@ -112,4 +113,12 @@ pub fn check_over(bytes: &[u8], entries: usize, before: Node, work: &mut [u8]) -
     let mut nodes = [before; MOST_NODES];
     let reply = checker::check(bytes, &mut nodes[..lent], work);
     Seen { reply, nodes }
+}
+
+// The record at one of the entries that a check leaves, read through a lent slice.
+pub fn entry_at(nodes: [Node; MOST_NODES], i: usize) -> Node
+    requires { ⌜ i < most-nodes ⌝ }
+    ensures { λ r. ⌜ r ≡ getD nodes i blank ⌝ }
+{
+    checker::node_at(&nodes, i)
 }
