@@ -10,12 +10,14 @@
 //     list BYTES : BLOCK : NAME             the listing, its length, and from where on the text is as it was
 //     node NODE : BLOCK : NAME              the reply, the node's record and its two families, set by set
 //
-// A block is written record by record, in hexadecimal digits with a blank before each record; `200*020000` is a record 200
-// times. A line that starts with `=` is printed as it stands behind the sign and a blank; one that starts with `#` says nothing,
-// nor does an empty one. Any other line is printed as not understood.
+// A block is written in hexadecimal digits, with a blank before each record; `200*020000` is a record 200 times. A number is
+// decimal: at most 200 ENTRIES, 51200 BYTES of work and 3654 of text, and any usize elsewhere. A line that starts with `=` is
+// printed without that sign and the blank behind it. Empty lines, and lines that start with `#`, are for the reader. What the
+// program does not understand it prints, as `not understood: ` and the line or the word.
 ghost use Prim.Native.Nat.{_+_, _*_, _≤_, _<_};
 ghost use lib.ListN.{length};
-ghost use Rattle.rules.specs.Records.{most-nodes, most-sets};
+ghost use Rattle.rules.specs.Records.{most-nodes};
+ghost use Rattle.rules.specs.Listing.{most-text};
 ghost use Rattle.families.specs.Parts.{HasPart};
 use check::same;
 use families::SETS;
@@ -38,7 +40,9 @@ const MOST_INPUT: usize = 32768;
 
 const MOST_BLOCK: usize = 1024;
 
-// How many digits a block has that is not understood.
+// The most digits of a block, and the number that stands for a block that is not understood.
+const MOST_DIGITS: usize = 2048;
+
 const NO_BLOCK: usize = 2049;
 
 // ---- printing
@@ -112,7 +116,11 @@ fn digit_of(letter: u8) -> usize
     }
 }
 
+// The number that a word is, or 0 with a complaint.
 fn decimal(word: &[u8]) -> usize {
+    if word.len() == 0 {
+        complain(word);
+    }
     let mut value: usize = 0;
     let mut k = 0;
     while k < word.len() {
@@ -158,9 +166,9 @@ fn numbers_of(words: &[u8]) -> Numbers {
 
 // ---- blocks
 
-// Puts a hexadecimal digit behind the first `at` digits: how many there are then.
+// Puts a hexadecimal digit behind the first `at` digits of a block: how many there are then.
 fn put(bytes: &mut [u8; MOST_BLOCK], at: usize, digit: usize) -> usize {
-    if at > 2047 {
+    if at >= MOST_DIGITS {
         return NO_BLOCK;
     }
     if digit > 15 {
@@ -191,13 +199,16 @@ fn put_times(bytes: &mut [u8; MOST_BLOCK], at: usize, count: usize, digits: &[u8
     end
 }
 
-// A record, or a number of times, a star and a record.
+// A record, or how many times, a star and a record.
 fn put_word(bytes: &mut [u8; MOST_BLOCK], at: usize, word: &[u8]) -> usize {
     let star = find(word, 0, b'*');
     if star == word.len() {
         return put_digits(bytes, at, word);
     }
     let from = star + 1;
+    if from == word.len() {
+        return NO_BLOCK;
+    }
     put_times(bytes, at, decimal(&word[0..star]), &word[from..])
 }
 
@@ -213,23 +224,27 @@ fn put_block(bytes: &mut [u8; MOST_BLOCK], words: &[u8]) -> usize {
     end
 }
 
-// ---- commands
+// ---- commands: what each prints behind the case's name, but the last line feed
 
-fn check_in(bytes: &[u8], entries: usize, work: &mut [u8]) {
-    trial::fill(work);
+// Checks a block over so many entries and this work slice: prints the reply, and gives all entries.
+fn reply_to(bytes: &[u8], entries: usize, work: &mut [u8]) -> [Node; MOST_NODES] {
     let seen = trial::check_over(bytes, entries, trial::entry_before(), work);
     let reply = seen.reply;
     let nodes = seen.nodes;
-    let kept = trial::entries_kept_from(nodes);
     print_byte(b':');
     print_reply(reply);
-    print_counts(b", kept from# and#", &[kept, trial::work_kept_from(work)]);
+    nodes
 }
 
-fn check(bytes: &[u8], entries: usize, room: usize) {
-    let mut work = [0u8; MOST_WORK];
-    let count = least(room, MOST_WORK);
-    check_in(bytes, entries, &mut work[0..count]);
+fn check(bytes: &[u8], entries: usize, room: usize)
+    requires { ⌜ room ≤ 256 * most-nodes ⌝ }
+{
+    let mut most = [0u8; MOST_WORK];
+    let work = &mut most[0..room];
+    trial::fill(work);
+    let nodes = reply_to(bytes, entries, work);
+    let from = trial::entries_kept_from(nodes);
+    print_counts(b", kept from# and#", &[from, trial::work_kept_from(work)]);
 }
 
 fn value(bytes: &[u8], node: usize, assignment: usize) {
@@ -265,9 +280,8 @@ fn ask(bytes: &[u8], node: usize, number: usize) {
     memberships(bytes, node, number);
 }
 
-fn list_in(bytes: &[u8], text: &mut [u8]) {
-    trial::fill(text);
-    let length = report::telgouin_listing(bytes, text);
+// The text that a listing of so many bytes left, and from where on it is as it was.
+fn print_listing(text: &[u8], length: usize) {
     let from = trial::work_kept_from(text);
     let shown = least(from, text.len());
     print_byte(b'\n');
@@ -275,10 +289,14 @@ fn list_in(bytes: &[u8], text: &mut [u8]) {
     print_counts(b"bytes#, kept from#", &[length, from]);
 }
 
-fn list(bytes: &[u8], room: usize) {
-    let mut text = [0u8; MOST_TEXT];
-    let count = least(room, MOST_TEXT);
-    list_in(bytes, &mut text[0..count]);
+fn list(bytes: &[u8], room: usize)
+    requires { ⌜ room ≤ most-text ⌝ }
+{
+    let mut most = [0u8; MOST_TEXT];
+    let text = &mut most[0..room];
+    trial::fill(text);
+    let length = report::telgouin_listing(bytes, text);
+    print_listing(text, length);
 }
 
 fn print_node(i: usize, node: Node) {
@@ -295,14 +313,6 @@ fn print_node(i: usize, node: Node) {
     );
 }
 
-fn print_set(work: &[u8], part: usize, set: usize)
-    requires { ⌜ HasPart (now work) part × (set < most-sets) ⌝ }
-{
-    if families::holds(work, part, set) {
-        print_number(set);
-    }
-}
-
 // A family's name and size, and its sets.
 fn print_family(name: &[u8], work: &[u8], part: usize)
     requires { ⌜ HasPart (now work) part ⌝ }
@@ -311,7 +321,9 @@ fn print_family(name: &[u8], work: &[u8], part: usize)
     print_counts(name, &[families::size(work, part)]);
     let mut set = 0;
     while set < SETS {
-        print_set(work, part, set);
+        if families::holds(work, part, set) {
+            print_number(set);
+        }
         set += 1;
     }
 }
@@ -320,11 +332,7 @@ fn node(bytes: &[u8], i: usize)
     requires { ⌜ i < most-nodes ⌝ }
 {
     let mut work = [0u8; MOST_WORK];
-    let seen = trial::check_over(bytes, MOST_NODES, trial::entry_before(), &mut work);
-    let reply = seen.reply;
-    let nodes = seen.nodes;
-    print_byte(b':');
-    print_reply(reply);
+    let nodes = reply_to(bytes, MOST_NODES, &mut work);
     print_node(i, trial::entry_at(nodes, i));
     print_family(b"settled family# in all:", &work, 2 * i);
     print_family(b"glitch family# in all:", &work, 2 * i + 1);
@@ -332,11 +340,15 @@ fn node(bytes: &[u8], i: usize)
 
 // ---- lines
 
-// Runs a command of two numbers; answers whether there is such a command.
+// Runs a command of two numbers; answers whether there is such a command, and the numbers are within its limits.
 fn run_two(command: &[u8], bytes: &[u8], first: usize, last: usize) -> bool {
     if same(command, b"check") {
-        check(bytes, first, last);
-        return true;
+        if first <= MOST_NODES {
+            if last <= MOST_WORK {
+                check(bytes, first, last);
+                return true;
+            }
+        }
     }
     if same(command, b"ask") {
         ask(bytes, first, last);
@@ -356,8 +368,10 @@ fn run_one(command: &[u8], bytes: &[u8], number: usize) -> bool {
         return true;
     }
     if same(command, b"list") {
-        list(bytes, number);
-        return true;
+        if number <= MOST_TEXT {
+            list(bytes, number);
+            return true;
+        }
     }
     if same(command, b"node") {
         if number < MOST_NODES {
@@ -368,9 +382,12 @@ fn run_one(command: &[u8], bytes: &[u8], number: usize) -> bool {
     false
 }
 
-// Runs a command on the first `digits` digits.
+// Runs a command on the block of the first `digits` digits.
 fn run_command(command: &[u8], numbers: Numbers, bytes: [u8; MOST_BLOCK], digits: usize) -> bool {
-    if digits > 2048 {
+    if digits > MOST_DIGITS {
+        return false;
+    }
+    if digits % 2 == 1 {
         return false;
     }
     let length = digits / 2;
@@ -410,10 +427,10 @@ fn run_line(line: &[u8]) {
             print_byte(b'\n');
         }
         _ => {
-            if !run_case(line) {
-                complain(line);
-            } else {
+            if run_case(line) {
                 print_byte(b'\n');
+            } else {
+                complain(line);
             }
         }
     }

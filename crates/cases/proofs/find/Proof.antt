@@ -1,4 +1,4 @@
--- `cases::find` is safe and ends. Assumes nothing.
+-- `cases::find` meets its contract: it stops at the end of the text. Assumes nothing.
 use borrow.Author.Needs.{needs}
 use Prim.Native.Nat.{_-_, _≤_}
 use lib.ListN.{length}

@@ -1,4 +1,4 @@
--- `cases::print_family` is safe and ends. Assumes nothing.
+-- `cases::print_family` is safe and ends: it looks at sets below 1,024. Assumes nothing.
 use Prim.Native.Nat.{_-_, _≤_}
 use borrow.Author.Needs.{needs}
 use Rattle.cases.proofs.print_family.Statement.{statement}
@@ -25,8 +25,11 @@ print-counts-requires c κs = search needs
 loop-holds : tie.Need-loop-holds Inv-loop μ-loop
 loop-holds c = search needs
 
-print-set-requires : tie.Need-print-set-requires Inv-loop μ-loop
-print-set-requires c κs = search needs
+holds-requires : tie.Need-holds-requires Inv-loop μ-loop
+holds-requires c κs = search needs
+
+print-number-requires : tie.Need-print-number-requires Inv-loop μ-loop
+print-number-requires c κs = search needs
 
 add-set : tie.Need-add-set Inv-loop μ-loop
 add-set c = search needs
@@ -51,7 +54,8 @@ print-family-spec =
     slice-aggregate-print-counts
     print-counts-requires
     loop-holds
-    print-set-requires
+    holds-requires
+    print-number-requires
     add-set
     loop-less
     loop-again

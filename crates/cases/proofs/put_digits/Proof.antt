@@ -1,4 +1,4 @@
--- `cases::put_digits` is safe and ends. Assumes nothing.
+-- `cases::put_digits` is safe and ends: each turn leaves fewer digits. Assumes nothing.
 use Prim.Native.Nat.{_-_}
 use lib.ListN.{length}
 use borrow.Author.Needs.{needs}

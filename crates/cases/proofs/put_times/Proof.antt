@@ -1,4 +1,4 @@
--- `cases::put_times` is safe and ends. Assumes nothing.
+-- `cases::put_times` is safe and ends: each turn leaves fewer times. Assumes nothing.
 use Prim.Native.Nat.{_-_, _≤_}
 use borrow.Author.Needs.{needs}
 use Rattle.cases.proofs.put_times.Statement.{statement}

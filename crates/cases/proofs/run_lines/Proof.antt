@@ -1,4 +1,4 @@
--- `cases::run_lines` is safe and ends. Assumes nothing.
+-- `cases::run_lines` is safe and ends: each turn leaves less of the text. Assumes nothing.
 use Prim.Native.Nat.{_-_}
 use lib.ListN.{length}
 use borrow.Author.Needs.{needs}
