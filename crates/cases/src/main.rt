@@ -76,14 +76,18 @@ fn print_marks(marks: [bool; MOST_NODES]) {
 
 // What is behind a place of a line, without the blank.
 fn print_behind(line: &[u8], at: usize) {
-    if at < line.len() && at + 2 <= line.len() {
-        let from = at + 2;
-        print(&line[from..]);
+    if at < line.len() {
+        let blank = at + 1;
+        if blank < line.len() {
+            let from = blank + 1;
+            print(&line[from..]);
+        }
     }
 }
 
+// On a line of its own.
 fn complain(text: &[u8]) {
-    print(b"not understood: ");
+    print(b"\nnot understood: ");
     print(text);
     print_byte(b'\n');
 }
@@ -155,11 +159,12 @@ fn numbers_of(words: &[u8]) -> Numbers {
     while at < words.len() {
         let from = at + 1;
         at = find(words, from, b' ');
-        if from < at {
-            first = last;
-            last = decimal(&words[from..at]);
-            count += 1;
+        if from == at {
+            continue;
         }
+        first = last;
+        last = decimal(&words[from..at]);
+        count += 1;
     }
     Numbers { count, first, last }
 }
@@ -343,12 +348,14 @@ fn node(bytes: &[u8], i: usize)
 // Runs a command of two numbers; answers whether there is such a command, and the numbers are within its limits.
 fn run_two(command: &[u8], bytes: &[u8], first: usize, last: usize) -> bool {
     if same(command, b"check") {
-        if first <= MOST_NODES {
-            if last <= MOST_WORK {
-                check(bytes, first, last);
-                return true;
-            }
+        if first > MOST_NODES {
+            return false;
         }
+        if last > MOST_WORK {
+            return false;
+        }
+        check(bytes, first, last);
+        return true;
     }
     if same(command, b"ask") {
         ask(bytes, first, last);
@@ -368,16 +375,18 @@ fn run_one(command: &[u8], bytes: &[u8], number: usize) -> bool {
         return true;
     }
     if same(command, b"list") {
-        if number <= MOST_TEXT {
-            list(bytes, number);
-            return true;
+        if number > MOST_TEXT {
+            return false;
         }
+        list(bytes, number);
+        return true;
     }
     if same(command, b"node") {
-        if number < MOST_NODES {
-            node(bytes, number);
-            return true;
+        if number >= MOST_NODES {
+            return false;
         }
+        node(bytes, number);
+        return true;
     }
     false
 }

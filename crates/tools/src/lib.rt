@@ -1,8 +1,6 @@
 // What the test programs share: counts, and printing.
 ghost use mathlib.Core.Path.{_≡_};
-ghost use mathlib.Core.Bool.{cond, _&&_};
-ghost use Prim.Native.Nat.{_+_, min};
-ghost use lib.Dec.{leb};
+ghost use Prim.Native.Nat.{min};
 ghost use Rattle.rules.specs.Lists.{digit};
 use libc::STDOUT_FILENO;
 use rules::Answer;
@@ -46,7 +44,8 @@ fn print_count(counts: &[usize], k: usize) {
     }
 }
 
-// A text with counts: a `#` stands for the next count, and the end of a line has the next one before it, where there is one.
+// A text with counts: a `#` stands for a blank and the next count, and the end of a line has the next one, if any is left,
+// before it.
 pub fn print_counts(text: &[u8], counts: &[usize]) {
     let mut k: usize = 0;
     let mut i = 0;
@@ -56,17 +55,19 @@ pub fn print_counts(text: &[u8], counts: &[usize]) {
     }
 }
 
-// A letter of the text, where count `k` is the next one: the next count behind the letter.
+// A letter of the text, where count `k` is the next one: the next one behind the letter.
 fn print_letter(letter: u8, counts: &[usize], k: usize) -> usize {
-    let mut next = k;
-    if letter == b'#' || letter == b'\n' {
+    if letter == b'#' {
         print_count(counts, k);
-        next = std::num::wrapping_add_usize(k, 1);
+        return std::num::wrapping_add_usize(k, 1);
     }
-    if letter != b'#' {
+    if letter == b'\n' {
+        print_count(counts, k);
         print_byte(letter);
+        return std::num::wrapping_add_usize(k, 1);
     }
-    next
+    print_byte(letter);
+    k
 }
 
 // The words of a reply, with a blank before each.
@@ -76,7 +77,8 @@ pub fn print_refusal(refusal: Refusal) {
     print_number(rules::place_of(refusal));
 }
 
-fn print_half(half: Half) {
+fn print_half(name: &[u8], half: Half) {
+    print(name);
     match half {
         Half::Clear => print(b" clear"),
         Half::Suspect(node, set) => {
@@ -89,14 +91,9 @@ fn print_half(half: Half) {
 fn print_answer(answer: Answer) {
     let settled = answer.settled;
     let glitch = answer.glitch;
-    print(b" vars");
-    print_number(answer.variables);
-    print(b" nodes");
-    print_number(answer.nodes);
-    print(b" settled");
-    print_half(settled);
-    print(b" glitch");
-    print_half(glitch);
+    print_counts(b" vars# nodes#", &[answer.variables, answer.nodes]);
+    print_half(b" settled", settled);
+    print_half(b" glitch", glitch);
 }
 
 pub fn print_reply(reply: Reply) {

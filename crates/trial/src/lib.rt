@@ -1,5 +1,5 @@
-// What stands in lent slices before a check, from where on it still stands there after one, and a check over node records of
-// its own. For test programs.
+// What stands in lent slices before a check, from where on it still stands there after one, a check over node records of its
+// own, and one of those records, read through a lent slice. For test programs.
 ghost use mathlib.Core.Path.{_≡_};
 ghost use mathlib.Core.List.{_++_};
 ghost use Prim.Native.Nat.{_-_, _<_, min};

@@ -20,6 +20,12 @@ add-from c = search needs
 find-requires : tie.Need-find-requires Inv-loop μ-loop
 find-requires c κs = search needs
 
+loop-less : tie.Need-loop-less Inv-loop μ-loop
+loop-less c = search needs
+
+loop-again : tie.Need-loop-again Inv-loop μ-loop
+loop-again c = search needs
+
 sub-decimal : tie.Need-sub-decimal Inv-loop μ-loop
 sub-decimal c = search needs
 
@@ -34,12 +40,6 @@ decimal-requires c κs = search needs
 
 add-count : tie.Need-add-count Inv-loop μ-loop
 add-count c = search needs
-
-loop-less : tie.Need-loop-less Inv-loop μ-loop
-loop-less c = search needs
-
-loop-again : tie.Need-loop-again Inv-loop μ-loop
-loop-again c = search needs
 
 loop-less-2 : tie.Need-loop-less-2 Inv-loop μ-loop
 loop-less-2 c = search needs
@@ -59,13 +59,13 @@ numbers-of-spec =
     loop-holds
     add-from
     find-requires
+    loop-less
+    loop-again
     sub-decimal
     part-decimal-start
     part-decimal-end
     decimal-requires
     add-count
-    loop-less
-    loop-again
     loop-less-2
     loop-again-2
     returns)
