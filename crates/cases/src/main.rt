@@ -74,7 +74,7 @@ fn print_marks(marks: [bool; MOST_NODES]) {
     }
 }
 
-// What is behind a place of a line, without the blank.
+// What stands behind a place of a line, without the blank there.
 fn print_behind(line: &[u8], at: usize) {
     if at < line.len() {
         let blank = at + 1;
@@ -85,7 +85,7 @@ fn print_behind(line: &[u8], at: usize) {
     }
 }
 
-// On a line of its own.
+// What is not understood, on a line of its own.
 fn complain(text: &[u8]) {
     print(b"\nnot understood: ");
     print(text);
@@ -122,9 +122,6 @@ fn digit_of(letter: u8) -> usize
 
 // The number that a word is, or 0 with a complaint.
 fn decimal(word: &[u8]) -> usize {
-    if word.len() == 0 {
-        complain(word);
-    }
     let mut value: usize = 0;
     let mut k = 0;
     while k < word.len() {
@@ -133,7 +130,7 @@ fn decimal(word: &[u8]) -> usize {
             complain(word);
             return 0;
         }
-        if value > (18446744073709551615 - digit) / 10 {
+        if value > (usize::MAX - digit) / 10 {
             complain(word);
             return 0;
         }
@@ -195,6 +192,12 @@ fn put_digits(bytes: &mut [u8; MOST_BLOCK], at: usize, digits: &[u8]) -> usize {
 }
 
 fn put_times(bytes: &mut [u8; MOST_BLOCK], at: usize, count: usize, digits: &[u8]) -> usize {
+    if count == 0 {
+        return NO_BLOCK;
+    }
+    if digits.len() == 0 {
+        return NO_BLOCK;
+    }
     let mut end = at;
     let mut k = 0;
     while k < count {
@@ -211,9 +214,6 @@ fn put_word(bytes: &mut [u8; MOST_BLOCK], at: usize, word: &[u8]) -> usize {
         return put_digits(bytes, at, word);
     }
     let from = star + 1;
-    if from == word.len() {
-        return NO_BLOCK;
-    }
     put_times(bytes, at, decimal(&word[0..star]), &word[from..])
 }
 
@@ -333,14 +333,21 @@ fn print_family(name: &[u8], work: &[u8], part: usize)
     }
 }
 
+// Both families of a node.
+fn print_families(work: &[u8], i: usize)
+    requires { ⌜ HasPart (now work) (2 * i + 1) ⌝ }
+{
+    print_family(b"settled family# in all:", work, 2 * i);
+    print_family(b"glitch family# in all:", work, 2 * i + 1);
+}
+
 fn node(bytes: &[u8], i: usize)
     requires { ⌜ i < most-nodes ⌝ }
 {
     let mut work = [0u8; MOST_WORK];
     let nodes = reply_to(bytes, MOST_NODES, &mut work);
     print_node(i, trial::entry_at(nodes, i));
-    print_family(b"settled family# in all:", &work, 2 * i);
-    print_family(b"glitch family# in all:", &work, 2 * i + 1);
+    print_families(&work, i);
 }
 
 // ---- lines

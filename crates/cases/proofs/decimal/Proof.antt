@@ -11,9 +11,6 @@ Inv-loop word value₀ k₀ value k = Unit {0}
 abbrev μ-loop : tie.MeasureT-loop
 μ-loop word value₀ k₀ value k = length word - k
 
-complain-requires : tie.Need-complain-requires Inv-loop μ-loop
-complain-requires c κs = search needs
-
 loop-holds : tie.Need-loop-holds Inv-loop μ-loop
 loop-holds c = search needs
 
@@ -23,17 +20,17 @@ shared-slice-read-digit-of c = search needs
 digit-of-requires : tie.Need-digit-of-requires Inv-loop μ-loop
 digit-of-requires c κs = search needs
 
-complain-requires-2 : tie.Need-complain-requires-2 Inv-loop μ-loop
-complain-requires-2 c κs = search needs
+complain-requires : tie.Need-complain-requires Inv-loop μ-loop
+complain-requires c κs = search needs
 
 returns : tie.Need-returns Inv-loop μ-loop
 returns c = search needs
 
-sub-if3 : tie.Need-sub-if3 Inv-loop μ-loop
-sub-if3 c = search needs
+sub-if2 : tie.Need-sub-if2 Inv-loop μ-loop
+sub-if2 c = search needs
 
-complain-requires-3 : tie.Need-complain-requires-3 Inv-loop μ-loop
-complain-requires-3 c κs = search needs
+complain-requires-2 : tie.Need-complain-requires-2 Inv-loop μ-loop
+complain-requires-2 c κs = search needs
 
 returns-2 : tie.Need-returns-2 Inv-loop μ-loop
 returns-2 c = search needs
@@ -62,14 +59,13 @@ decimal-spec =
     (tie.spec
     Inv-loop
     μ-loop
-    complain-requires
     loop-holds
     shared-slice-read-digit-of
     digit-of-requires
-    complain-requires-2
+    complain-requires
     returns
-    sub-if3
-    complain-requires-3
+    sub-if2
+    complain-requires-2
     returns-2
     mul-value
     add-value
