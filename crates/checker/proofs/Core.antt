@@ -21,8 +21,8 @@ use Rattle.rules.proofs.Probe.{one-probe}
 use Rattle.records.specs.declared.Netlist as Value
 use Rattle.records.specs.Netlists.{flatOf, Ready, kept}
 use Rattle.records.proofs.Netlists.{value-variables, value-count, well-formed}
-use Rattle.scan.specs.Suspects.{found}
-use Rattle.scan.proofs.Search.{found-half}
+use Rattle.suspects.specs.Suspects.{found}
+use Rattle.suspects.proofs.Search.{found-half}
 use Rattle.checker.specs.declared.Examined.{Examined}
 use Rattle.checker.specs.Work.{Examines}
 

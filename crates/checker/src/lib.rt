@@ -42,8 +42,8 @@ fn answer(netlist: Netlist, work: &mut [u8]) -> Examined
         Examines (answered n) r (now (work .entry)) (now (work .exit))) ⌝ }
 {
     nodes::all_families(netlist, work);
-    let settled = scan::scan(netlist, 0, work);
-    let glitch = scan::scan(netlist, 1, work);
+    let settled = suspects::scan(netlist, 0, work);
+    let glitch = suspects::scan(netlist, 1, work);
     let answer = Answer {
         variables: netlist.variables,
         nodes: netlist.count,

@@ -1,4 +1,4 @@
--- `scan::variables_of` meets its contract. The loop's invariant: the set is that of the variables passed, and below 2 to the power of their
+-- `suspects::variables_of` meets its contract. The loop's invariant: the set is that of the variables passed, and below 2 to the power of their
 -- number. The measure is what is left of them. Assumes nothing.
 use Prim.Native.Nat.{_+_, _-_, _*_, _^_, _<_, _≤_}
 use mathlib.Core.Path.{_≡_, refl, sym, ap₂, _∙_}
@@ -16,10 +16,10 @@ use Rattle.rules.specs.Records.{Class, public, classByte, number, most-variable
 use Rattle.rules.specs.Values.{same}
 use Rattle.records.specs.Netlists.{flatOf}
 use Rattle.records.proofs.Netlists.{flat-class-at}
-use Rattle.scan.specs.Suspects.{variablesOf}
-use Rattle.scan.proofs.Suspects.{digit-times, variables-more, same-byte}
-use Rattle.scan.proofs.variables_of.Statement.{statement}
-use Rattle.scan.proofs.variables_of.Tie as tie
+use Rattle.suspects.specs.Suspects.{variablesOf}
+use Rattle.suspects.proofs.Suspects.{digit-times, variables-more, same-byte}
+use Rattle.suspects.proofs.variables_of.Statement.{statement}
+use Rattle.suspects.proofs.variables_of.Tie as tie
 
 abbrev Inv-loop : tie.InvT-loop
 Inv-loop class netlist count set₀ v₀ set v =

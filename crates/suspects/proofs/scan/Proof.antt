@@ -1,4 +1,4 @@
--- `scan::scan` meets its contract. The nodes' loop: the nodes passed report nothing. The loop in it: of the node's sets, those passed are
+-- `suspects::scan` meets its contract. The nodes' loop: the nodes passed report nothing. The loop in it: of the node's sets, those passed are
 -- not suspect members. Each measure is what is left to pass. Assumes nothing.
 use Prim.Native.Nat.{ℕ, _-_, _≤_, _<_}
 use mathlib.Core.Path.{_≡_, refl, sym, ap, _∙_}
@@ -15,10 +15,10 @@ use Rattle.rules.specs.Families.{suspectAt}
 use Rattle.rules.specs.Slices.{entry}
 use Rattle.records.specs.Netlists.{blank, flatOf}
 use Rattle.records.proofs.Netlists.{flat-entry-at, few-variables, few-nodes}
-use Rattle.scan.specs.Suspects.{found}
-use Rattle.scan.proofs.Search.{suspectIn, Searched, search-start, search-more, search-none, search-some, Passed, found-suspect, found-clear}
-use Rattle.scan.proofs.scan.Statement.{statement}
-use Rattle.scan.proofs.scan.Tie as tie
+use Rattle.suspects.specs.Suspects.{found}
+use Rattle.suspects.proofs.Search.{suspectIn, Searched, search-start, search-more, search-none, search-some, Passed, found-suspect, found-clear}
+use Rattle.suspects.proofs.scan.Statement.{statement}
+use Rattle.suspects.proofs.scan.Tie as tie
 
 abbrev Inv-loop : tie.InvT-loop
 Inv-loop layer work netlist secrets masks count i set₀ part set =

@@ -11,7 +11,7 @@ ghost use Rattle.rules.specs.Families.{suspect};
 ghost use Rattle.rules.specs.Paper.{findingOf};
 ghost use Rattle.records.specs.Netlists.{flatOf, Ready};
 ghost use Rattle.families.specs.Parts.{HasPart, familyAt};
-ghost use Rattle.scan.specs.Suspects.{variablesOf, found};
+ghost use Rattle.suspects.specs.Suspects.{variablesOf, found};
 use families::SETS;
 use records::Netlist;
 use rules::Half;

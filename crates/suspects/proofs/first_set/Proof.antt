@@ -1,7 +1,7 @@
--- `scan::first_set` meets its contract: kind 2 is an input. Assumes nothing.
+-- `suspects::first_set` meets its contract: kind 2 is an input. Assumes nothing.
 use mathlib.Core.Path.{refl}
-use Rattle.scan.proofs.first_set.Statement.{statement}
-use Rattle.scan.proofs.first_set.Tie as tie
+use Rattle.suspects.proofs.first_set.Statement.{statement}
+use Rattle.suspects.proofs.first_set.Tie as tie
 
 returns : tie.Need-returns
 returns c = (λ e. refl, λ other. absurd (other (c .if1 .taken)))

@@ -1,12 +1,12 @@
--- `scan::suspect_in` meets its contract: its two tests are those of the masks of the classes (`Suspects`), and what is left is membership.
+-- `suspects::suspect_in` meets its contract: its two tests are those of the masks of the classes (`Suspects`), and what is left is membership.
 -- Assumes nothing.
 use mathlib.Core.Bool.{and-false}
 use borrow.Author.Needs.{needs}
 use borrow.Author.Tests.{eq-eqb, ne-eqb}
 use lib.Bits.{bitAnd}
-use Rattle.scan.proofs.Suspects.{suspect-masks}
-use Rattle.scan.proofs.suspect_in.Statement.{statement}
-use Rattle.scan.proofs.suspect_in.Tie as tie
+use Rattle.suspects.proofs.Suspects.{suspect-masks}
+use Rattle.suspects.proofs.suspect_in.Statement.{statement}
+use Rattle.suspects.proofs.suspect_in.Tie as tie
 
 returns : tie.Need-returns
 returns c =

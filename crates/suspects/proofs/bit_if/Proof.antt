@@ -1,11 +1,11 @@
--- `scan::bit_if` meets its contract: 1 shifted by fewer than ten places is a power of two. Assumes nothing.
+-- `suspects::bit_if` meets its contract: 1 shifted by fewer than ten places is a power of two. Assumes nothing.
 use Prim.Native.Nat.{_^_, _≤_}
 use native.Mathlib.Omega.{arith}
 use borrow.Author.Needs.{needs}
 use lib.Pow.{pow-mono}
 use Rattle.rules.specs.Records.{most-variables}
-use Rattle.scan.proofs.bit_if.Statement.{statement}
-use Rattle.scan.proofs.bit_if.Tie as tie
+use Rattle.suspects.proofs.bit_if.Statement.{statement}
+use Rattle.suspects.proofs.bit_if.Tie as tie
 
 shl-result : tie.Need-shl-result
 shl-result c = search needs

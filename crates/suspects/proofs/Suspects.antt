@@ -20,7 +20,7 @@ use Rattle.rules.specs.Families.{Family, holds, suspect, reported}
 use Rattle.rules.proofs.Tests.{pass, and-left, and-right}
 use Rattle.rules.proofs.Lists.{digit-small}
 use Rattle.rules.proofs.Halves.{reported-none, reported-clear, reported-some}
-use Rattle.scan.specs.Suspects.{variablesOf}
+use Rattle.suspects.specs.Suspects.{variablesOf}
 
 -- ---- the mask of a class
 

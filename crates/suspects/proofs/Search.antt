@@ -23,8 +23,8 @@ use Rattle.rules.proofs.Exit.{families-length}
 use Rattle.families.specs.Parts.{familyAt}
 use Rattle.families.proofs.Parts.{below-at}
 use Rattle.families.proofs.Work.{Alike, settled-there, glitch-there}
-use Rattle.scan.specs.Suspects.{found}
-use Rattle.scan.proofs.Suspects.{reported-same, reported-nothing, reported-first}
+use Rattle.suspects.specs.Suspects.{found}
+use Rattle.suspects.proofs.Suspects.{reported-same, reported-nothing, reported-first}
 
 -- ---- the lowest node that reports
 
