@@ -1,66 +1,64 @@
 // Compares the checker and the queries with the second checker over random blocks, valid and damaged, in slices of many
 // lengths: replies with number and place, node records, families, what lies beyond them, and the three queries. Prints what it
-// saw, and how many checks and queries differ.
-ghost use Prim.Native.Nat.{_≤_};
+// saw, and how often a reply, a slice or a query differs.
 use crate::generator;
-use crate::generator::Made;
+use crate::generator::Shape;
+use crate::generator::next;
+use crate::generator::pick;
 use crate::second;
 use crate::second::Block;
-use rules::Answer;
-use rules::FeedingReply;
+use crate::second::Store;
+use crate::second::number_if;
 use rules::Half;
-use rules::MembershipReply;
 use rules::Node;
 use rules::QueryOutcome;
 use rules::Reply;
-use rules::ValueReply;
+use std::num::wrapping_add_usize;
 use tools::least;
 use tools::one_if;
 use tools::print_counts;
-use tools::sum;
-use trial::Seen;
 
 const BLOCKS: usize = 4000;
 
-// What was seen: counts, in the order of the names that `run` prints. A check is never refused with 12 or 13, and a query never with
-// 10 or 11.
-type Tally = [usize; 38];
+// What was seen: counts, in the order of the names that `run` prints.
+type Tally = [usize; 36];
 
-const ANSWERS: usize = 1;
+// The checks answered, and behind them those refused with 1 to 11.
+const CHECKS: usize = 1;
 
-const NODES: usize = 2;
+const NODES: usize = 13;
 
-const SETS: usize = 3;
+const SETS: usize = 14;
 
-const SETTLED: usize = 4;
+const LARGEST: usize = 15;
 
-const GLITCH: usize = 5;
+const LARGE: usize = 16;
 
-const CLEAR: usize = 6;
+const SETTLED: usize = 17;
 
-const QUERIES: usize = 7;
+const GLITCH: usize = 18;
 
-const VALUES: usize = 8;
+const CLEAR: usize = 19;
 
-const POINTS: usize = 9;
+// The queries answered, and behind them those refused with 1 to 9, 12 and 13.
+const QUERIES: usize = 20;
 
-const MEMBERS: usize = 10;
+const VALUES: usize = 32;
 
-const CHECK_REFUSALS: usize = 10;
+const POINTS: usize = 33;
 
-const QUERY_REFUSALS: usize = 23;
+const MEMBERS: usize = 34;
 
-const DIFFERENCES: usize = 37;
+const DIFFERENCES: usize = 35;
 
-// ---- counting
-
-fn add(tally: Tally, at: usize, more: usize) -> Tally {
-    let mut next = tally;
-    next[at % 38] = sum(tally[at % 38], more);
-    next
+// The generator's state, and what was seen.
+struct State {
+    seed: u32,
+    tally: Tally,
 }
 
-// ---- what is expected of a block
+// The work bytes, of which a check is lent the front.
+type Work = [u8; 51200];
 
 // A refusal's number and place; number 0 where there is none.
 struct Expected {
@@ -68,38 +66,178 @@ struct Expected {
     place: usize,
 }
 
-// Of a check in slices of so many entries and so many work bytes.
-fn expected_check(block: Block, entries: usize, work: usize) -> Expected {
+// How many entries and work bytes are lent.
+struct Lent {
+    entries: usize,
+    work: usize,
+}
+
+fn count(tally: &mut Tally, at: usize, more: usize) {
+    tally[at % 36] = wrapping_add_usize(tally[at % 36], more);
+}
+
+// ---- the check
+
+// What a check of a block is refused with.
+fn expected_check(block: Block, lent: Lent) -> Expected {
+    let needed = block.count % 256 * 256;
     if block.fault > 0 {
         return Expected {
             number: block.fault,
-            place: block.place,
+            place: block.start,
         };
     }
-    if entries < block.count {
+    if lent.entries < block.count {
         return Expected {
             number: 10,
             place: block.count,
         };
     }
-    if work / 256 < block.count {
-        return Expected {
-            number: 11,
-            place: block.count % 256 * 256,
-        };
-    }
     Expected {
-        number: 0,
-        place: 0,
+        number: number_if(lent.work < needed, 11),
+        place: needed,
     }
 }
 
-// Of a query of a node.
-fn expected_of(block: Block, node: usize) -> Expected {
+// A half as the second checker gives it.
+fn half_number(half: Half) -> usize {
+    match half {
+        Half::Clear => second::NONE,
+        Half::Suspect(node, set) => {
+            if (node > 199) | (set > 1023) {
+                return second::NONE + 1;
+            }
+            node % 200 * 1024 + set % 1024
+        }
+    }
+}
+
+// Whether a reply is the expected one, with the second checker's suspects where there is an answer.
+fn same_reply(
+    reply: Reply,
+    expected: Expected,
+    block: Block,
+    settled: usize,
+    glitch: usize,
+) -> bool {
+    match reply {
+        Reply::Refused(refusal) => {
+            (rules::number_of(refusal) == expected.number)
+                & (rules::place_of(refusal) == expected.place)
+        }
+        Reply::Answered(answer) => {
+            let settled_half = answer.settled;
+            let glitch_half = answer.glitch;
+            (expected.number == 0)
+                & (answer.variables == block.variables)
+                & (answer.nodes == block.count)
+                & (half_number(settled_half) == settled)
+                & (half_number(glitch_half) == glitch)
+        }
+    }
+}
+
+// Whether the first `written` entries are the block's.
+fn same_entries(nodes: [Node; 200], block: Block, written: usize) -> bool {
+    let mut same = true;
+    let mut i = 0;
+    while i < 200 {
+        let a = nodes[i];
+        let b = block.nodes[i];
+        let alike = (a.kind == b.kind)
+            & (a.first == b.first)
+            & (a.second == b.second)
+            & (a.set == b.set);
+        same = same & (alike | (i >= written));
+        i += 1;
+    }
+    same
+}
+
+// Takes the sets of a list out of its family in the work bytes. A set that is not there goes in.
+fn take_out(work: &mut Work, store: &Store, list: usize) {
+    let many = second::length_of(store, list);
+    let part = list % 200 * 256 + list / 200 % 2 * 128;
+    let mut k = 0;
+    while k < many {
+        let set = second::set_at(store, list, k) % 1024;
+        work[part + set / 8] = work[part + set / 8] ^ (1u8 << (set % 8));
+        k += 1;
+    }
+}
+
+// Whether the families in the work bytes of an answered block are not the lists: with all sets of the lists taken out, a bit is left.
+fn families_differ(work: &mut Work, store: &Store, count: usize) -> bool {
+    let mut list = 0;
+    while list < second::LISTS {
+        take_out(work, store, list);
+        list += 1;
+    }
+    let mut left = 0;
+    let mut k = 0;
+    while k < 51200 {
+        if k / 256 < count {
+            left = left | work[k];
+        }
+        k += 1;
+    }
+    left != 0
+}
+
+// Counts an answered block: its nodes, its suspects, and the sets of its families.
+fn count_answer(tally: &mut Tally, block: Block, store: &Store) {
+    let settled = second::first_suspect(block, store, 0);
+    let glitch = second::first_suspect(block, store, 1);
+    count(tally, NODES, block.count);
+    count(tally, SETTLED, one_if(settled != second::NONE));
+    count(tally, GLITCH, one_if(glitch != second::NONE));
+    count(tally, CLEAR, one_if(glitch == second::NONE));
+    let mut list = 0;
+    while list < second::LISTS {
+        let length = second::length_of(store, list);
+        count(tally, SETS, length);
+        count(tally, LARGE, one_if(length > 100));
+        if length > tally[LARGEST] {
+            tally[LARGEST] = length;
+        }
+        list += 1;
+    }
+}
+
+// Compares the check of a block over so many entries and these work bytes. Tells whether it is to be answered.
+fn compare_check(
+    tally: &mut Tally,
+    bytes: &[u8],
+    block: Block,
+    store: &Store,
+    lent: Lent,
+    work: &mut [u8],
+) -> bool {
+    let expected = expected_check(block, lent);
+    let settled = second::first_suspect(block, store, 0);
+    let glitch = second::first_suspect(block, store, 1);
+    let seen = trial::check_over(bytes, lent.entries, trial::entry_before(), work);
+    let reply = seen.reply;
+    let nodes = seen.nodes;
+    let answered = expected.number == 0;
+    let written = number_if(answered, block.count % 256);
+    let same = same_reply(reply, expected, block, settled, glitch)
+        & same_entries(nodes, block, written)
+        & (trial::entries_kept_from(nodes) <= written)
+        & (trial::work_kept_from(work) <= 256 * written);
+    count(tally, CHECKS + expected.number % 12, 1);
+    count(tally, DIFFERENCES, one_if(!same));
+    answered
+}
+
+// ---- the queries
+
+// What a query of a node with a number is refused with.
+fn expected_query(block: Block, node: usize, number: usize) -> Expected {
     if block.fault > 0 {
         return Expected {
             number: block.fault,
-            place: block.place,
+            place: block.start,
         };
     }
     if node >= block.count {
@@ -109,532 +247,194 @@ fn expected_of(block: Block, node: usize) -> Expected {
         };
     }
     Expected {
-        number: 0,
-        place: 0,
+        number: number_if(number >> (block.variables % 16) > 0, 13),
+        place: number,
     }
 }
 
-// Of a query of a node with an assignment or a set.
-fn expected_with(block: Block, node: usize, number: usize) -> Expected {
-    let first = expected_of(block, node);
-    if first.number > 0 {
-        return first;
-    }
-    if number >> (block.variables % 16) > 0 {
-        return Expected {
-            number: 13,
-            place: number,
-        };
-    }
-    first
-}
-
-// ---- the reply
-
-// A half as the second checker gives it.
-fn half_number(half: Half) -> usize {
-    match half {
-        Half::Clear => second::NONE,
-        Half::Suspect(node, set) => {
-            if node > 199 {
-                return second::NONE + 1;
-            }
-            if set > 1023 {
-                return second::NONE + 1;
-            }
-            node * 1024 + set
-        }
-    }
-}
-
-fn same_answer(answer: Answer, block: Block, store: &[u16]) -> bool {
-    let settled = answer.settled;
-    let glitch = answer.glitch;
-    answer.variables == block.variables
-        && answer.nodes == block.count
-        && half_number(settled) == second::first_suspect(block, store, 0)
-        && half_number(glitch) == second::first_suspect(block, store, 1)
-}
-
-fn same_reply(reply: Reply, expected: Expected, block: Block, store: &[u16]) -> bool {
-    match reply {
-        Reply::Refused(refusal) => {
-            rules::number_of(refusal) == expected.number
-                && rules::place_of(refusal) == expected.place
-        }
-        Reply::Answered(answer) => expected.number == 0 && same_answer(answer, block, store),
-    }
-}
-
-// ---- the lent slices
-
-fn same_node(a: Node, b: Node) -> bool {
-    a.kind == b.kind && a.first == b.first && a.second == b.second && a.set == b.set
-}
-
-fn expected_entry(block: Block, written: usize, i: usize) -> Node {
-    if i < written {
-        second::record_of(block, i)
-    } else {
-        trial::entry_before()
-    }
-}
-
-// The first `written` entries are the block's, and the others as they were.
-fn same_entries(nodes: [Node; 200], block: Block, written: usize) -> bool {
-    let mut same = true;
-    let mut i = 0;
-    while i < 200 {
-        same = same && same_node(nodes[i], expected_entry(block, written, i));
-        i += 1;
-    }
-    same
-}
-
-// The number of bits that are 1, of four bits and of eight.
-fn ones_of_four(b: usize) -> usize {
-    b % 2 + b / 2 % 2 + b / 4 % 2 + b / 8 % 2
-}
-
-fn ones(byte: u8) -> usize {
-    sum(
-        ones_of_four((byte % 16) as usize),
-        ones_of_four((byte / 16) as usize),
-    )
-}
-
-fn ones_at(work: &[u8], k: usize) -> usize {
-    if k < work.len() { ones(work[k]) } else { 0 }
-}
-
-// How many sets the family at a place of the work bytes has.
-fn sets_at(work: &[u8], at: usize) -> usize {
-    let mut sets = 0;
-    let mut k = 0;
-    while k < 128 {
-        sets = sum(sets, ones_at(work, sum(at, k)));
-        k += 1;
-    }
-    sets
-}
-
-fn has_bit(work: &[u8], at: usize, set: usize) -> bool {
-    let k = sum(at, set / 8);
-    k < work.len() && (work[k] >> (set % 8)) % 2 == 1
-}
-
-// The family at a place of the work bytes has just the sets of a list: all of them, and as many.
-fn same_family(work: &[u8], at: usize, store: &[u16], list: usize) -> bool {
-    let many = second::length_of(store, list);
-    let mut same = sets_at(work, at) == many;
-    let mut k = 0;
-    while k < many {
-        same = same && has_bit(work, at, second::set_at(store, list, k));
-        k += 1;
-    }
-    same
-}
-
-fn same_families(work: &[u8], store: &[u16], written: usize) -> bool {
-    let mut same = true;
-    let mut i = 0;
-    while i < 200 {
-        if i < written {
-            same = same && same_family(work, 256 * i, store, i);
-            same = same && same_family(work, 256 * i + 128, store, 200 + i);
-        }
-        i += 1;
-    }
-    same
-}
-
-// How many sets there are in the families of the block.
-fn all_sets(store: &[u16]) -> usize {
-    let mut sets = 0;
-    let mut k = 0;
-    while k < second::LISTS {
-        sets = sum(sets, second::length_of(store, k));
-        k += 1;
-    }
-    sets
-}
-
-// ---- the queries
-
-fn same_outcome(outcome: QueryOutcome, expected: Expected) -> bool {
-    match outcome {
-        QueryOutcome::Answered => expected.number == 0,
+// Counts a query whose answer is the same or not, by its outcome.
+fn count_query(tally: &mut Tally, outcome: QueryOutcome, expected: Expected, same: bool) {
+    let number = expected.number % 14;
+    let as_expected = match outcome {
+        QueryOutcome::Answered => number == 0,
         QueryOutcome::Refused(refusal) => {
-            rules::number_of(refusal) == expected.number
-                && rules::place_of(refusal) == expected.place
+            (rules::number_of(refusal) == number) & (rules::place_of(refusal) == expected.place)
         }
-    }
+    };
+    count(tally, QUERIES + number - number / 12 * 2, 1);
+    count(tally, DIFFERENCES, one_if(!(as_expected & same)));
 }
 
-fn same_value(reply: ValueReply, expected: Expected, words: &[u64], node: usize, x: usize) -> bool {
-    let outcome = reply.outcome;
-    same_outcome(outcome, expected)
-        && reply.value == (expected.number == 0 && second::value(words, node, x))
-}
-
-fn same_points(reply: FeedingReply, expected: Expected, words: &[u64], node: usize) -> bool {
-    let outcome = reply.outcome;
-    let marks = reply.marks;
-    let mut same = same_outcome(outcome, expected);
+// Whether the marks are the feeding points of a node, or none where the query is refused.
+fn same_points(marks: [bool; 200], store: &Store, node: usize, answered: bool) -> bool {
+    let mut same = true;
     let mut j = 0;
     while j < 200 {
-        same = same && marks[j] == (expected.number == 0 && second::feeds(words, node, j));
+        same = same & (marks[j] == (answered & second::has_bit(store, node, 1024 + j)));
         j += 1;
     }
     same
 }
 
-fn same_memberships(
-    reply: MembershipReply,
-    expected: Expected,
-    store: &[u16],
-    node: usize,
-    set: usize,
-) -> bool {
-    let outcome = reply.outcome;
+// Asks each query once, of a node and a number that may be too high. Gives the generator's state after it.
+fn ask(tally: &mut Tally, seed: u32, bytes: &[u8], block: Block, store: &Store) -> u32 {
+    let node = pick(seed, block.count % 256 + 2);
+    let number = pick(next(seed), 2usize << (block.variables % 16));
+    let of_node = expected_query(block, node, 0);
+    let expected = expected_query(block, node, number);
     let answered = expected.number == 0;
-    let list = node % 200;
-    same_outcome(outcome, expected)
-        && reply.settled == (answered && second::has_set(store, list, set))
-        && reply.glitch == (answered && second::has_set(store, 200 + list, set))
-}
-
-fn with_query(tally: Tally, expected: Expected, same: bool) -> Tally {
-    let asked = add(add(tally, DIFFERENCES, one_if(!same)), QUERIES, 1);
-    if expected.number > 0 {
-        return add(asked, QUERY_REFUSALS + expected.number % 14, 1);
-    }
-    asked
-}
-
-fn ask_value(
-    tally: Tally,
-    bytes: &[u8],
-    block: Block,
-    words: &[u64],
-    node: usize,
-    x: usize,
-) -> Tally {
-    let expected = expected_with(block, node, x);
-    let reply = queries::settled_value(bytes, node, x);
-    let next = with_query(tally, expected, same_value(reply, expected, words, node, x));
-    add(next, VALUES, one_if(reply.value))
-}
-
-fn ask_points(tally: Tally, bytes: &[u8], block: Block, words: &[u64], node: usize) -> Tally {
-    let expected = expected_of(block, node);
-    let reply = queries::feeding_points(bytes, node);
-    let next = with_query(tally, expected, same_points(reply, expected, words, node));
-    add(next, POINTS, one_if(expected.number == 0))
-}
-
-fn ask_memberships(
-    tally: Tally,
-    bytes: &[u8],
-    block: Block,
-    store: &[u16],
-    node: usize,
-    set: usize,
-) -> Tally {
-    let expected = expected_with(block, node, set);
-    let reply = queries::memberships(bytes, node, set);
-    let same = same_memberships(reply, expected, store, node, set);
-    let next = with_query(tally, expected, same);
-    add(
-        add(next, MEMBERS, one_if(reply.settled)),
-        MEMBERS,
-        one_if(reply.glitch),
-    )
-}
-
-// Asks each query once, of a node and a number that may be too high.
-fn ask_once(
-    tally: Tally,
-    seed: u32,
-    bytes: &[u8],
-    block: Block,
-    store: &[u16],
-    words: &[u64],
-) -> Tally {
-    let node = generator::pick(seed, block.count % 256 + 2);
-    let number = generator::pick(generator::next(seed), 2usize << (block.variables % 16));
-    let first = ask_value(tally, bytes, block, words, node, number);
-    let second = ask_points(first, bytes, block, words, node);
-    ask_memberships(second, bytes, block, store, node, number)
-}
-
-fn after_two(seed: u32) -> u32 {
-    generator::next(generator::next(seed))
-}
-
-// Asks each query four times.
-fn ask_all(
-    tally: Tally,
-    seed: u32,
-    bytes: &[u8],
-    block: Block,
-    store: &[u16],
-    words: &[u64],
-) -> Tally {
-    let second = after_two(seed);
-    let third = after_two(second);
-    let fourth = after_two(third);
-    let once = ask_once(tally, seed, bytes, block, store, words);
-    let twice = ask_once(once, second, bytes, block, store, words);
-    let thrice = ask_once(twice, third, bytes, block, store, words);
-    ask_once(thrice, fourth, bytes, block, store, words)
-}
-
-// ---- one block
-
-fn with_answer(tally: Tally, block: Block, store: &[u16]) -> Tally {
-    let settled = second::first_suspect(block, store, 0);
-    let glitch = second::first_suspect(block, store, 1);
-    let counted = add(add(tally, ANSWERS, 1), NODES, block.count);
-    let sets = add(counted, SETS, all_sets(store));
-    let suspects = add(sets, SETTLED, one_if(settled != second::NONE));
-    let halves = add(suspects, GLITCH, one_if(glitch != second::NONE));
-    add(halves, CLEAR, one_if(glitch == second::NONE))
-}
-
-// How many entries are written.
-fn written_by(block: Block, expected: Expected) -> usize
-    ensures { λ r. ⌜ r ≤ 255 ⌝ }
-{
-    if expected.number > 0 {
-        return 0;
-    }
-    block.count % 256
-}
-
-// The reply, the entries and the work bytes after a check are as expected.
-fn same_check(seen: Seen, expected: Expected, block: Block, store: &[u16], work: &[u8]) -> bool {
-    let reply = seen.reply;
-    let nodes = seen.nodes;
-    let written = written_by(block, expected);
-    let kept_from = 256 * written;
-    same_reply(reply, expected, block, store)
-        && same_entries(nodes, block, written)
-        && same_families(work, store, written)
-        && trial::work_kept_from(work) <= kept_from
-}
-
-// Checks a block in slices of so many entries and of these work bytes.
-fn check_filled(bytes: &[u8], entries: usize, work: &mut [u8]) -> Seen {
-    trial::fill(work);
-    trial::check_over(bytes, entries, trial::entry_before(), work)
-}
-
-fn with_check(tally: Tally, expected: Expected, same: bool, block: Block, store: &[u16]) -> Tally {
-    let next = add(tally, DIFFERENCES, one_if(!same));
-    if expected.number > 0 {
-        return add(next, CHECK_REFUSALS + expected.number % 14, 1);
-    }
-    with_answer(next, block, store)
-}
-
-fn compare_check(
-    tally: Tally,
-    bytes: &[u8],
-    block: Block,
-    store: &[u16],
-    entries: usize,
-    work: &mut [u8],
-) -> Tally {
-    let expected = expected_check(block, entries, work.len());
-    let seen = check_filled(bytes, entries, work);
-    let same = same_check(seen, expected, block, store, work);
-    with_check(tally, expected, same, block, store)
-}
-
-// How many variables and nodes a block has.
-struct Shape {
-    variables: usize,
-    nodes: usize,
-}
-
-// Mostly small; some with ten variables or up to 200 nodes, and some with one more than there may be.
-fn shape_of(seed: u32, turn: usize) -> Shape {
-    let other = generator::next(seed);
-    match turn % 50 {
-        1 => Shape {
-            variables: 10,
-            nodes: generator::pick(seed, 13),
-        },
-        2 => Shape {
-            variables: generator::pick(seed, 4),
-            nodes: 100 + generator::pick(other, 101),
-        },
-        3 => Shape {
-            variables: 11,
-            nodes: generator::pick(seed, 5),
-        },
-        4 => Shape {
-            variables: 2,
-            nodes: 201,
-        },
-        _ => Shape {
-            variables: generator::pick(seed, 7),
-            nodes: generator::pick(other, 25),
-        },
-    }
-}
-
-// Mostly enough entries, or work bytes, for a block of so many nodes.
-fn some_entries(seed: u32, count: usize) -> usize {
-    let other = generator::next(seed);
-    if generator::pick(seed, 8) == 0 {
-        return generator::pick(other, count);
-    }
-    least(200, sum(count, generator::pick(other, 3)))
-}
-
-fn some_work(seed: u32, count: usize, most: usize) -> usize
-    ensures { λ r. ⌜ r ≤ most ⌝ }
-{
-    let other = generator::next(seed);
-    let enough = count % 256 * 256;
-    if generator::pick(seed, 8) == 0 {
-        return least(generator::pick(other, enough), most);
-    }
-    least(enough + generator::pick(other, 300), most)
-}
-
-// A block at random: how long it is, and the state after it.
-fn make(bytes: &mut [u8], seed: u32, turn: usize) -> Made {
-    let first = generator::next(seed);
-    let second = generator::next(first);
-    let third = generator::next(second);
-    let shape = shape_of(generator::next(third), turn);
-    let masked = generator::pick(first, 3) > 0;
-    let wide = generator::pick(second, 16) == 0;
-    let made = generator::block(bytes, third, shape.variables, shape.nodes, masked, wide);
-    if generator::pick(third, 3) == 0 {
-        return generator::damage(bytes, made);
-    }
-    made
-}
-
-// What the second checker says of a block.
-fn work_out(bytes: &[u8], store: &mut [u16], words: &mut [u64]) -> Block {
-    let block = second::read(bytes);
-    second::families(block, store);
-    second::truth_tables(block, words);
-    second::feeding_rows(block, words);
-    block
-}
-
-// Compares the check in slices of some lengths.
-fn compare_in(
-    tally: Tally,
-    seed: u32,
-    bytes: &[u8],
-    block: Block,
-    store: &[u16],
-    work: &mut [u8],
-) -> Tally {
-    let entries = some_entries(seed, block.count);
-    let m = some_work(generator::next(seed), block.count, work.len());
-    compare_check(tally, bytes, block, store, entries, &mut work[..m])
-}
-
-// Compares the check and the queries.
-fn compare_all(
-    tally: Tally,
-    seed: u32,
-    bytes: &[u8],
-    block: Block,
-    store: &[u16],
-    words: &[u64],
-    work: &mut [u8],
-) -> Tally {
-    let checked = compare_in(add(tally, 0, 1), seed, bytes, block, store, work);
-    ask_all(checked, after_two(seed), bytes, block, store, words)
-}
-
-// Compares all that both checkers say of a block.
-fn compare(
-    tally: Tally,
-    seed: u32,
-    bytes: &[u8],
-    store: &mut [u16],
-    words: &mut [u64],
-    work: &mut [u8],
-) -> Tally {
-    let block = work_out(bytes, store, words);
-    compare_all(tally, seed, bytes, block, store, words, work)
-}
-
-// The same of the block at the front of a slice.
-fn compare_made(
-    tally: Tally,
-    made: Made,
-    bytes: &[u8],
-    store: &mut [u16],
-    words: &mut [u64],
-    work: &mut [u8],
-) -> Tally {
-    let n = least(made.length, bytes.len());
-    compare(
+    let value = queries::settled_value(bytes, node, number);
+    let value_outcome = value.outcome;
+    let same_value = value.value == (answered & second::has_bit(store, node, number));
+    count_query(tally, value_outcome, expected, same_value);
+    let points = queries::feeding_points(bytes, node);
+    let points_outcome = points.outcome;
+    let marks = points.marks;
+    let same_marks = same_points(marks, store, node, of_node.number == 0);
+    count_query(tally, points_outcome, of_node, same_marks);
+    let members = queries::memberships(bytes, node, number);
+    let members_outcome = members.outcome;
+    let same_members = (members.settled == (answered & second::has_set(store, node % 200, number)))
+        & (members.glitch == (answered & second::has_set(store, 200 + node % 200, number)));
+    count_query(tally, members_outcome, expected, same_members);
+    count(tally, VALUES, one_if(value.value));
+    count(tally, POINTS, one_if(of_node.number == 0));
+    count(
         tally,
-        generator::next(made.seed),
-        &bytes[..n],
-        store,
-        words,
-        work,
-    )
+        MEMBERS,
+        number_if(members.settled, 1) + number_if(members.glitch, 1),
+    );
+    next(next(seed))
 }
 
-// What was seen, and the generator's state.
-struct State {
-    tally: Tally,
-    seed: u32,
-}
+// ---- the blocks
 
-fn one_block(
-    run: State,
-    turn: usize,
-    bytes: &mut [u8],
-    store: &mut [u16],
-    words: &mut [u64],
-    work: &mut [u8],
-) -> State {
-    let tally = run.tally;
-    let made = make(bytes, run.seed, turn);
-    State {
-        tally: compare_made(tally, made, bytes, store, words, work),
-        seed: generator::next(made.seed),
+// Mostly small; some with ten variables or up to 200 nodes, some with one more than there may be, and some without registers whose
+// operands are close by, so that their families grow large.
+fn shape_of(seed: u32, turn: usize) -> Shape {
+    let second = next(seed);
+    let third = next(second);
+    let fourth = next(third);
+    let mut variables = pick(seed, 7);
+    let mut nodes = pick(second, 25);
+    let mut mix = one_if(pick(third, 3) > 0);
+    let mut near = 256;
+    match turn % 50 {
+        1 => {
+            variables = 10;
+            nodes = pick(second, 13);
+        }
+        2 => {
+            variables = pick(seed, 4);
+            nodes = 100 + pick(second, 101);
+        }
+        3 => {
+            variables = 11;
+            nodes = pick(second, 5);
+        }
+        4 => {
+            variables = 2;
+            nodes = 201;
+        }
+        5 => {
+            variables = 8 + pick(seed, 3);
+            nodes = 40 + pick(second, 60);
+            mix = generator::DENSE;
+            near = 4 + pick(third, 3);
+        }
+        _ => {}
+    }
+    Shape {
+        seed: fourth,
+        variables,
+        labels: variables % 16 + number_if(pick(fourth, 16) == 0, 1),
+        nodes,
+        mix,
+        near,
     }
 }
 
-// All blocks.
-fn all_blocks(bytes: &mut [u8], store: &mut [u16], words: &mut [u64], work: &mut [u8]) -> Tally {
-    let mut run = State {
-        tally: [0; 38],
-        seed: 1,
-    };
-    let mut turn = 0;
-    while turn < BLOCKS {
-        run = one_block(run, turn, bytes, store, words, work);
-        turn += 1;
+// Just as many entries and work bytes as a block of so many nodes needs, or some more, or too few.
+fn lengths_for(seed: u32, nodes: usize) -> Lent {
+    let second = next(seed);
+    let third = next(second);
+    let needed = nodes % 256 * 256;
+    match pick(seed, 8) {
+        0 => Lent {
+            entries: pick(second, nodes),
+            work: pick(third, needed + 1),
+        },
+        1 => Lent {
+            entries: nodes,
+            work: pick(third, needed),
+        },
+        2 | 3 | 4 => Lent {
+            entries: nodes,
+            work: needed,
+        },
+        _ => Lent {
+            entries: least(200, nodes % 256 + pick(second, 3)),
+            work: least(51200, needed + pick(third, 300)),
+        },
     }
-    run.tally
+}
+
+// The work bytes before a check.
+fn work_before() -> Work {
+    let mut work = [0u8; 51200];
+    trial::fill(&mut work);
+    work
+}
+
+// Compares all that both checkers say of a block. Gives the generator's state after it.
+fn compare_block(tally: &mut Tally, seed: u32, bytes: &[u8]) -> u32 {
+    let mut store = [0u16; 427024];
+    let mut work = work_before();
+    let block = second::work_out(bytes, &mut store);
+    let lent = lengths_for(seed, block.count);
+    let m = lent.work % 51201;
+    let answered = compare_check(tally, bytes, block, &store, lent, &mut work[..m]);
+    if answered {
+        count_answer(tally, block, &store);
+        let differ = families_differ(&mut work, &store, block.count);
+        count(tally, DIFFERENCES, one_if(differ));
+    }
+    let first = ask(tally, next(seed), bytes, block, &store);
+    let second = ask(tally, first, bytes, block, &store);
+    let third = ask(tally, second, bytes, block, &store);
+    ask(tally, third, bytes, block, &store)
+}
+
+// Makes a block and compares it. Gives what was seen with it, and the state after it.
+fn one_block(state: State, turn: usize) -> State {
+    let whole = generator::block(shape_of(state.seed, turn));
+    let made = generator::damaged(whole);
+    let bytes = generator::bytes_of(made);
+    let n = made.length % 1025;
+    let mut tally = state.tally;
+    count(&mut tally, 0, 1);
+    let seed = compare_block(&mut tally, next(made.seed), &bytes[..n]);
+    State { seed, tally }
+}
+
+fn print_tally(tally: Tally) {
+    print_counts(
+        b"blocks\nanswered\nchecks refused with 1:\nchecks refused with 2:\nchecks refused with 3:\nchecks refused with 4:\nchecks refused with 5:\nchecks refused with 6:\nchecks refused with 7:\nchecks refused with 8:\nchecks refused with 9:\nchecks refused with 10:\nchecks refused with 11:\nnodes\nsets in their families\nlargest family\nfamilies of more than 100 sets\nsettled suspects\nglitch suspects\nclear for glitches\nqueries answered\nqueries refused with 1:\nqueries refused with 2:\nqueries refused with 3:\nqueries refused with 4:\nqueries refused with 5:\nqueries refused with 6:\nqueries refused with 7:\nqueries refused with 8:\nqueries refused with 9:\nqueries refused with 12:\nqueries refused with 13:\nvalues 1\nfeeding points asked of a node\nmemberships yes\ndifferences\n",
+        &tally,
+    );
 }
 
 // Compares all blocks, and prints what was seen.
 pub(crate) fn run() {
-    let mut bytes = [0u8; 1024];
-    let mut store = [0u16; second::STORE];
-    let mut words = [0u64; second::WORDS];
-    let mut work = [0u8; 51200];
-    let tally = all_blocks(&mut bytes, &mut store, &mut words, &mut work);
-    print_counts(
-        b"blocks\nanswered\nnodes\nsets in their families\nsettled suspects\nglitch suspects\nclear for glitches\nqueries\nvalues 1\nfeeding points asked of a node\nmemberships yes\nchecks refused with 1:\nchecks refused with 2:\nchecks refused with 3:\nchecks refused with 4:\nchecks refused with 5:\nchecks refused with 6:\nchecks refused with 7:\nchecks refused with 8:\nchecks refused with 9:\nchecks refused with 10:\nchecks refused with 11:\nchecks refused with 12:\nchecks refused with 13:\nqueries refused with 1:\nqueries refused with 2:\nqueries refused with 3:\nqueries refused with 4:\nqueries refused with 5:\nqueries refused with 6:\nqueries refused with 7:\nqueries refused with 8:\nqueries refused with 9:\nqueries refused with 10:\nqueries refused with 11:\nqueries refused with 12:\nqueries refused with 13:\ndifferences\n",
-        &tally,
-    );
+    let mut state = State {
+        seed: 1,
+        tally: [0; 36],
+    };
+    let mut turn = 0;
+    while turn < BLOCKS {
+        state = one_block(state, turn);
+        turn += 1;
+    }
+    let tally = state.tally;
+    print_tally(tally);
 }

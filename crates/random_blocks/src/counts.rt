@@ -3,160 +3,89 @@
 // settings that give a pattern must be the same for all settings of the secrets, at every tested node; where the counts of a node
 // differ, the checker must have named a suspect at that node or a lower one.
 use crate::generator;
-use crate::generator::Made;
+use crate::generator::Shape;
+use crate::generator::next;
+use crate::generator::pick;
 use crate::second;
-use crate::second::Block;
+use crate::second::number_if;
 use rules::Half;
 use rules::Reply;
-use tools::least;
+use std::num::wrapping_add_usize;
 use tools::one_if;
 use tools::print_counts;
-use tools::sum;
 
 const BLOCKS: usize = 1500;
 
-// A block here has fewer nodes than this, and at most so many assignments.
+// A block here has fewer nodes than this, and at most 32 assignments.
 const NODES: usize = 12;
 
-const ASSIGNMENTS: usize = 32;
-
-// One slice of numbers has the values of each node under all assignments, then a node's patterns, then counts.
-const PATTERNS: usize = 384;
-
-const COUNTS: usize = 416;
-
-const STORE: usize = 448;
-
 // What was seen: counts, in the order of the names that `run` prints.
-struct Tally {
-    counts: [usize; 8],
+type Tally = [usize; 8];
+
+// The generator's state, and what was seen.
+struct State {
+    seed: u32,
+    tally: Tally,
 }
 
-// ---- values and feeding points, by the queries
-
-fn value(store: &[u16], node: usize, x: usize) -> usize {
-    second::get(store, node % NODES * ASSIGNMENTS + x % ASSIGNMENTS)
-}
-
-// The values of one node under all assignments.
-fn node_values(store: &mut [u16], bytes: &[u8], node: usize, assignments: usize) {
-    let mut x = 0;
-    while x < assignments {
-        let reply = queries::settled_value(bytes, node, x);
-        second::put(
-            store,
-            node % NODES * ASSIGNMENTS + x % ASSIGNMENTS,
-            one_if(reply.value),
-        );
-        x += 1;
-    }
-}
-
-fn all_values(store: &mut [u16], bytes: &[u8], count: usize, assignments: usize) {
-    let mut node = 0;
-    while node < count {
-        node_values(store, bytes, node, assignments);
-        node += 1;
-    }
-}
-
-// The values of the marked points under an assignment, as a number with a bit for each node.
-fn pattern_of(store: &[u16], marks: [bool; 200], x: usize) -> usize {
-    let mut bits = 0;
-    let mut j = 0;
-    while j < NODES {
-        if marks[j] {
-            bits = bits | (value(store, j, x) << j);
-        }
-        j += 1;
-    }
-    bits
-}
-
-fn pattern(store: &[u16], x: usize) -> usize {
-    second::get(store, PATTERNS + x % ASSIGNMENTS)
-}
-
-// The pattern of a node's feeding points under each assignment.
-fn node_patterns(store: &mut [u16], bytes: &[u8], node: usize, assignments: usize) {
-    let reply = queries::feeding_points(bytes, node);
-    let marks = reply.marks;
-    let mut x = 0;
-    while x < assignments {
-        let bits = pattern_of(store, marks, x);
-        second::put(store, PATTERNS + x % ASSIGNMENTS, bits);
-        x += 1;
-    }
-}
-
-// ---- counts
-
-// The count for a setting of the secrets, which is a number with bits of secrets only.
-fn count(store: &[u16], s: usize) -> usize {
-    second::get(store, COUNTS + s % ASSIGNMENTS)
-}
-
-fn no_counts(store: &mut [u16]) {
-    let mut k = COUNTS;
-    while k < STORE {
-        second::put(store, k, 0);
+// The value of each node under all assignments: bit x under assignment x, and 0 where a query is refused.
+fn all_values(bytes: &[u8], count: usize) -> [usize; NODES] {
+    let end = count % 16 * 32;
+    let mut values = [0usize; NODES];
+    let mut k = 0;
+    while k < end {
+        let reply = queries::settled_value(bytes, k / 32, k % 32);
+        let node = k / 32 % NODES;
+        values[node] = values[node] | (one_if(reply.value) << (k % 32));
         k += 1;
     }
+    values
 }
 
-// Whether two assignments have the same pattern and the same publics, which are the variables that are neither secret nor masks.
-fn alike(store: &[u16], block: Block, x: usize, y: usize) -> bool {
-    pattern(store, x) == pattern(store, y) && (x ^ y) & (31 ^ (block.secrets | block.masks)) == 0
-}
-
-fn count_mask(store: &mut [u16], block: Block, x: usize, y: usize) {
-    if alike(store, block, x, y) {
-        let s = y & block.secrets;
-        let more = sum(count(store, s), 1);
-        second::put(store, COUNTS + s % ASSIGNMENTS, more);
+// The pattern of a node's feeding points under each assignment: bit j is the value of node j, where that is a feeding point.
+fn patterns_of(bytes: &[u8], values: [usize; NODES], node: usize) -> [usize; 32] {
+    let reply = queries::feeding_points(bytes, node);
+    let marks = reply.marks;
+    let mut patterns = [0usize; 32];
+    let mut k = 0;
+    while k < 384 {
+        let j = k / 32;
+        let x = k % 32;
+        let bit = one_if(marks[j]) & (values[j] >> x);
+        patterns[x] = patterns[x] | (bit << j);
+        k += 1;
     }
+    patterns
 }
 
-// For each setting of the secrets the number of mask settings that give the pattern of assignment x beside its publics.
-fn count_masks(store: &mut [u16], block: Block, x: usize, assignments: usize) {
-    no_counts(store);
+// How many mask settings give a pattern, where the variables that are no masks are `fixed`.
+fn settings(patterns: [usize; 32], pattern: usize, masks: usize, fixed: usize) -> usize {
+    let mut count = 0;
     let mut y = 0;
-    while y < assignments {
-        count_mask(store, block, x, y);
+    while y < 32 {
+        let gives = (patterns[y] == pattern) & (y & (31 ^ masks) == fixed);
+        count = wrapping_add_usize(count, one_if(gives));
         y += 1;
     }
+    count
 }
 
-// Whether the counts of two settings of the secrets differ.
-fn counts_differ(store: &[u16], block: Block, assignments: usize) -> bool {
-    let mut differ = false;
-    let mut s = 0;
-    while s < assignments {
-        if s & block.secrets == s && count(store, s) != count(store, 0) {
-            differ = true;
-        }
-        s += 1;
-    }
-    differ
-}
-
-// Whether there is a pattern of the node whose counts differ. A pattern that no assignment gives has count 0 throughout.
-fn node_differs(store: &mut [u16], block: Block, assignments: usize) -> bool {
+// Whether there are a pattern, a setting of the publics and two settings of the secrets for which the counts differ: one of the secrets
+// is that all are 0. A pattern that no assignment gives has count 0 throughout.
+fn node_differs(patterns: [usize; 32], secrets: usize, masks: usize) -> bool {
     let mut differs = false;
-    let mut x = 0;
-    while x < assignments {
-        count_masks(store, block, x, assignments);
-        differs = differs || counts_differ(store, block, assignments);
-        x += 1;
+    let mut k = 0;
+    while k < 1024 {
+        let pattern = patterns[k / 32];
+        let publics = k / 32 & (31 ^ (secrets | masks));
+        let setting = k % 32;
+        if setting & secrets == setting {
+            let here = settings(patterns, pattern, masks, publics | setting);
+            differs = differs | (here != settings(patterns, pattern, masks, publics));
+        }
+        k += 1;
     }
     differs
-}
-
-// ---- one block
-
-fn is_tested(block: Block, node: usize) -> bool {
-    let entry = second::record_of(block, node);
-    entry.kind != 2
 }
 
 // The number of tested nodes, of those whose counts differ, and the lowest of these (or NODES).
@@ -166,43 +95,25 @@ struct Counted {
     lowest: usize,
 }
 
-fn with_node(counted: Counted, node: usize, differs: bool) -> Counted {
-    Counted {
-        tested: sum(counted.tested, 1),
-        differ: sum(counted.differ, one_if(differs)),
-        lowest: if differs {
-            least(node, counted.lowest)
-        } else {
-            counted.lowest
-        },
-    }
-}
-
-fn count_node(
-    counted: Counted,
-    bytes: &[u8],
-    block: Block,
-    node: usize,
-    assignments: usize,
-    store: &mut [u16],
-) -> Counted {
-    if !is_tested(block, node) {
-        return counted;
-    }
-    node_patterns(store, bytes, node, assignments);
-    with_node(counted, node, node_differs(store, block, assignments))
-}
-
-fn count_block(bytes: &[u8], block: Block, assignments: usize, store: &mut [u16]) -> Counted {
+fn count_block(bytes: &[u8]) -> Counted {
+    let block = second::read(bytes);
+    let values = all_values(bytes, block.count);
     let mut counted = Counted {
         tested: 0,
         differ: 0,
         lowest: NODES,
     };
-    let mut node = 0;
-    while node < block.count {
-        counted = count_node(counted, bytes, block, node, assignments, store);
-        node += 1;
+    let mut node = block.count % 16;
+    while 0 < node {
+        node -= 1;
+        let entry = block.nodes[node % 200];
+        if entry.kind != 2 {
+            let patterns = patterns_of(bytes, values, node);
+            let differs = node_differs(patterns, block.classes[0], block.classes[1]);
+            counted.tested = wrapping_add_usize(counted.tested, 1);
+            counted.differ = wrapping_add_usize(counted.differ, one_if(differs));
+            counted.lowest = if differs { node } else { counted.lowest };
+        }
     }
     counted
 }
@@ -222,85 +133,64 @@ fn suspect_node(bytes: &[u8]) -> usize {
     }
 }
 
-// The count where the answer is 1, and 0 where it is 0.
-fn if_so(yes: usize, count: usize) -> usize {
-    if yes == 1 { count } else { 0 }
-}
-
-fn with_block(tally: Tally, suspect: usize, counted: Counted) -> Tally {
-    let is_clear = one_if(suspect == NODES);
-    let is_suspect = one_if(suspect != NODES);
+// What was seen, with a block.
+fn try_block(tally: Tally, bytes: &[u8]) -> Tally {
     let mut next = tally;
-    next.counts[0] = sum(next.counts[0], 1);
-    next.counts[1] = sum(next.counts[1], is_clear);
-    next.counts[2] = sum(next.counts[2], if_so(is_clear, counted.tested));
-    next.counts[3] = sum(next.counts[3], is_suspect);
-    next.counts[4] = sum(next.counts[4], counted.tested);
-    next.counts[5] = sum(next.counts[5], counted.differ);
-    next.counts[6] = sum(
-        next.counts[6],
-        if_so(is_suspect, one_if(counted.differ == 0)),
-    );
-    next.counts[7] = sum(next.counts[7], one_if(counted.lowest < suspect));
+    let counted = count_block(bytes);
+    let suspect = suspect_node(bytes);
+    let is_clear = suspect == NODES;
+    next[0] = wrapping_add_usize(tally[0], 1);
+    next[1] = wrapping_add_usize(tally[1], one_if(is_clear));
+    next[2] = wrapping_add_usize(tally[2], number_if(is_clear, counted.tested));
+    next[3] = wrapping_add_usize(tally[3], one_if(!is_clear));
+    next[4] = wrapping_add_usize(tally[4], counted.tested);
+    next[5] = wrapping_add_usize(tally[5], counted.differ);
+    next[6] = wrapping_add_usize(tally[6], one_if(!is_clear & (counted.differ == 0)));
+    next[7] = wrapping_add_usize(tally[7], one_if(counted.lowest < suspect));
     next
 }
 
-fn try_block(tally: Tally, bytes: &[u8], store: &mut [u16]) -> Tally {
-    let block = second::read(bytes);
-    let assignments = 1usize << (block.variables % 16);
-    all_values(store, bytes, block.count, assignments);
-    let counted = count_block(bytes, block, assignments, store);
-    with_block(tally, suspect_node(bytes), counted)
-}
-
-// Blocks of at most five variables and eleven nodes.
-fn make(bytes: &mut [u8], seed: u32) -> Made {
-    let first = generator::next(seed);
-    let second = generator::next(first);
-    let third = generator::next(second);
-    let variables = 1 + generator::pick(first, 5);
-    let nodes = generator::pick(second, NODES);
-    generator::block(
-        bytes,
-        third,
+// What was seen, with a random block of at most five variables and eleven nodes, and the state after it.
+fn try_random(state: State) -> State {
+    let second = next(state.seed);
+    let third = next(second);
+    let variables = 1 + pick(state.seed, 5);
+    let made = generator::block(Shape {
+        seed: third,
         variables,
-        nodes,
-        generator::pick(third, 4) > 0,
-        false,
-    )
+        labels: variables,
+        nodes: pick(second, NODES),
+        mix: number_if(pick(third, 4) > 0, generator::MASKED),
+        near: 256,
+    });
+    let bytes = generator::bytes_of(made);
+    let n = made.length % 1025;
+    let tally = state.tally;
+    State {
+        seed: next(made.seed),
+        tally: try_block(tally, &bytes[..n]),
+    }
 }
 
-fn random_blocks(bytes: &mut [u8], store: &mut [u16]) -> Tally {
-    let mut tally = Tally { counts: [0; 8] };
-    let mut seed = 1;
+// Counts over all blocks, and prints what was seen. The last block is a false alarm: node 3 is the AND of a mask and its opposite, so the
+// register that holds it is always 0, and node 5 gives nothing away; but the families cannot know that.
+pub(crate) fn run() {
+    let mut state = State {
+        seed: 1,
+        tally: [0; 8],
+    };
     let mut turn = 0;
     while turn < BLOCKS {
-        let made = make(bytes, seed);
-        let n = least(made.length, bytes.len());
-        seed = generator::next(made.seed);
-        tally = try_block(tally, &bytes[..n], store);
+        state = try_random(state);
         turn += 1;
     }
-    tally
-}
-
-// Node 3 is the AND of a mask and its opposite, so the register that holds it is always 0, and node 5 gives nothing away; but the
-// families cannot know that.
-fn false_alarm(tally: Tally, store: &mut [u16]) -> Tally {
-    let block: &[u8] =
-        b"\x01\x00\x01\x01\x02\x03\x00\x02\x02\x00\x03\x01\x05\x01\x02\x07\x03\x04\x00\x04\x00";
-    try_block(tally, block, store)
-}
-
-// Counts over all blocks, and prints what was seen.
-pub(crate) fn run() {
-    let mut bytes = [0u8; 1024];
-    let mut store = [0u16; STORE];
-    let random = random_blocks(&mut bytes, &mut store);
-    let tally = false_alarm(random, &mut store);
-    let counts = tally.counts;
+    let random = state.tally;
+    let tally = try_block(
+        random,
+        b"\x01\x00\x01\x01\x02\x03\x00\x02\x02\x00\x03\x01\x05\x01\x02\x07\x03\x04\x00\x04\x00",
+    );
     print_counts(
         b"blocks\nclear for glitches\ntested nodes of those\nsuspect for glitches\ntested nodes\nnodes whose counts differ\nsuspect though no counts differ\ncontradictions\n",
-        &counts,
+        &tally,
     );
 }

@@ -1,5 +1,80 @@
 // Blocks at random, from a fixed generator: valid ones, and ones with a fault.
 ghost use Prim.Native.Nat.{_<_};
+use tools::least;
+
+// How a block is made: from which state, how many variables it declares and how many its sets may have, its nodes, the mix of their
+// kinds, and how far below a node its operands may be.
+pub(crate) struct Shape {
+    pub(crate) seed: u32,
+    pub(crate) variables: usize,
+    pub(crate) labels: usize,
+    pub(crate) nodes: usize,
+    pub(crate) mix: usize,
+    pub(crate) near: usize,
+}
+
+// The mixes, twelve kinds to each: every kind alike, more registers and XORs as in masked blocks, and no registers.
+const KINDS: [usize; 36] = [
+    2,
+    3,
+    4,
+    5,
+    6,
+    7,
+    2,
+    3,
+    4,
+    5,
+    6,
+    7,
+    2,
+    2,
+    3,
+    4,
+    4,
+    4,
+    5,
+    6,
+    7,
+    7,
+    7,
+    7,
+    2,
+    2,
+    3,
+    4,
+    4,
+    4,
+    4,
+    4,
+    5,
+    5,
+    6,
+    6,
+];
+
+pub(crate) const EVEN: usize = 0;
+
+pub(crate) const MASKED: usize = 1;
+
+pub(crate) const DENSE: usize = 2;
+
+// How many bytes a record has, by its kind.
+const LENGTHS: [usize; 8] = [1, 2, 3, 2, 3, 3, 3, 2];
+
+// Classes of variables, mostly masks.
+const CLASSES: [u8; 8] = [0, 2, 1, 1, 1, 1, 1, 1];
+
+// A block as far as it is made, and the state after it. There is room for the longest one, with what a fault may add.
+pub(crate) struct Made {
+    pub(crate) seed: u32,
+    pub(crate) length: usize,
+    bytes: [u8; 1024],
+}
+
+pub(crate) fn bytes_of(made: Made) -> [u8; 1024] {
+    made.bytes
+}
 
 // The next state of the generator.
 pub(crate) fn next(seed: u32) -> u32 {
@@ -16,199 +91,104 @@ pub(crate) fn pick(seed: u32, n: usize) -> usize
     ((seed / 65536) as usize) % n
 }
 
-// How much of a block is made, and the state after it.
-pub(crate) struct Made {
-    pub(crate) seed: u32,
-    pub(crate) length: usize,
-}
-
-// Puts a byte behind those of the block, where the slice has room.
-fn put(bytes: &mut [u8], made: Made, byte: usize) -> Made {
-    let at = made.length;
-    if at < bytes.len() {
-        bytes[at] = (byte % 256) as u8;
-        return Made {
-            seed: made.seed,
-            length: at + 1,
-        };
+// The variables of a block; variable 0 is secret.
+fn variables(shape: Shape) -> Made {
+    let mut made = Made {
+        seed: shape.seed,
+        length: shape.variables % 512 * 2,
+        bytes: [0; 1024],
+    };
+    let mut v = 0;
+    while v < shape.variables {
+        made.seed = next(made.seed);
+        made.bytes[v % 512 * 2] = 1;
+        made.bytes[v % 512 * 2 + 1] = CLASSES[pick(made.seed, 8) % 8];
+        v += 1;
     }
+    made.bytes[1] = 0;
     made
 }
 
-fn roll(made: Made) -> Made {
-    Made {
-        seed: next(made.seed),
-        length: made.length,
+// The two bytes behind the kind of node i, low first. An input of a masked block has a variable other than variable 0, where there is one.
+fn body_of(shape: Shape, kind: usize, i: usize, seed: u32) -> usize {
+    let other = next(seed);
+    let labels = shape.labels % 16;
+    let any = pick(seed, 1usize << labels);
+    if kind != 2 {
+        let above = i % 256;
+        let low = above - least(shape.near, above);
+        return low + pick(seed, above - low) + 256 * (low + pick(other, above - low));
     }
-}
-
-// Mostly masks; variable 0 is secret.
-fn class(seed: u32, v: usize) -> usize {
-    if v == 0 {
-        return 0;
-    }
-    match pick(seed, 8) {
-        0 => 0,
-        1 => 2,
-        _ => 1,
-    }
-}
-
-fn put_variable(bytes: &mut [u8], made: Made, v: usize) -> Made {
-    let rolled = roll(made);
-    let kind = put(bytes, rolled, 1);
-    put(bytes, kind, class(rolled.seed, v))
-}
-
-fn put_variables(bytes: &mut [u8], made: Made, variables: usize) -> Made {
-    let mut now = made;
-    let mut v = 0;
-    while v < variables {
-        now = put_variable(bytes, now, v);
-        v += 1;
-    }
-    now
-}
-
-// The kind of a node: of every sort alike, or with more registers and XORs.
-fn kind(seed: u32, masked: bool) -> usize {
-    if !masked {
-        return 2 + pick(seed, 6);
-    }
-    match pick(seed, 12) {
-        0 | 1 => 2,
-        2 => 3,
-        3 | 4 | 5 => 4,
-        6 => 5,
-        7 => 6,
-        _ => 7,
-    }
-}
-
-// The set of an input: any, or one with a variable other than variable 0.
-fn set(seed: u32, variables: usize, masked: bool) -> usize {
-    let any = pick(seed, 1usize << (variables % 16));
-    if !masked {
+    if shape.mix != MASKED {
         return any;
     }
-    if variables < 2 {
+    if labels < 2 {
         return any;
     }
-    any | (1usize << ((1 + pick(next(seed), variables - 1)) % 16))
+    any | (1usize << ((1 + pick(other, labels - 1)) % 16))
 }
 
-fn put_input(bytes: &mut [u8], made: Made, variables: usize, masked: bool) -> Made {
-    let rolled = roll(made);
-    let number = set(rolled.seed, variables, masked);
-    let begun = put(bytes, rolled, 2);
-    let low = put(bytes, begun, number);
-    put(bytes, low, number / 256)
-}
-
-fn put_operand(bytes: &mut [u8], made: Made, i: usize) -> Made {
-    let rolled = roll(made);
-    put(bytes, rolled, pick(rolled.seed, i))
-}
-
-fn put_gate(bytes: &mut [u8], made: Made, i: usize, kind: usize) -> Made {
-    let begun = put(bytes, made, kind);
-    let first = put_operand(bytes, begun, i);
-    if kind == 3 || kind == 7 {
-        return first;
+// The block with node i; the first two are inputs.
+fn with_node(made: Made, shape: Shape, i: usize) -> Made {
+    let mut next_made = made;
+    let seed = next(made.seed);
+    let at = made.length % 1000;
+    let mut kind = KINDS[shape.mix % 3 * 12 + pick(seed, 12) % 12];
+    if i < 2 {
+        kind = 2;
     }
-    put_operand(bytes, first, i)
+    let body = body_of(shape, kind, i, next(seed));
+    next_made.bytes[at] = (kind % 8) as u8;
+    next_made.bytes[at + 1] = (body % 256) as u8;
+    next_made.bytes[at + 2] = (body / 256 % 256) as u8;
+    next_made.length = at + LENGTHS[kind % 8] % 4;
+    next_made.seed = next(next(seed));
+    next_made
 }
 
-// Node i; the first two are inputs.
-fn put_node(bytes: &mut [u8], made: Made, variables: usize, i: usize, masked: bool) -> Made {
-    let rolled = roll(made);
-    let kind = kind(rolled.seed, masked);
-    if i < 2 || kind == 2 {
-        return put_input(bytes, rolled, variables, masked);
-    }
-    put_gate(bytes, rolled, i, kind)
-}
-
-fn put_nodes(bytes: &mut [u8], made: Made, variables: usize, nodes: usize, masked: bool) -> Made {
-    let mut now = made;
+// A whole block.
+pub(crate) fn block(shape: Shape) -> Made {
+    let mut made = variables(shape);
     let mut i = 0;
-    while i < nodes {
-        now = put_node(bytes, now, variables, i, masked);
+    while i < shape.nodes {
+        made = with_node(made, shape, i);
         i += 1;
     }
-    now
+    let end = made.length % 1000;
+    made.bytes[end] = 0;
+    made.length = end + 1;
+    made
 }
 
-// A block of so many variables and nodes, in the front of a slice. With `wide`, its sets may have a variable more than are declared.
-pub(crate) fn block(
-    bytes: &mut [u8],
-    seed: u32,
-    variables: usize,
-    nodes: usize,
-    masked: bool,
-    wide: bool,
-) -> Made {
-    let start = Made { seed, length: 0 };
-    let declared = put_variables(bytes, start, variables);
-    let most = if wide { variables % 16 + 1 } else { variables };
-    let whole = put_nodes(bytes, declared, most, nodes, masked);
-    put(bytes, whole, 0)
-}
-
-// ---- faults
-
-fn cut(made: Made, length: usize) -> Made {
-    Made {
-        seed: made.seed,
-        length,
+// Damages about one block in four: another byte, fewer bytes, a byte behind the end record, a variable before it, or a class above 2.
+// The block may stay valid.
+pub(crate) fn damaged(made: Made) -> Made {
+    let first = next(made.seed);
+    let second = next(first);
+    let third = next(second);
+    let whole = made.length % 1000;
+    let at = pick(second, whole) % 1000;
+    let mut other = made;
+    other.seed = third;
+    if whole == 0 {
+        return other;
     }
-}
-
-// Another byte at a place of the block.
-fn change(bytes: &mut [u8], at: usize, byte: usize) {
-    if at < bytes.len() {
-        bytes[at] = (byte % 256) as u8;
-    }
-}
-
-// The end record gives way to a variable and an end.
-fn late_variable(bytes: &mut [u8], made: Made) -> Made {
-    if made.length == 0 {
-        return made;
-    }
-    let open = cut(made, made.length - 1);
-    let begun = put(bytes, open, 1);
-    let class = put(bytes, begun, 1);
-    put(bytes, class, 0)
-}
-
-// The class of one of the first variables becomes one above 2.
-fn bad_class(bytes: &mut [u8], seed: u32) {
-    change(bytes, 1 + 2 * pick(seed, 3), 3 + pick(next(seed), 250));
-}
-
-// Damages a block in one of eight ways, the last of which changes nothing. It may stay valid.
-pub(crate) fn damage(bytes: &mut [u8], made: Made) -> Made {
-    let first = roll(made);
-    let second = roll(first);
-    let third = roll(second);
-    let at = pick(second.seed, made.length);
-    match pick(first.seed, 8) {
-        0 | 1 => {
-            change(bytes, at, pick(third.seed, 10));
-            third
+    match pick(first, 24) {
+        0 | 1 => other.bytes[at] = (pick(third, 10) % 256) as u8,
+        2 => other.bytes[at] = (pick(third, 256) % 256) as u8,
+        3 => other.length = at,
+        4 => {
+            other.bytes[whole] = (pick(third, 9) % 256) as u8;
+            other.length = whole + 1;
         }
-        2 => {
-            change(bytes, at, pick(third.seed, 256));
-            third
+        5 => {
+            other.bytes[whole - 1] = 1;
+            other.bytes[whole] = 1;
+            other.bytes[whole + 1] = 0;
+            other.length = whole + 2;
         }
-        3 => cut(third, at),
-        4 => put(bytes, third, pick(third.seed, 9)),
-        5 => late_variable(bytes, third),
-        6 => {
-            bad_class(bytes, third.seed);
-            third
-        }
-        _ => third,
+        6 => other.bytes[pick(third, 3) % 3 * 2 + 1] = (pick(next(third), 250) % 250 + 3) as u8,
+        _ => {}
     }
+    other
 }

@@ -1,29 +1,29 @@
--- `random_blocks::compare::same_entries` is safe and ends: it looks at entries below 200. Assumes nothing.
+-- `random_blocks::compare::same_entries` is safe and ends: each turn leaves fewer entries. Assumes nothing.
 use borrow.Author.Needs.{needs}
 use Prim.Native.Nat.{_-_, _≤_}
 use Rattle.random_blocks.proofs.compare.same_entries.Statement.{statement}
 use Rattle.random_blocks.proofs.compare.same_entries.Tie as tie
 
 abbrev Inv-loop : tie.InvT-loop
-Inv-loop block written nodes same₀ i₀ same i = i ≤ 200
+Inv-loop written nodes block same₀ i₀ same i = i ≤ 200
 
 abbrev μ-loop : tie.MeasureT-loop
-μ-loop block written nodes same₀ i₀ same i = 200 - i
+μ-loop written nodes block same₀ i₀ same i = 200 - i
 
 loop-holds : tie.Need-loop-holds Inv-loop μ-loop
 loop-holds c = search needs
 
-mul-same-node : tie.Need-mul-same-node Inv-loop μ-loop
-mul-same-node c = search needs
+mul-a : tie.Need-mul-a Inv-loop μ-loop
+mul-a c = search needs
 
-array-copy-out-same-node : tie.Need-array-copy-out-same-node Inv-loop μ-loop
-array-copy-out-same-node c = search needs
+array-copy-out-a : tie.Need-array-copy-out-a Inv-loop μ-loop
+array-copy-out-a c = search needs
 
-expected-entry-requires : tie.Need-expected-entry-requires Inv-loop μ-loop
-expected-entry-requires c κs = search needs
+mul-b : tie.Need-mul-b Inv-loop μ-loop
+mul-b c = search needs
 
-same-node-requires : tie.Need-same-node-requires Inv-loop μ-loop
-same-node-requires c κs = search needs
+element-copy-out-b : tie.Need-element-copy-out-b Inv-loop μ-loop
+element-copy-out-b c = search needs
 
 add-i : tie.Need-add-i Inv-loop μ-loop
 add-i c = search needs
@@ -44,10 +44,10 @@ same-entries-spec =
     Inv-loop
     μ-loop
     loop-holds
-    mul-same-node
-    array-copy-out-same-node
-    expected-entry-requires
-    same-node-requires
+    mul-a
+    array-copy-out-a
+    mul-b
+    element-copy-out-b
     add-i
     loop-less
     loop-again

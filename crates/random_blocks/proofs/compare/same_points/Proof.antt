@@ -1,17 +1,14 @@
--- `random_blocks::compare::same_points` is safe and ends: it looks at marks below 200. Assumes nothing.
+-- `random_blocks::compare::same_points` is safe and ends: each turn leaves fewer nodes. Assumes nothing.
 use borrow.Author.Needs.{needs}
 use Prim.Native.Nat.{_-_, _≤_}
 use Rattle.random_blocks.proofs.compare.same_points.Statement.{statement}
 use Rattle.random_blocks.proofs.compare.same_points.Tie as tie
 
 abbrev Inv-loop : tie.InvT-loop
-Inv-loop expected words node marks same₀ j₀ same j = j ≤ 200
+Inv-loop store node answered marks same₀ j₀ same j = j ≤ 200
 
 abbrev μ-loop : tie.MeasureT-loop
-μ-loop expected words node marks same₀ j₀ same j = 200 - j
-
-same-outcome-requires : tie.Need-same-outcome-requires Inv-loop μ-loop
-same-outcome-requires c κs = search needs
+μ-loop store node answered marks same₀ j₀ same j = 200 - j
 
 loop-holds : tie.Need-loop-holds Inv-loop μ-loop
 loop-holds c = search needs
@@ -19,8 +16,11 @@ loop-holds c = search needs
 array-read-same : tie.Need-array-read-same Inv-loop μ-loop
 array-read-same c = search needs
 
-feeds-requires : tie.Need-feeds-requires Inv-loop μ-loop
-feeds-requires c κs = search needs
+add-has-bit : tie.Need-add-has-bit Inv-loop μ-loop
+add-has-bit c = search needs
+
+has-bit-requires : tie.Need-has-bit-requires Inv-loop μ-loop
+has-bit-requires c κs = search needs
 
 add-j : tie.Need-add-j Inv-loop μ-loop
 add-j c = search needs
@@ -40,10 +40,10 @@ same-points-spec =
     (tie.spec
     Inv-loop
     μ-loop
-    same-outcome-requires
     loop-holds
     array-read-same
-    feeds-requires
+    add-has-bit
+    has-bit-requires
     add-j
     loop-less
     loop-again

@@ -1,25 +1,52 @@
--- `random_blocks::counts::count_block` is safe and ends: each turn leaves fewer nodes, and the slice keeps its length. Assumes nothing.
+-- `random_blocks::counts::count_block` is safe and ends: each turn leaves fewer nodes. Assumes nothing.
 use borrow.Author.Needs.{needs}
-use mathlib.Core.Path.{_≡_}
-use Prim.Native.Nat.{_-_}
-use lib.ListN.{length}
 use Rattle.random_blocks.proofs.counts.count_block.Statement.{statement}
 use Rattle.random_blocks.proofs.counts.count_block.Tie as tie
 
 abbrev Inv-loop : tie.InvT-loop
-Inv-loop bytes block assignments store₀ counted₀ node₀ store counted node = length store ≡ length store₀
+Inv-loop bytes block values counted₀ node₀ counted node = Unit
 
 abbrev μ-loop : tie.MeasureT-loop
-μ-loop bytes block assignments store₀ counted₀ node₀ store counted node = block .count - node
+μ-loop bytes block values counted₀ node₀ counted node = node
+
+read-requires : tie.Need-read-requires Inv-loop μ-loop
+read-requires c κs = search needs
+
+all-values-requires : tie.Need-all-values-requires Inv-loop μ-loop
+all-values-requires c κs = search needs
 
 loop-holds : tie.Need-loop-holds Inv-loop μ-loop
 loop-holds c = search needs
 
-count-node-requires : tie.Need-count-node-requires Inv-loop μ-loop
-count-node-requires c κs = search needs
+sub-node : tie.Need-sub-node Inv-loop μ-loop
+sub-node c = search needs
 
-add-node : tie.Need-add-node Inv-loop μ-loop
-add-node c = search needs
+mul-entry : tie.Need-mul-entry Inv-loop μ-loop
+mul-entry c = search needs
+
+element-copy-out-entry : tie.Need-element-copy-out-entry Inv-loop μ-loop
+element-copy-out-entry c = search needs
+
+patterns-of-requires : tie.Need-patterns-of-requires Inv-loop μ-loop
+patterns-of-requires c κs = search needs
+
+element-copy-out-node-differs : tie.Need-element-copy-out-node-differs Inv-loop μ-loop
+element-copy-out-node-differs c = search needs
+
+element-copy-out-node-differs-2 : tie.Need-element-copy-out-node-differs-2 Inv-loop μ-loop
+element-copy-out-node-differs-2 c = search needs
+
+node-differs-requires : tie.Need-node-differs-requires Inv-loop μ-loop
+node-differs-requires c κs = search needs
+
+wrapping-add-usize-requires : tie.Need-wrapping-add-usize-requires Inv-loop μ-loop
+wrapping-add-usize-requires c κs = search needs
+
+one-if-requires : tie.Need-one-if-requires Inv-loop μ-loop
+one-if-requires c κs = search needs
+
+wrapping-add-usize-requires-2 : tie.Need-wrapping-add-usize-requires-2 Inv-loop μ-loop
+wrapping-add-usize-requires-2 c κs = search needs
 
 loop-less : tie.Need-loop-less Inv-loop μ-loop
 loop-less c = search needs
@@ -27,8 +54,17 @@ loop-less c = search needs
 loop-again : tie.Need-loop-again Inv-loop μ-loop
 loop-again c = search needs
 
-same-length : tie.Need-same-length Inv-loop μ-loop
-same-length c = search needs
+loop-less-2 : tie.Need-loop-less-2 Inv-loop μ-loop
+loop-less-2 c = search needs
+
+loop-again-2 : tie.Need-loop-again-2 Inv-loop μ-loop
+loop-again-2 c = search needs
+
+loop-less-3 : tie.Need-loop-less-3 Inv-loop μ-loop
+loop-less-3 c = search needs
+
+loop-again-3 : tie.Need-loop-again-3 Inv-loop μ-loop
+loop-again-3 c = search needs
 
 returns : tie.Need-returns Inv-loop μ-loop
 returns c = search needs
@@ -39,10 +75,23 @@ count-block-spec =
     (tie.spec
     Inv-loop
     μ-loop
+    read-requires
+    all-values-requires
     loop-holds
-    count-node-requires
-    add-node
+    sub-node
+    mul-entry
+    element-copy-out-entry
+    patterns-of-requires
+    element-copy-out-node-differs
+    element-copy-out-node-differs-2
+    node-differs-requires
+    wrapping-add-usize-requires
+    one-if-requires
+    wrapping-add-usize-requires-2
     loop-less
     loop-again
-    same-length
+    loop-less-2
+    loop-again-2
+    loop-less-3
+    loop-again-3
     returns)

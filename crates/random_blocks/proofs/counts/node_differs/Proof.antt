@@ -1,37 +1,38 @@
--- `random_blocks::counts::node_differs` is safe and ends: each turn leaves fewer assignments. Assumes nothing.
+-- `random_blocks::counts::node_differs` is safe and ends: each turn leaves fewer pairs of an assignment and a setting of the secrets. Assumes nothing.
 use borrow.Author.Needs.{needs}
-use mathlib.Core.Path.{_≡_}
-use Prim.Native.Nat.{_-_}
-use lib.ListN.{length}
+use Prim.Native.Nat.{_-_, _≤_}
 use Rattle.random_blocks.proofs.counts.node_differs.Statement.{statement}
 use Rattle.random_blocks.proofs.counts.node_differs.Tie as tie
 
 abbrev Inv-loop : tie.InvT-loop
-Inv-loop store₀ block assignments differs₀ x₀ store differs x = length store ≡ length store₀
+Inv-loop secrets masks patterns differs₀ k₀ differs k = k ≤ 1024
 
 abbrev μ-loop : tie.MeasureT-loop
-μ-loop store₀ block assignments differs₀ x₀ store differs x = assignments - x
+μ-loop secrets masks patterns differs₀ k₀ differs k = 1024 - k
 
 loop-holds : tie.Need-loop-holds Inv-loop μ-loop
 loop-holds c = search needs
 
-count-masks-requires : tie.Need-count-masks-requires Inv-loop μ-loop
-count-masks-requires c κs = search needs
+mul-pattern : tie.Need-mul-pattern Inv-loop μ-loop
+mul-pattern c = search needs
 
-counts-differ-requires : tie.Need-counts-differ-requires Inv-loop μ-loop
-counts-differ-requires c κs = search needs
+array-read-pattern : tie.Need-array-read-pattern Inv-loop μ-loop
+array-read-pattern c = search needs
 
-add-x : tie.Need-add-x Inv-loop μ-loop
-add-x c = search needs
+settings-requires : tie.Need-settings-requires Inv-loop μ-loop
+settings-requires c κs = search needs
+
+settings-requires-2 : tie.Need-settings-requires-2 Inv-loop μ-loop
+settings-requires-2 c κs = search needs
+
+add-k : tie.Need-add-k Inv-loop μ-loop
+add-k c = search needs
 
 loop-less : tie.Need-loop-less Inv-loop μ-loop
 loop-less c = search needs
 
 loop-again : tie.Need-loop-again Inv-loop μ-loop
 loop-again c = search needs
-
-same-length : tie.Need-same-length Inv-loop μ-loop
-same-length c = search needs
 
 returns : tie.Need-returns Inv-loop μ-loop
 returns c = search needs
@@ -43,10 +44,11 @@ node-differs-spec =
     Inv-loop
     μ-loop
     loop-holds
-    count-masks-requires
-    counts-differ-requires
-    add-x
+    mul-pattern
+    array-read-pattern
+    settings-requires
+    settings-requires-2
+    add-k
     loop-less
     loop-again
-    same-length
     returns)

@@ -1,7 +1,7 @@
--- `random_blocks::generator::pick` meets its contract: a remainder is at most the number divided, here the upper half of 32 bits. Assumes nothing.
-use native.Mathlib.Nat.{mod-le, lt-of-le-of-lt}
+-- `random_blocks::generator::pick` gives a number below 65,536: the upper half of a state, or less. Assumes nothing.
 use native.Mathlib.Omega.{arith}
 use borrow.Author.Needs.{needs}
+use native.Mathlib.Nat.{lt-of-le-of-lt, mod-le}
 use Rattle.random_blocks.proofs.generator.pick.Statement.{statement}
 use Rattle.random_blocks.proofs.generator.pick.Tie as tie
 

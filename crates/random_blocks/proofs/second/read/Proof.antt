@@ -11,9 +11,6 @@ Inv-loop bytes block₀ at₀ block at = Unit
 abbrev μ-loop : tie.MeasureT-loop
 μ-loop bytes block₀ at₀ block at = length bytes - at
 
-nothing-read-requires : tie.Need-nothing-read-requires Inv-loop μ-loop
-nothing-read-requires c κs = search needs
-
 loop-holds : tie.Need-loop-holds Inv-loop μ-loop
 loop-holds c = search needs
 
@@ -32,11 +29,14 @@ loop-less c = search needs
 loop-again : tie.Need-loop-again Inv-loop μ-loop
 loop-again c = search needs
 
-finish-requires : tie.Need-finish-requires Inv-loop μ-loop
-finish-requires c κs = search needs
-
 returns : tie.Need-returns Inv-loop μ-loop
 returns c = search needs
+
+returns-2 : tie.Need-returns-2 Inv-loop μ-loop
+returns-2 c = search needs
+
+returns-3 : tie.Need-returns-3 Inv-loop μ-loop
+returns-3 c = search needs
 
 pub read-spec : {M : Type 1} → statement M
 read-spec =
@@ -44,12 +44,12 @@ read-spec =
     (tie.spec
     Inv-loop
     μ-loop
-    nothing-read-requires
     loop-holds
     shared-slice-read-with-byte
     with-byte-requires
     add-at
     loop-less
     loop-again
-    finish-requires
-    returns)
+    returns
+    returns-2
+    returns-3)

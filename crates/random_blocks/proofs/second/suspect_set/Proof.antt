@@ -5,10 +5,10 @@ use Rattle.random_blocks.proofs.second.suspect_set.Statement.{statement
 use Rattle.random_blocks.proofs.second.suspect_set.Tie as tie
 
 abbrev Inv-loop : tie.InvT-loop
-Inv-loop block store list many lowest₀ k₀ lowest k = Unit
+Inv-loop store list secrets masks many lowest₀ k₀ lowest k = Unit
 
 abbrev μ-loop : tie.MeasureT-loop
-μ-loop block store list many lowest₀ k₀ lowest k = many - k
+μ-loop store list secrets masks many lowest₀ k₀ lowest k = many - k
 
 length-of-requires : tie.Need-length-of-requires Inv-loop μ-loop
 length-of-requires c κs = search needs
@@ -18,9 +18,6 @@ loop-holds c = search needs
 
 set-at-requires : tie.Need-set-at-requires Inv-loop μ-loop
 set-at-requires c κs = search needs
-
-is-suspect-requires : tie.Need-is-suspect-requires Inv-loop μ-loop
-is-suspect-requires c κs = search needs
 
 least-requires : tie.Need-least-requires Inv-loop μ-loop
 least-requires c κs = search needs
@@ -46,7 +43,6 @@ suspect-set-spec =
     length-of-requires
     loop-holds
     set-at-requires
-    is-suspect-requires
     least-requires
     add-k
     loop-less
