@@ -3,56 +3,46 @@
 // settings that give a pattern must be the same for all settings of the secrets, at every tested node; where the counts of a node
 // differ, the checker must have named a suspect at that node or a lower one.
 use crate::generator;
-use crate::generator::Shape;
+use crate::generator::Bytes;
 use crate::generator::next;
 use crate::generator::pick;
 use crate::second;
+use crate::second::Block;
 use crate::second::number_if;
+use crate::tally::Tally;
+use crate::tally::count;
 use rules::Half;
 use rules::Reply;
 use std::num::wrapping_add_usize;
-use tools::one_if;
-use tools::print_counts;
 
 const BLOCKS: usize = 1500;
 
 // A block here has fewer nodes than this, and at most 32 assignments.
 const NODES: usize = 12;
 
-// What was seen: counts, in the order of the names that `run` prints.
-type Tally = [usize; 8];
+// What is counted, by its place in the tally: clear blocks and their tested nodes, suspect ones and theirs, nodes whose counts
+// differ, false alarms, and contradictions.
+const SUSPECT: usize = 2;
 
-// The generator's state, and what was seen.
-struct State {
-    seed: u32,
-    tally: Tally,
-}
+const DIFFER: usize = 4;
 
-// The value of each node under all assignments: bit x under assignment x, and 0 where a query is refused.
-fn all_values(bytes: &[u8], count: usize) -> [usize; NODES] {
-    let end = count % 16 * 32;
-    let mut values = [0usize; NODES];
-    let mut k = 0;
-    while k < end {
-        let reply = queries::settled_value(bytes, k / 32, k % 32);
-        let node = k / 32 % NODES;
-        values[node] = values[node] | (one_if(reply.value) << (k % 32));
-        k += 1;
-    }
-    values
-}
+const FALSE_ALARMS: usize = 5;
 
-// The pattern of a node's feeding points under each assignment: bit j is the value of node j, where that is a feeding point.
-fn patterns_of(bytes: &[u8], values: [usize; NODES], node: usize) -> [usize; 32] {
-    let reply = queries::feeding_points(bytes, node);
-    let marks = reply.marks;
+const CONTRADICTIONS: usize = 6;
+
+// The pattern of a node's feeding points under each assignment: bit j is the value of node j, where that is a feeding point. An assignment
+// that the block does not have is refused, and gives 0.
+fn patterns_of(bytes: &[u8], node: usize) -> [usize; 32] {
+    let points = queries::feeding_points(bytes, node);
+    let marks = points.marks;
     let mut patterns = [0usize; 32];
     let mut k = 0;
     while k < 384 {
         let j = k / 32;
-        let x = k % 32;
-        let bit = one_if(marks[j]) & (values[j] >> x);
-        patterns[x] = patterns[x] | (bit << j);
+        if marks[j] {
+            let reply = queries::settled_value(bytes, j, k % 32);
+            patterns[k % 32] = patterns[k % 32] | (number_if(reply.value, 1) << j);
+        }
         k += 1;
     }
     patterns
@@ -60,18 +50,18 @@ fn patterns_of(bytes: &[u8], values: [usize; NODES], node: usize) -> [usize; 32]
 
 // How many mask settings give a pattern, where the variables that are no masks are `fixed`.
 fn settings(patterns: [usize; 32], pattern: usize, masks: usize, fixed: usize) -> usize {
-    let mut count = 0;
+    let mut many = 0;
     let mut y = 0;
     while y < 32 {
         let gives = (patterns[y] == pattern) & (y & (31 ^ masks) == fixed);
-        count = wrapping_add_usize(count, one_if(gives));
+        many = wrapping_add_usize(many, number_if(gives, 1));
         y += 1;
     }
-    count
+    many
 }
 
-// Whether there are a pattern, a setting of the publics and two settings of the secrets for which the counts differ: one of the secrets
-// is that all are 0. A pattern that no assignment gives has count 0 throughout.
+// Whether there are a pattern, a setting of the publics and one of the secrets whose count is not that of the secrets that are all 0. A
+// pattern that no assignment gives has count 0 throughout.
 fn node_differs(patterns: [usize; 32], secrets: usize, masks: usize) -> bool {
     let mut differs = false;
     let mut k = 0;
@@ -88,43 +78,14 @@ fn node_differs(patterns: [usize; 32], secrets: usize, masks: usize) -> bool {
     differs
 }
 
-// The number of tested nodes, of those whose counts differ, and the lowest of these (or NODES).
-struct Counted {
-    tested: usize,
-    differ: usize,
-    lowest: usize,
-}
-
-fn count_block(bytes: &[u8]) -> Counted {
-    let block = second::read(bytes);
-    let values = all_values(bytes, block.count);
-    let mut counted = Counted {
-        tested: 0,
-        differ: 0,
-        lowest: NODES,
-    };
-    let mut node = block.count % 16;
-    while 0 < node {
-        node -= 1;
-        let entry = block.nodes[node % 200];
-        if entry.kind != 2 {
-            let patterns = patterns_of(bytes, values, node);
-            let differs = node_differs(patterns, block.classes[0], block.classes[1]);
-            counted.tested = wrapping_add_usize(counted.tested, 1);
-            counted.differ = wrapping_add_usize(counted.differ, one_if(differs));
-            counted.lowest = if differs { node } else { counted.lowest };
-        }
-    }
-    counted
-}
-
-// The lowest node that the glitch half names, or NODES where it is clear; 0 on a refusal, which no block here gets.
+// The lowest node that the glitch half names, or NODES where it is clear. A refusal, which no block here is to get, gives more, and so
+// counts as a contradiction.
 fn suspect_node(bytes: &[u8]) -> usize {
     let mut work = [0u8; 51200];
     let examined = checker::examine(bytes, 200, &mut work);
     let reply = examined.reply;
     let Reply::Answered(answer) = reply else {
-        return 0;
+        return NODES + 1;
     };
     let glitch = answer.glitch;
     match glitch {
@@ -133,64 +94,76 @@ fn suspect_node(bytes: &[u8]) -> usize {
     }
 }
 
-// What was seen, with a block.
-fn try_block(tally: Tally, bytes: &[u8]) -> Tally {
-    let mut next = tally;
-    let counted = count_block(bytes);
-    let suspect = suspect_node(bytes);
-    let is_clear = suspect == NODES;
-    next[0] = wrapping_add_usize(tally[0], 1);
-    next[1] = wrapping_add_usize(tally[1], one_if(is_clear));
-    next[2] = wrapping_add_usize(tally[2], number_if(is_clear, counted.tested));
-    next[3] = wrapping_add_usize(tally[3], one_if(!is_clear));
-    next[4] = wrapping_add_usize(tally[4], counted.tested);
-    next[5] = wrapping_add_usize(tally[5], counted.differ);
-    next[6] = wrapping_add_usize(tally[6], one_if(!is_clear & (counted.differ == 0)));
-    next[7] = wrapping_add_usize(tally[7], one_if(counted.lowest < suspect));
-    next
+// Counts the tested nodes at `row`, and those of them whose counts differ. Gives the lowest of these, or NODES.
+fn try_nodes(tally: &mut Tally, bytes: &[u8], block: &Block, row: usize) -> usize {
+    let mut lowest = NODES;
+    let mut node = block[second::COUNT] % 16;
+    while 0 < node {
+        node -= 1;
+        if block[second::KINDS + node % 16] != 2 {
+            let patterns = patterns_of(bytes, node);
+            let differs = node_differs(patterns, block[second::SECRETS], block[second::MASKS]);
+            count(tally, row % 3 + 1, 1);
+            count(tally, DIFFER, number_if(differs, 1));
+            lowest = if differs { node } else { lowest };
+        }
+    }
+    lowest
 }
 
-// What was seen, with a random block of at most five variables and eleven nodes, and the state after it.
-fn try_random(state: State) -> State {
-    let second = next(state.seed);
-    let third = next(second);
-    let variables = 1 + pick(state.seed, 5);
-    let made = generator::block(Shape {
-        seed: third,
-        variables,
-        labels: variables,
-        nodes: pick(second, NODES),
-        mix: number_if(pick(third, 4) > 0, generator::MASKED),
-        near: 256,
-    });
-    let bytes = generator::bytes_of(made);
-    let n = made.length % 1025;
-    let tally = state.tally;
-    State {
-        seed: next(made.seed),
-        tally: try_block(tally, &bytes[..n]),
+fn try_block(tally: &mut Tally, bytes: &[u8]) {
+    let mut block = [0usize; 416];
+    second::read(bytes, &mut block);
+    let suspect = suspect_node(bytes);
+    let row = number_if(suspect < NODES, SUSPECT);
+    let lowest = try_nodes(tally, bytes, &block, row);
+    count(tally, row, 1);
+    count(
+        tally,
+        FALSE_ALARMS,
+        number_if((row > 0) & (lowest == NODES), 1),
+    );
+    count(tally, CONTRADICTIONS, number_if(lowest < suspect, 1));
+}
+
+// Tries the block at the front.
+fn try_front(tally: &mut Tally, bytes: &Bytes, length: usize) {
+    let n = length % 1025;
+    let whole = &bytes[..];
+    try_block(tally, &whole[..n]);
+}
+
+// Tries a random block of at most five variables and eleven nodes.
+fn try_random(tally: &mut Tally, seed: usize) {
+    let mut bytes = [0u8; 1024];
+    let second = next(seed);
+    let variables = 1 + pick(seed, 5);
+    let nodes = pick(second, NODES);
+    let mut mix = generator::EVEN;
+    if pick(next(second), 4) > 0 {
+        mix = generator::MASKED;
     }
+    let length = generator::put_block(&mut bytes, [variables, variables, nodes, mix, 256], seed);
+    try_front(tally, &bytes, length);
 }
 
 // Counts over all blocks, and prints what was seen. The last block is a false alarm: node 3 is the AND of a mask and its opposite, so the
 // register that holds it is always 0, and node 5 gives nothing away; but the families cannot know that.
 pub(crate) fn run() {
-    let mut state = State {
-        seed: 1,
-        tally: [0; 8],
-    };
+    let mut tally = [0usize; 36];
+    let mut seed = 1;
     let mut turn = 0;
     while turn < BLOCKS {
-        state = try_random(state);
+        try_random(&mut tally, seed);
+        seed = generator::jump(seed);
         turn += 1;
     }
-    let random = state.tally;
-    let tally = try_block(
-        random,
+    try_block(
+        &mut tally,
         b"\x01\x00\x01\x01\x02\x03\x00\x02\x02\x00\x03\x01\x05\x01\x02\x07\x03\x04\x00\x04\x00",
     );
-    print_counts(
-        b"blocks\nclear for glitches\ntested nodes of those\nsuspect for glitches\ntested nodes\nnodes whose counts differ\nsuspect though no counts differ\ncontradictions\n",
-        &tally,
+    crate::tally::print(
+        b"clear for glitches\ntested nodes of those\nsuspect for glitches\ntested nodes of those\nnodes whose counts differ\nsuspect though no counts differ\ncontradictions\n",
+        tally,
     );
 }

@@ -5,10 +5,10 @@ use Rattle.random_blocks.proofs.counts.patterns_of.Statement.{statement
 use Rattle.random_blocks.proofs.counts.patterns_of.Tie as tie
 
 abbrev Inv-loop : tie.InvT-loop
-Inv-loop bytes node values marks patterns₀ k₀ patterns k = k ≤ 384
+Inv-loop bytes node marks patterns₀ k₀ patterns k = k ≤ 384
 
 abbrev μ-loop : tie.MeasureT-loop
-μ-loop bytes node values marks patterns₀ k₀ patterns k = 384 - k
+μ-loop bytes node marks patterns₀ k₀ patterns k = 384 - k
 
 feeding-points-requires : tie.Need-feeding-points-requires Inv-loop μ-loop
 feeding-points-requires c κs = search needs
@@ -16,26 +16,20 @@ feeding-points-requires c κs = search needs
 loop-holds : tie.Need-loop-holds Inv-loop μ-loop
 loop-holds c = search needs
 
-array-read-one-if : tie.Need-array-read-one-if Inv-loop μ-loop
-array-read-one-if c = search needs
+array-read-if1 : tie.Need-array-read-if1 Inv-loop μ-loop
+array-read-if1 c = search needs
 
-one-if-requires : tie.Need-one-if-requires Inv-loop μ-loop
-one-if-requires c κs = search needs
-
-mul-bit : tie.Need-mul-bit Inv-loop μ-loop
-mul-bit c = search needs
-
-array-read-bit : tie.Need-array-read-bit Inv-loop μ-loop
-array-read-bit c = search needs
-
-shr-bit : tie.Need-shr-bit Inv-loop μ-loop
-shr-bit c = search needs
+settled-value-requires : tie.Need-settled-value-requires Inv-loop μ-loop
+settled-value-requires c κs = search needs
 
 mul-patterns : tie.Need-mul-patterns Inv-loop μ-loop
 mul-patterns c = search needs
 
 array-read-patterns : tie.Need-array-read-patterns Inv-loop μ-loop
 array-read-patterns c = search needs
+
+number-if-requires : tie.Need-number-if-requires Inv-loop μ-loop
+number-if-requires c κs = search needs
 
 shl-patterns : tie.Need-shl-patterns Inv-loop μ-loop
 shl-patterns c = search needs
@@ -66,13 +60,11 @@ patterns-of-spec =
     μ-loop
     feeding-points-requires
     loop-holds
-    array-read-one-if
-    one-if-requires
-    mul-bit
-    array-read-bit
-    shr-bit
+    array-read-if1
+    settled-value-requires
     mul-patterns
     array-read-patterns
+    number-if-requires
     shl-patterns
     mul-patterns-2
     array-write-patterns
