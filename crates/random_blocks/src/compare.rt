@@ -359,7 +359,7 @@ fn shape_of(turn: usize, seed: usize) -> Shape {
             variables = 8 + pick(seed, 3);
             nodes = 60 + pick(second, 60);
             mix = generator::DENSE;
-            near = 4 + pick(third, 3);
+            near = 4 + pick(third, 9);
         }
         _ => {}
     }
