@@ -3,32 +3,30 @@
 // settings that give a pattern must be the same for all settings of the secrets, at every tested node; where the counts of a node
 // differ, the checker must have named a suspect at that node or a lower one.
 use crate::generator;
-use crate::generator::Bytes;
+use crate::generator::Shape;
 use crate::generator::next;
 use crate::generator::pick;
 use crate::second;
-use crate::second::Block;
 use crate::second::number_if;
-use crate::tally::Tally;
-use crate::tally::count;
 use rules::Half;
 use rules::Reply;
 use std::num::wrapping_add_usize;
+use tools::one_if;
+use tools::print_counts;
 
 const BLOCKS: usize = 1500;
 
 // A block here has fewer nodes than this, and at most 32 assignments.
 const NODES: usize = 12;
 
-// What is counted, by its place in the tally: clear blocks and their tested nodes, suspect ones and theirs, nodes whose counts
-// differ, false alarms, and contradictions.
-const SUSPECT: usize = 2;
+// What was seen: counts, in the order of the names that `run` prints. The first two are of clear blocks, the next two of suspect ones.
+type Tally = [usize; 7];
 
-const DIFFER: usize = 4;
-
-const FALSE_ALARMS: usize = 5;
-
-const CONTRADICTIONS: usize = 6;
+// The generator's state, and what was seen.
+struct State {
+    seed: u32,
+    tally: Tally,
+}
 
 // The pattern of a node's feeding points under each assignment: bit j is the value of node j, where that is a feeding point. An assignment
 // that the block does not have is refused, and gives 0.
@@ -41,7 +39,7 @@ fn patterns_of(bytes: &[u8], node: usize) -> [usize; 32] {
         let j = k / 32;
         if marks[j] {
             let reply = queries::settled_value(bytes, j, k % 32);
-            patterns[k % 32] = patterns[k % 32] | (number_if(reply.value, 1) << j);
+            patterns[k % 32] = patterns[k % 32] | (one_if(reply.value) << j);
         }
         k += 1;
     }
@@ -50,18 +48,18 @@ fn patterns_of(bytes: &[u8], node: usize) -> [usize; 32] {
 
 // How many mask settings give a pattern, where the variables that are no masks are `fixed`.
 fn settings(patterns: [usize; 32], pattern: usize, masks: usize, fixed: usize) -> usize {
-    let mut many = 0;
+    let mut count = 0;
     let mut y = 0;
     while y < 32 {
         let gives = (patterns[y] == pattern) & (y & (31 ^ masks) == fixed);
-        many = wrapping_add_usize(many, number_if(gives, 1));
+        count = wrapping_add_usize(count, one_if(gives));
         y += 1;
     }
-    many
+    count
 }
 
-// Whether there are a pattern, a setting of the publics and one of the secrets whose count is not that of the secrets that are all 0. A
-// pattern that no assignment gives has count 0 throughout.
+// Whether there are a pattern, a setting of the publics and two settings of the secrets for which the counts differ: one of the secrets
+// is that all are 0. A pattern that no assignment gives has count 0 throughout.
 fn node_differs(patterns: [usize; 32], secrets: usize, masks: usize) -> bool {
     let mut differs = false;
     let mut k = 0;
@@ -76,6 +74,35 @@ fn node_differs(patterns: [usize; 32], secrets: usize, masks: usize) -> bool {
         k += 1;
     }
     differs
+}
+
+// The number of tested nodes, of those whose counts differ, and the lowest of these (or NODES).
+struct Counted {
+    tested: usize,
+    differ: usize,
+    lowest: usize,
+}
+
+fn count_block(bytes: &[u8]) -> Counted {
+    let block = second::read(bytes);
+    let mut counted = Counted {
+        tested: 0,
+        differ: 0,
+        lowest: NODES,
+    };
+    let mut node = block.count % 16;
+    while 0 < node {
+        node -= 1;
+        let entry = block.nodes[node % 200];
+        if entry.kind != 2 {
+            let patterns = patterns_of(bytes, node);
+            let differs = node_differs(patterns, block.classes[0], block.classes[1]);
+            counted.tested = wrapping_add_usize(counted.tested, 1);
+            counted.differ = wrapping_add_usize(counted.differ, one_if(differs));
+            counted.lowest = if differs { node } else { counted.lowest };
+        }
+    }
+    counted
 }
 
 // The lowest node that the glitch half names, or NODES where it is clear. A refusal, which no block here is to get, gives more, and so
@@ -94,76 +121,66 @@ fn suspect_node(bytes: &[u8]) -> usize {
     }
 }
 
-// Counts the tested nodes at `row`, and those of them whose counts differ. Gives the lowest of these, or NODES.
-fn try_nodes(tally: &mut Tally, bytes: &[u8], block: &Block, row: usize) -> usize {
-    let mut lowest = NODES;
-    let mut node = block[second::COUNT] % 16;
-    while 0 < node {
-        node -= 1;
-        if block[second::KINDS + node % 16] != 2 {
-            let patterns = patterns_of(bytes, node);
-            let differs = node_differs(patterns, block[second::SECRETS], block[second::MASKS]);
-            count(tally, row % 3 + 1, 1);
-            count(tally, DIFFER, number_if(differs, 1));
-            lowest = if differs { node } else { lowest };
-        }
-    }
-    lowest
-}
-
-fn try_block(tally: &mut Tally, bytes: &[u8]) {
-    let mut block = [0usize; 416];
-    second::read(bytes, &mut block);
+// What was seen, with a block.
+fn try_block(tally: Tally, bytes: &[u8]) -> Tally {
+    let mut next = tally;
+    let counted = count_block(bytes);
     let suspect = suspect_node(bytes);
-    let row = number_if(suspect < NODES, SUSPECT);
-    let lowest = try_nodes(tally, bytes, &block, row);
-    count(tally, row, 1);
-    count(
-        tally,
-        FALSE_ALARMS,
-        number_if((row > 0) & (lowest == NODES), 1),
-    );
-    count(tally, CONTRADICTIONS, number_if(lowest < suspect, 1));
+    let row = number_if(suspect < NODES, 2);
+    let alarm = (row > 0) & (counted.differ == 0);
+    next[row] = wrapping_add_usize(tally[row], 1);
+    next[row + 1] = wrapping_add_usize(tally[row + 1], counted.tested);
+    next[4] = wrapping_add_usize(tally[4], counted.differ);
+    next[5] = wrapping_add_usize(tally[5], one_if(alarm));
+    next[6] = wrapping_add_usize(tally[6], one_if(counted.lowest < suspect));
+    next
 }
 
-// Tries the block at the front.
-fn try_front(tally: &mut Tally, bytes: &Bytes, length: usize) {
-    let n = length % 1025;
-    let whole = &bytes[..];
-    try_block(tally, &whole[..n]);
-}
-
-// Tries a random block of at most five variables and eleven nodes.
-fn try_random(tally: &mut Tally, seed: usize) {
-    let mut bytes = [0u8; 1024];
-    let second = next(seed);
-    let variables = 1 + pick(seed, 5);
-    let nodes = pick(second, NODES);
+// What was seen, with a random block of at most five variables and eleven nodes, and the state after it.
+fn try_random(state: State) -> State {
+    let second = next(state.seed);
+    let third = next(second);
+    let variables = 1 + pick(state.seed, 5);
     let mut mix = generator::EVEN;
-    if pick(next(second), 4) > 0 {
+    if pick(third, 4) > 0 {
         mix = generator::MASKED;
     }
-    let length = generator::put_block(&mut bytes, [variables, variables, nodes, mix, 256], seed);
-    try_front(tally, &bytes, length);
+    let made = generator::block(Shape {
+        seed: third,
+        variables,
+        labels: variables,
+        nodes: pick(second, NODES),
+        mix,
+        near: 256,
+    });
+    let bytes = generator::bytes_of(made);
+    let n = made.length % 1025;
+    let tally = state.tally;
+    State {
+        seed: next(made.seed),
+        tally: try_block(tally, &bytes[..n]),
+    }
 }
 
 // Counts over all blocks, and prints what was seen. The last block is a false alarm: node 3 is the AND of a mask and its opposite, so the
 // register that holds it is always 0, and node 5 gives nothing away; but the families cannot know that.
 pub(crate) fn run() {
-    let mut tally = [0usize; 36];
-    let mut seed = 1;
+    let mut state = State {
+        seed: 1,
+        tally: [0; 7],
+    };
     let mut turn = 0;
     while turn < BLOCKS {
-        try_random(&mut tally, seed);
-        seed = generator::jump(seed);
+        state = try_random(state);
         turn += 1;
     }
-    try_block(
-        &mut tally,
+    let random = state.tally;
+    let tally = try_block(
+        random,
         b"\x01\x00\x01\x01\x02\x03\x00\x02\x02\x00\x03\x01\x05\x01\x02\x07\x03\x04\x00\x04\x00",
     );
-    crate::tally::print(
+    print_counts(
         b"clear for glitches\ntested nodes of those\nsuspect for glitches\ntested nodes of those\nnodes whose counts differ\nsuspect though no counts differ\ncontradictions\n",
-        tally,
+        &tally,
     );
 }

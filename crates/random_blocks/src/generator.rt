@@ -2,22 +2,16 @@
 ghost use Prim.Native.Nat.{_<_};
 use tools::least;
 
-// Room for the longest block, with what a fault may add.
-pub(crate) type Bytes = [u8; 1024];
-
-// How a block is made: how many variables it declares, how many of them its sets may have, how many nodes it has, the mix of their
+// How a block is made: from which state, how many variables it declares and how many its sets may have, its nodes, the mix of their
 // kinds, and how far below a node its operands may be.
-pub(crate) type Shape = [usize; 5];
-
-const VARIABLES: usize = 0;
-
-const LABELS: usize = 1;
-
-const NODES: usize = 2;
-
-const MIX: usize = 3;
-
-const NEAR: usize = 4;
+pub(crate) struct Shape {
+    pub(crate) seed: u32,
+    pub(crate) variables: usize,
+    pub(crate) labels: usize,
+    pub(crate) nodes: usize,
+    pub(crate) mix: usize,
+    pub(crate) near: usize,
+}
 
 // The mixes, as twelve octal digits, a kind each: every kind alike, more registers and XORs as in masked blocks, and no registers.
 pub(crate) const EVEN: usize = 0o765432765432;
@@ -29,51 +23,61 @@ pub(crate) const DENSE: usize = 0o665544444322;
 // Classes of variables, as eight octal digits: mostly masks.
 const CLASSES: usize = 0o11111120;
 
-// The next state of the generator.
-pub(crate) fn next(seed: usize) -> usize {
-    (seed % 4294967296 * 1664525 + 1013904223) % 4294967296
+// A block as far as it is made, and the state after it. There is room for the longest one, with what a fault may add.
+pub(crate) struct Made {
+    pub(crate) seed: u32,
+    pub(crate) length: usize,
+    bytes: [u8; 1024],
 }
 
-// A state away from the one given, to start another block from.
-pub(crate) fn jump(seed: usize) -> usize {
-    (seed % 4294967296 * 22695477 + 1) % 4294967296
+pub(crate) fn bytes_of(made: Made) -> [u8; 1024] {
+    made.bytes
+}
+
+// The next state of the generator.
+pub(crate) fn next(seed: u32) -> u32 {
+    (((seed as u64) * 1664525 + 1013904223) % 4294967296) as u32
 }
 
 // A number below n that a state stands for, or 0 where n is 0. The upper half of the state serves, whose period is long.
-pub(crate) fn pick(seed: usize, n: usize) -> usize
+pub(crate) fn pick(seed: u32, n: usize) -> usize
     ensures { λ r. ⌜ r < 65536 ⌝ }
 {
     if n == 0 {
         return 0;
     }
-    seed / 65536 % 65536 % n
+    ((seed / 65536) as usize) % n
 }
 
-// Variables at the front; variable 0 is secret. Gives the state after them.
-fn put_variables(bytes: &mut Bytes, seed: usize, variables: usize) -> usize {
-    let mut state = seed;
+// The variables of a block; variable 0 is secret.
+fn variables(shape: Shape) -> Made {
+    let mut made = Made {
+        seed: shape.seed,
+        length: shape.variables % 512 * 2,
+        bytes: [0; 1024],
+    };
     let mut v = 0;
-    while v < variables {
-        state = next(state);
-        bytes[v % 500 * 2] = 1;
-        bytes[v % 500 * 2 + 1] = ((CLASSES >> (pick(state, 8) % 8 * 3)) % 8) as u8;
+    while v < shape.variables {
+        made.seed = next(made.seed);
+        made.bytes[v % 512 * 2] = 1;
+        made.bytes[v % 512 * 2 + 1] = ((CLASSES >> (pick(made.seed, 8) % 8 * 3)) % 8) as u8;
         v += 1;
     }
-    bytes[1] = 0;
-    state
+    made.bytes[1] = 0;
+    made
 }
 
 // The two bytes behind the kind of node i, low first. An input of a masked block has a variable other than variable 0, where there is one.
-fn body_of(shape: Shape, kind: usize, i: usize, seed: usize) -> usize {
+fn body_of(shape: Shape, kind: usize, i: usize, seed: u32) -> usize {
     let other = next(seed);
+    let labels = shape.labels % 16;
+    let any = pick(seed, 1usize << labels);
     if kind != 2 {
         let above = i % 256;
-        let low = above - least(shape[NEAR], above);
+        let low = above - least(shape.near, above);
         return low + pick(seed, above - low) + 256 * (low + pick(other, above - low));
     }
-    let labels = shape[LABELS] % 16;
-    let any = pick(seed, 1usize << labels);
-    if shape[MIX] != MASKED {
+    if shape.mix != MASKED {
         return any;
     }
     if labels < 2 {
@@ -82,61 +86,63 @@ fn body_of(shape: Shape, kind: usize, i: usize, seed: usize) -> usize {
     any | (1usize << ((1 + pick(other, labels - 1)) % 16))
 }
 
-// Puts node i, of which the first two are inputs, and gives the length with it. Takes three states.
-fn put_node(bytes: &mut Bytes, length: usize, shape: Shape, i: usize, seed: usize) -> usize {
-    let at = length % 1000;
-    let mut kind = (shape[MIX] >> (pick(seed, 12) % 12 * 3)) % 8;
+// The block with node i; the first two are inputs.
+fn with_node(made: Made, shape: Shape, i: usize) -> Made {
+    let mut next_made = made;
+    let seed = next(made.seed);
+    let at = made.length % 1000;
+    let mut kind = (shape.mix >> (pick(seed, 12) % 12 * 3)) % 8;
     if i < 2 {
         kind = 2;
     }
     let body = body_of(shape, kind, i, next(seed));
-    bytes[at] = (kind % 8) as u8;
-    bytes[at + 1] = (body % 256) as u8;
-    bytes[at + 2] = (body / 256 % 256) as u8;
-    if kind % 4 == 3 {
-        return at + 2;
-    }
-    at + 3
+    next_made.bytes[at] = (kind % 8) as u8;
+    next_made.bytes[at + 1] = (body % 256) as u8;
+    next_made.bytes[at + 2] = (body / 256 % 256) as u8;
+    next_made.length = if kind % 4 == 3 { at + 2 } else { at + 3 };
+    next_made.seed = next(next(seed));
+    next_made
 }
 
-// Puts a block at the front, and gives its length. Its states are away from those that follow the seed.
-pub(crate) fn put_block(bytes: &mut Bytes, shape: Shape, seed: usize) -> usize {
-    let nodes = shape[NODES] % 256;
-    let mut state = put_variables(bytes, jump(seed % 4294967296 + 1), shape[VARIABLES]);
-    let mut length = shape[VARIABLES] % 500 * 2;
+// A whole block.
+pub(crate) fn block(shape: Shape) -> Made {
+    let mut made = variables(shape);
     let mut i = 0;
-    while i < nodes {
-        length = put_node(bytes, length, shape, i, state);
-        state = next(next(next(state)));
+    while i < shape.nodes {
+        made = with_node(made, shape, i);
         i += 1;
     }
-    bytes[length % 1000] = 0;
-    length % 1000 + 1
+    let end = made.length % 1000;
+    made.bytes[end] = 0;
+    made.length = end + 1;
+    made
 }
 
 // Damages about one block in four: another byte, fewer bytes, a byte behind the end record, a variable before it, or a class above 2.
-// Gives the length after it. The block may stay valid.
-pub(crate) fn damage(bytes: &mut Bytes, length: usize, seed: usize) -> usize {
-    let second = next(seed);
-    let whole = length % 1000;
-    let at = pick(seed, whole) % 1000;
+// The block may stay valid.
+pub(crate) fn damaged(made: Made) -> Made {
+    let first = next(made.seed);
+    let second = next(first);
+    let whole = made.length % 1000;
+    let at = pick(first, whole) % 1000;
     let byte = pick(second, 10) % 10;
-    let mut end = whole;
-    match pick(next(second), 24) {
-        0 | 1 | 2 => bytes[at] = byte as u8,
-        3 => end = at,
+    let mut other = made;
+    other.seed = next(second);
+    match pick(other.seed, 24) {
+        0 | 1 | 2 => other.bytes[at] = byte as u8,
+        3 => other.length = at,
         4 => {
-            bytes[whole] = byte as u8;
-            end = whole + 1;
+            other.bytes[whole] = byte as u8;
+            other.length = whole + 1;
         }
         5 => {
-            bytes[(whole + 999) % 1000] = 1;
-            bytes[whole] = 1;
-            bytes[whole + 1] = 0;
-            end = whole + 2;
+            other.bytes[(whole + 999) % 1000] = 1;
+            other.bytes[whole] = 1;
+            other.bytes[whole + 1] = 0;
+            other.length = whole + 2;
         }
-        6 => bytes[at % 3 * 2 + 1] = (byte + 3) as u8,
+        6 => other.bytes[at % 3 * 2 + 1] = (byte + 3) as u8,
         _ => {}
     }
-    end
+    other
 }

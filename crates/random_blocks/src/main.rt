@@ -5,7 +5,6 @@ mod compare;
 mod counts;
 mod generator;
 mod second;
-mod tally;
 
 fn main() {
     tools::print(b"against the second checker\n");

@@ -5,46 +5,11 @@
 //
 // It is tested and not proved right: what is proved of it is that it is safe and ends.
 ghost use Prim.Native.Nat.{_≤_};
+use rules::Node;
 use tools::least;
 
-// A file as far as it is read, in numbers. First the number of its refusal, or 0, and that refusal's place: until the end, where the last
-// record starts.
-pub(crate) type Block = [usize; 416];
-
-pub(crate) const FAULT: usize = 0;
-
-pub(crate) const PLACE: usize = 1;
-
-// How many variables and nodes there are, and the variables of each class as a set.
-pub(crate) const VARIABLES: usize = 2;
-
-pub(crate) const COUNT: usize = 3;
-
-pub(crate) const SECRETS: usize = 4;
-
-pub(crate) const MASKS: usize = 5;
-
-// The last record: its kind, its body as far as it is there, low byte first, the next byte's place in it, and how many are to come.
-const KIND: usize = 7;
-
-const BODY: usize = 8;
-
-const SHIFT: usize = 9;
-
-const MISSING: usize = 10;
-
-// The kinds of the nodes, and their bodies: an input's set, or the first operand and 256 times the second.
-pub(crate) const KINDS: usize = 16;
-
-const BODIES: usize = 216;
-
-// How many bytes follow a kind byte: octal digits, from kind 0 on the right.
-const BODY_LENGTHS: usize = 0o12221210;
-
-// What is worked out of a block. First the lists of sets: list i is the settled family of node i, and list 200 + i its glitch family;
-// then their lengths; then for each set the last list that it went to.
-pub(crate) type Store = [u16; 431504];
-
+// All that is worked out of a block is in one array of numbers. First the lists of sets: list i is the settled family of node i, and list
+// 200 + i its glitch family; then their lengths; then for each set the last list that it went to.
 const LONGEST: usize = 1024;
 
 pub(crate) const LISTS: usize = 400;
@@ -62,11 +27,33 @@ const TABLE: usize = 64;
 
 const ALL: u16 = 65535;
 
-// The first four variables in a word of a truth table, from variable 0 on the right.
-const PATTERNS: usize = 0xFF00F0F0CCCCAAAA;
+pub(crate) type Store = [u16; 427024];
 
 // No suspect: the number behind those of all pairs of node and set.
 pub(crate) const NONE: usize = 204800;
+
+// How many bytes follow a kind byte: octal digits, from kind 0 on the right.
+const BODIES: usize = 0o12221210;
+
+// The first four variables in a word of a truth table, from variable 0 on the right.
+const PATTERNS: usize = 0xFF00F0F0CCCCAAAA;
+
+// A file as far as it is read. `fault` is the number of its refusal, or 0, and `start` then that refusal's place: until the end, where the
+// last record started. Of that record `missing` body bytes are still to come, and `body` is what is there, low byte first, with the next
+// byte's place in `shift`. `classes` has the variables of each class as a set.
+pub(crate) struct Block {
+    pub(crate) fault: usize,
+    pub(crate) start: usize,
+    pub(crate) variables: usize,
+    pub(crate) count: usize,
+    pub(crate) classes: [usize; 3],
+    pub(crate) nodes: [Node; 200],
+    kind: u8,
+    missing: usize,
+    body: usize,
+    shift: usize,
+    ended: bool,
+}
 
 // The number where the answer is yes, and 0 where it is no.
 pub(crate) fn number_if(yes: bool, number: usize) -> usize
@@ -78,107 +65,118 @@ pub(crate) fn number_if(yes: bool, number: usize) -> usize
 // ---- reading, byte by byte
 
 // The refusal of a kind byte, or 0.
-fn kind_fault(block: &Block, kind: usize) -> usize {
-    if block[KIND] == 0 {
+fn kind_fault(block: Block, kind: u8) -> usize {
+    if block.ended {
         return 9;
     }
     if kind > 7 {
         return 1;
     }
-    if kind == 1 {
-        if block[COUNT] > 0 {
-            return 2;
+    if kind == 1 && block.count > 0 {
+        return 2;
+    }
+    if kind == 1 && block.variables > 9 {
+        return 3;
+    }
+    number_if(kind > 1 && block.count > 199, 3)
+}
+
+// The block with the record whose last byte has come.
+fn with_record(block: Block) -> Block {
+    let mut next = block;
+    let kind = block.kind;
+    let body = block.body % 65536;
+    let count = block.count % 200;
+    let variables = block.variables % 16;
+    match kind {
+        1 => {
+            next.fault = number_if(body > 2, 5);
+            next.variables = variables + number_if(body < 3, 1);
+            next.classes[body % 3] = next.classes[body % 3] | (1usize << variables);
         }
-        return number_if(block[VARIABLES] > 9, 3);
+        2 => {
+            next.fault = number_if(body >> variables > 0, 6);
+            next.count = count + number_if(body >> variables == 0, 1);
+            next.nodes[count] = Node {
+                kind: 2,
+                first: 0,
+                second: 0,
+                set: body as u16,
+            };
+        }
+        _ => {
+            let right = (body % 256 < block.count) & (body / 256 < block.count);
+            next.fault = number_if(!right, 7);
+            next.count = count + number_if(right, 1);
+            next.nodes[count] = Node {
+                kind,
+                first: (body % 256) as u8,
+                second: (body / 256) as u8,
+                set: 0,
+            };
+        }
     }
-    number_if((kind > 1) & (block[COUNT] > 199), 3)
+    next
 }
 
-// The refusal of a body, or 0.
-fn body_fault(block: &Block, kind: usize, body: usize) -> usize {
-    if kind == 1 {
-        return number_if(body > 2, 5);
+// The block with one byte more.
+fn with_byte(block: Block, at: usize, byte: u8) -> Block {
+    let mut next = block;
+    if block.fault > 0 {
+        return next;
     }
-    if kind == 2 {
-        return number_if(body >> (block[VARIABLES] % 16) > 0, 6);
+    if block.missing == 0 {
+        next.fault = kind_fault(block, byte);
+        next.start = at;
+        next.kind = byte;
+        next.missing = (BODIES >> ((byte % 8) as usize * 3)) % 8;
+        next.body = 0;
+        next.shift = 0;
+        next.ended = byte == 0;
+        return next;
     }
-    let count = block[COUNT];
-    number_if((body % 256 >= count) | (body / 256 >= count), 7)
+    next.missing = block.missing - 1;
+    next.body = block.body | ((byte as usize) << (block.shift % 16));
+    next.shift = 8;
+    if block.missing == 1 {
+        return with_record(next);
+    }
+    next
 }
 
-// Takes the record whose last byte has come.
-fn take_record(block: &mut Block) {
-    let kind = block[KIND];
-    let body = block[BODY];
-    let fault = body_fault(block, kind, body);
-    if fault > 0 {
-        block[FAULT] = fault;
-        return;
-    }
-    if kind == 1 {
-        let variables = block[VARIABLES] % 16;
-        let class = SECRETS + body % 3;
-        block[class] = block[class] | (1usize << variables);
-        block[VARIABLES] = variables + 1;
-        return;
-    }
-    let count = block[COUNT] % 200;
-    block[KINDS + count] = kind;
-    block[BODIES + count] = body;
-    block[COUNT] = count + 1;
-}
-
-// Takes one byte more.
-fn take_byte(block: &mut Block, at: usize, byte: u8) {
-    let value = byte as usize;
-    let missing = block[MISSING];
-    if block[FAULT] > 0 {
-        return;
-    }
-    if missing == 0 {
-        let fault = kind_fault(block, value);
-        block[FAULT] = fault;
-        block[PLACE] = at;
-        block[KIND] = value;
-        block[BODY] = 0;
-        block[SHIFT] = 0;
-        block[MISSING] = (BODY_LENGTHS >> (value % 8 * 3)) % 8;
-        return;
-    }
-    block[BODY] = block[BODY] | (value << (block[SHIFT] % 16));
-    block[SHIFT] = 8;
-    block[MISSING] = missing - 1;
-    if missing == 1 {
-        take_record(block);
-    }
-}
-
-// Reads a file into a block of zeros.
-pub(crate) fn read(bytes: &[u8], block: &mut Block) {
+pub(crate) fn read(bytes: &[u8]) -> Block {
+    let mut block = Block {
+        fault: 0,
+        start: 0,
+        variables: 0,
+        count: 0,
+        classes: [0; 3],
+        nodes: [Node {
+            kind: 0,
+            first: 0,
+            second: 0,
+            set: 0,
+        }; 200],
+        kind: 0,
+        missing: 0,
+        body: 0,
+        shift: 0,
+        ended: false,
+    };
     let mut at = 0;
-    block[KIND] = 1;
     while at < bytes.len() {
-        take_byte(block, at, bytes[at]);
+        block = with_byte(block, at, bytes[at]);
         at += 1;
     }
-    if block[FAULT] > 0 || block[KIND] == 0 {
-        return;
+    if block.fault > 0 || block.ended {
+        return block;
     }
-    block[FAULT] = 4;
-    if block[MISSING] == 0 {
-        block[FAULT] = 8;
-        block[PLACE] = at;
+    block.fault = 4;
+    if block.missing == 0 {
+        block.fault = 8;
+        block.start = at;
     }
-}
-
-// The node record of node i as one number: the kind, 256 times the operands, and 2 to the power 24 times the set.
-pub(crate) fn record_number(block: &Block, i: usize) -> usize {
-    let kind = block[KINDS + i % 200] % 8;
-    let body = block[BODIES + i % 200] % 65536;
-    if kind == 2 {
-        return kind + 16777216 * body;
-    }
-    kind + 256 * body
+    block
 }
 
 // ---- families, as lists of sets
@@ -196,15 +194,15 @@ pub(crate) fn set_at(store: &Store, list: usize, k: usize) -> usize {
     wide(store[list % LISTS * LONGEST + k % LONGEST])
 }
 
-// Puts a set behind those of a list, unless it is there. The longest list has all 1,024 sets.
+// Puts a set behind those of a list, unless it is there.
 fn add(store: &mut Store, list: usize, set: usize) {
     let into = list % LISTS;
     let place = SEEN + set % LONGEST;
+    let length = length_of(store, into) % LONGEST;
     let mark = (into + 1) as u16;
     if store[place] == mark {
         return;
     }
-    let length = length_of(store, into) % LONGEST;
     store[place] = mark;
     store[into * LONGEST + length] = (set % LONGEST) as u16;
     store[LENGTHS + into] = (length + 1) as u16;
@@ -232,25 +230,25 @@ fn add_product(store: &mut Store, list: usize, first: usize, second: usize) {
     }
 }
 
-// Makes a list: the settled family of a node, or from list 200 on its glitch family.
-fn add_family(store: &mut Store, block: &Block, list: usize) {
-    let kind = block[KINDS + list % 200];
-    let body = block[BODIES + list % 200];
-    let layer = list / 200 % 2 * 200;
-    let first = layer + body % 256;
-    let second = layer + body / 256 % 256;
+// Makes the list of a node's family, settled (layer 0) or glitch (layer 1).
+fn add_family(store: &mut Store, node: Node, layer: usize, i: usize) {
+    let kind = node.kind;
+    let base = layer % 2 * 200;
+    let list = base + i % 200;
+    let first = base + (node.first as usize);
+    let second = base + (node.second as usize);
     match kind {
-        2 => add(store, list, body),
+        2 => add(store, list, node.set as usize),
         3 => {
             add_differences(store, list, first, 0);
-            if layer > 0 {
+            if base > 0 {
                 add(store, list, 0);
             }
         }
-        7 => add_differences(store, list, body, 0),
+        7 => add_differences(store, list, node.first as usize, 0),
         _ => {
             add_product(store, list, first, second);
-            if (layer > 0) | (kind > 4) {
+            if base > 0 || kind > 4 {
                 add_differences(store, list, second, 0);
                 add_differences(store, list, first, 0);
                 add(store, list, 0);
@@ -261,17 +259,14 @@ fn add_family(store: &mut Store, block: &Block, list: usize) {
 
 // ---- suspects
 
-// The lowest set of a list that has a secret and no mask, or 1,024; an input has none.
-fn suspect_set(block: &Block, store: &Store, list: usize) -> usize {
+// The lowest set of a list that has a secret and no mask, or 1,024.
+fn suspect_set(store: &Store, list: usize, secrets: usize, masks: usize) -> usize {
+    let many = length_of(store, list);
     let mut lowest = LONGEST;
     let mut k = 0;
-    if block[KINDS + list % 200] == 2 {
-        return lowest;
-    }
-    let many = length_of(store, list);
     while k < many {
         let set = set_at(store, list, k);
-        if (set & block[SECRETS] != 0) & (set & block[MASKS] == 0) {
+        if (set & secrets != 0) & (set & masks == 0) {
             lowest = least(set, lowest);
         }
         k += 1;
@@ -279,15 +274,21 @@ fn suspect_set(block: &Block, store: &Store, list: usize) -> usize {
     lowest
 }
 
-// The first suspect of a layer (settled 0, glitch 1) as 1,024 × node + set, or `NONE`: the last one found from the last node down.
-pub(crate) fn first_suspect(block: &Block, store: &Store, layer: usize) -> usize {
+// The first suspect of a layer as 1,024 × node + set, or `NONE`: the last one found from the last node down.
+pub(crate) fn first_suspect(block: Block, store: &Store, layer: usize) -> usize {
     let mut found = NONE;
-    let mut i = block[COUNT];
+    let mut i = block.count % 256;
     while 0 < i {
         i -= 1;
-        let set = suspect_set(block, store, layer % 2 * 200 + i % 200);
-        if set < LONGEST {
-            found = i % 200 * LONGEST + set;
+        let node = block.nodes[i % 200];
+        let set = suspect_set(
+            store,
+            layer % 2 * 200 + i % 200,
+            block.classes[0],
+            block.classes[1],
+        );
+        if (node.kind != 2) & (set < LONGEST) {
+            found = i % 200 * LONGEST + set % LONGEST;
         }
     }
     found
@@ -307,6 +308,19 @@ pub(crate) fn has_set(store: &Store, list: usize, set: usize) -> bool {
 
 // ---- settled values as truth tables, and feeding points as rows of bits
 
+// Word `w` of the truth table of an input.
+fn input_word(set: u16, w: usize) -> u16 {
+    let mut word = 0;
+    let mut v = 0;
+    while v < 10 {
+        if (set >> v) % 2 == 1 {
+            word = word ^ variable_word(v, w);
+        }
+        v += 1;
+    }
+    word
+}
+
 // Word `w` of the truth table of a variable.
 fn variable_word(v: usize, w: usize) -> u16 {
     if v < 4 {
@@ -319,30 +333,12 @@ fn variable_word(v: usize, w: usize) -> u16 {
     }
 }
 
-// Word `w` of the truth table of an input.
-fn input_word(set: usize, w: usize) -> u16 {
-    let mut word = 0;
-    let mut v = 0;
-    while v < 10 {
-        if (set >> v) % 2 == 1 {
-            word = word ^ variable_word(v, w);
-        }
-        v += 1;
-    }
-    word
-}
-
-// Word k mod 80 of node k / 80, from those of its operands.
-fn word_of(block: &Block, store: &Store, k: usize) -> u16 {
-    let node = k / WORDS;
-    let w = k % WORDS;
-    let kind = block[KINDS + node % 200];
-    let body = block[BODIES + node % 200];
-    let first = store[BITS + w + body % 256 * WORDS];
-    let second = store[BITS + w + body / 256 % 256 * WORDS];
+// Word `w` of a node, from those of its operands.
+fn word_of(node: Node, i: usize, w: usize, first: u16, second: u16) -> u16 {
+    let kind = node.kind;
     if w < TABLE {
         return match kind {
-            2 => input_word(body, w),
+            2 => input_word(node.set, w),
             3 => first ^ ALL,
             4 => first ^ second,
             5 => first & second,
@@ -350,13 +346,28 @@ fn word_of(block: &Block, store: &Store, k: usize) -> u16 {
             _ => first,
         };
     }
-    if (kind != 2) & (kind != 7) {
-        return if kind == 3 { first } else { first | second };
+    match kind {
+        2 | 7 => if i / 16 + TABLE == w {
+            1u16 << (i % 16)
+        } else {
+            0
+        },
+        3 => first,
+        _ => first | second,
     }
-    if node / 16 == w - TABLE {
-        1u16 << (node % 16)
-    } else {
-        0
+}
+
+// Fills in the words of all nodes.
+fn fill_words(block: Block, store: &mut Store) {
+    let end = block.count % 256 * WORDS;
+    let mut k = 0;
+    while k < end {
+        let node = block.nodes[k / WORDS % 200];
+        let w = k % WORDS;
+        let first = store[BITS + (node.first as usize) % 200 * WORDS + w];
+        let second = store[BITS + (node.second as usize) % 200 * WORDS + w];
+        store[BITS + k % 16000] = word_of(node, k / WORDS, w, first, second);
+        k += 1;
     }
 }
 
@@ -365,25 +376,16 @@ pub(crate) fn has_bit(store: &Store, node: usize, place: usize) -> bool {
     (store[BITS + node % 200 * WORDS + place / 16 % WORDS] >> (place % 16)) % 2 == 1
 }
 
-// Fills in the words of all nodes.
-fn fill_words(block: &Block, store: &mut Store) {
-    let end = block[COUNT] % 256 * WORDS;
+// Reads a block, and works out its families, values and feeding points. The store holds only zeros before.
+pub(crate) fn work_out(bytes: &[u8], store: &mut Store) -> Block {
+    let block = read(bytes);
     let mut k = 0;
-    while k < end {
-        let word = word_of(block, store, k);
-        store[BITS + k % 16000] = word;
+    while k < LISTS {
+        if k % 200 < block.count {
+            add_family(store, block.nodes[k % 200], k / 200, k % 200);
+        }
         k += 1;
     }
-}
-
-// Works out the families, values and feeding points of a block, in a store of zeros.
-pub(crate) fn work_out(block: &Block, store: &mut Store) {
-    let mut list = 0;
-    while list < LISTS {
-        if list % 200 < block[COUNT] {
-            add_family(store, block, list);
-        }
-        list += 1;
-    }
     fill_words(block, store);
+    block
 }

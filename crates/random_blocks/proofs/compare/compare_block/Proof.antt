@@ -6,23 +6,14 @@ use lib.Seq.{length-take-le}
 use Rattle.random_blocks.proofs.compare.compare_block.Statement.{statement}
 use Rattle.random_blocks.proofs.compare.compare_block.Tie as tie
 
-empty-store-requires : tie.Need-empty-store-requires
-empty-store-requires c κs = search needs
-
 work-before-requires : tie.Need-work-before-requires
 work-before-requires c κs = search needs
-
-read-requires : tie.Need-read-requires
-read-requires c κs = search needs
 
 work-out-requires : tie.Need-work-out-requires
 work-out-requires c κs = search needs
 
 lengths-for-requires : tie.Need-lengths-for-requires
 lengths-for-requires c κs = search needs
-
-least-requires : tie.Need-least-requires
-least-requires c κs = search needs
 
 array-borrow-prefix-work : tie.Need-array-borrow-prefix-work
 array-borrow-prefix-work c = search needs
@@ -33,20 +24,32 @@ slice-aggregate-compare-check c = sym (length-take-le _ _ (omega arith))
 compare-check-requires : tie.Need-compare-check-requires
 compare-check-requires c κs = search needs
 
-compare-families-requires : tie.Need-compare-families-requires
-compare-families-requires c κs = search needs
+count-answer-requires : tie.Need-count-answer-requires
+count-answer-requires c κs = search needs
+
+families-differ-requires : tie.Need-families-differ-requires
+families-differ-requires c κs = search needs
+
+one-if-requires : tie.Need-one-if-requires
+one-if-requires c κs = search needs
+
+count-requires : tie.Need-count-requires
+count-requires c κs = search needs
 
 next-requires : tie.Need-next-requires
 next-requires c κs = search needs
 
-next-requires-2 : tie.Need-next-requires-2
-next-requires-2 c κs = search needs
-
-next-requires-3 : tie.Need-next-requires-3
-next-requires-3 c κs = search needs
-
 ask-requires : tie.Need-ask-requires
 ask-requires c κs = search needs
+
+ask-requires-2 : tie.Need-ask-requires-2
+ask-requires-2 c κs = search needs
+
+ask-requires-3 : tie.Need-ask-requires-3
+ask-requires-3 c κs = search needs
+
+ask-requires-4 : tie.Need-ask-requires-4
+ask-requires-4 c κs = search needs
 
 returns : tie.Need-returns
 returns c = search needs
@@ -55,18 +58,19 @@ pub compare-block-spec : {M : Type 1} → statement M
 compare-block-spec =
     tie.close
     (tie.spec
-    empty-store-requires
     work-before-requires
-    read-requires
     work-out-requires
     lengths-for-requires
-    least-requires
     array-borrow-prefix-work
     slice-aggregate-compare-check
     compare-check-requires
-    compare-families-requires
+    count-answer-requires
+    families-differ-requires
+    one-if-requires
+    count-requires
     next-requires
-    next-requires-2
-    next-requires-3
     ask-requires
+    ask-requires-2
+    ask-requires-3
+    ask-requires-4
     returns)

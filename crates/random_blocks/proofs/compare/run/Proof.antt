@@ -5,19 +5,16 @@ use Rattle.random_blocks.proofs.compare.run.Statement.{statement}
 use Rattle.random_blocks.proofs.compare.run.Tie as tie
 
 abbrev Inv-loop : tie.InvT-loop
-Inv-loop tally₀ seed₀ turn₀ t4 tally seed turn = turn ≤ 4000
+Inv-loop state₀ turn₀ state turn = turn ≤ 4000
 
 abbrev μ-loop : tie.MeasureT-loop
-μ-loop tally₀ seed₀ turn₀ t4 tally seed turn = 4000 - turn
+μ-loop state₀ turn₀ state turn = 4000 - turn
 
 loop-holds : tie.Need-loop-holds Inv-loop μ-loop
 loop-holds c = search needs
 
 one-block-requires : tie.Need-one-block-requires Inv-loop μ-loop
 one-block-requires c κs = search needs
-
-jump-requires : tie.Need-jump-requires Inv-loop μ-loop
-jump-requires c κs = search needs
 
 add-turn : tie.Need-add-turn Inv-loop μ-loop
 add-turn c = search needs
@@ -28,11 +25,8 @@ loop-less c = search needs
 loop-again : tie.Need-loop-again Inv-loop μ-loop
 loop-again c = search needs
 
-slice-aggregate-print : tie.Need-slice-aggregate-print Inv-loop μ-loop
-slice-aggregate-print c = search needs
-
-print-requires : tie.Need-print-requires Inv-loop μ-loop
-print-requires c κs = search needs
+print-tally-requires : tie.Need-print-tally-requires Inv-loop μ-loop
+print-tally-requires c κs = search needs
 
 returns : tie.Need-returns Inv-loop μ-loop
 returns c = search needs
@@ -45,10 +39,8 @@ run-spec =
     μ-loop
     loop-holds
     one-block-requires
-    jump-requires
     add-turn
     loop-less
     loop-again
-    slice-aggregate-print
-    print-requires
+    print-tally-requires
     returns)

@@ -5,25 +5,25 @@ use Rattle.random_blocks.proofs.compare.same_entries.Statement.{stateme
 use Rattle.random_blocks.proofs.compare.same_entries.Tie as tie
 
 abbrev Inv-loop : tie.InvT-loop
-Inv-loop block written nodes same₀ i₀ same i = i ≤ 200
+Inv-loop written nodes block same₀ i₀ same i = i ≤ 200
 
 abbrev μ-loop : tie.MeasureT-loop
-μ-loop block written nodes same₀ i₀ same i = 200 - i
+μ-loop written nodes block same₀ i₀ same i = 200 - i
 
 loop-holds : tie.Need-loop-holds Inv-loop μ-loop
 loop-holds c = search needs
 
-mul-node-number : tie.Need-mul-node-number Inv-loop μ-loop
-mul-node-number c = search needs
+mul-a : tie.Need-mul-a Inv-loop μ-loop
+mul-a c = search needs
 
-array-copy-out-node-number : tie.Need-array-copy-out-node-number Inv-loop μ-loop
-array-copy-out-node-number c = search needs
+array-copy-out-a : tie.Need-array-copy-out-a Inv-loop μ-loop
+array-copy-out-a c = search needs
 
-node-number-requires : tie.Need-node-number-requires Inv-loop μ-loop
-node-number-requires c κs = search needs
+mul-b : tie.Need-mul-b Inv-loop μ-loop
+mul-b c = search needs
 
-record-number-requires : tie.Need-record-number-requires Inv-loop μ-loop
-record-number-requires c κs = search needs
+element-copy-out-b : tie.Need-element-copy-out-b Inv-loop μ-loop
+element-copy-out-b c = search needs
 
 add-i : tie.Need-add-i Inv-loop μ-loop
 add-i c = search needs
@@ -44,10 +44,10 @@ same-entries-spec =
     Inv-loop
     μ-loop
     loop-holds
-    mul-node-number
-    array-copy-out-node-number
-    node-number-requires
-    record-number-requires
+    mul-a
+    array-copy-out-a
+    mul-b
+    element-copy-out-b
     add-i
     loop-less
     loop-again

@@ -5,10 +5,10 @@ use Rattle.random_blocks.proofs.compare.take_out.Statement.{statement}
 use Rattle.random_blocks.proofs.compare.take_out.Tie as tie
 
 abbrev Inv-loop : tie.InvT-loop
-Inv-loop tally work₀ store list many part k₀ work k = Unit
+Inv-loop work₀ store list many part k₀ work k = Unit
 
 abbrev μ-loop : tie.MeasureT-loop
-μ-loop tally work₀ store list many part k₀ work k = many - k
+μ-loop work₀ store list many part k₀ work k = many - k
 
 length-of-requires : tie.Need-length-of-requires Inv-loop μ-loop
 length-of-requires c κs = search needs
@@ -21,21 +21,6 @@ mul-part-2 c = search needs
 
 add-part : tie.Need-add-part Inv-loop μ-loop
 add-part c = search needs
-
-count-requires : tie.Need-count-requires Inv-loop μ-loop
-count-requires c κs = search needs
-
-number-if-requires : tie.Need-number-if-requires Inv-loop μ-loop
-number-if-requires c κs = search needs
-
-count-requires-2 : tie.Need-count-requires-2 Inv-loop μ-loop
-count-requires-2 c κs = search needs
-
-element-copy-out-if1 : tie.Need-element-copy-out-if1 Inv-loop μ-loop
-element-copy-out-if1 c = search needs
-
-element-write-tally : tie.Need-element-write-tally Inv-loop μ-loop
-element-write-tally c = search needs
 
 loop-holds : tie.Need-loop-holds Inv-loop μ-loop
 loop-holds c = search needs
@@ -83,11 +68,6 @@ take-out-spec =
     mul-part
     mul-part-2
     add-part
-    count-requires
-    number-if-requires
-    count-requires-2
-    element-copy-out-if1
-    element-write-tally
     loop-holds
     set-at-requires
     add-work

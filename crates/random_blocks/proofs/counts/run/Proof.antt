@@ -5,19 +5,16 @@ use Rattle.random_blocks.proofs.counts.run.Statement.{statement}
 use Rattle.random_blocks.proofs.counts.run.Tie as tie
 
 abbrev Inv-loop : tie.InvT-loop
-Inv-loop tally₀ seed₀ turn₀ t4 t5 tally seed turn = turn ≤ 1500
+Inv-loop state₀ turn₀ t5 t6 state turn = turn ≤ 1500
 
 abbrev μ-loop : tie.MeasureT-loop
-μ-loop tally₀ seed₀ turn₀ t4 t5 tally seed turn = 1500 - turn
+μ-loop state₀ turn₀ t5 t6 state turn = 1500 - turn
 
 loop-holds : tie.Need-loop-holds Inv-loop μ-loop
 loop-holds c = search needs
 
 try-random-requires : tie.Need-try-random-requires Inv-loop μ-loop
 try-random-requires c κs = search needs
-
-jump-requires : tie.Need-jump-requires Inv-loop μ-loop
-jump-requires c κs = search needs
 
 add-turn : tie.Need-add-turn Inv-loop μ-loop
 add-turn c = search needs
@@ -34,11 +31,14 @@ slice-aggregate-try-block c = search needs
 try-block-requires : tie.Need-try-block-requires Inv-loop μ-loop
 try-block-requires c κs = search needs
 
-slice-aggregate-print : tie.Need-slice-aggregate-print Inv-loop μ-loop
-slice-aggregate-print c = search needs
+slice-aggregate-print-counts : tie.Need-slice-aggregate-print-counts Inv-loop μ-loop
+slice-aggregate-print-counts c = search needs
 
-print-requires : tie.Need-print-requires Inv-loop μ-loop
-print-requires c κs = search needs
+slice-aggregate-print-counts-2 : tie.Need-slice-aggregate-print-counts-2 Inv-loop μ-loop
+slice-aggregate-print-counts-2 c = search needs
+
+print-counts-requires : tie.Need-print-counts-requires Inv-loop μ-loop
+print-counts-requires c κs = search needs
 
 returns : tie.Need-returns Inv-loop μ-loop
 returns c = search needs
@@ -51,12 +51,12 @@ run-spec =
     μ-loop
     loop-holds
     try-random-requires
-    jump-requires
     add-turn
     loop-less
     loop-again
     slice-aggregate-try-block
     try-block-requires
-    slice-aggregate-print
-    print-requires
+    slice-aggregate-print-counts
+    slice-aggregate-print-counts-2
+    print-counts-requires
     returns)

@@ -5,10 +5,10 @@ use Rattle.random_blocks.proofs.counts.settings.Statement.{statement}
 use Rattle.random_blocks.proofs.counts.settings.Tie as tie
 
 abbrev Inv-loop : tie.InvT-loop
-Inv-loop pattern masks fixed patterns many₀ y₀ many y = y ≤ 32
+Inv-loop pattern masks fixed patterns count₀ y₀ count y = y ≤ 32
 
 abbrev μ-loop : tie.MeasureT-loop
-μ-loop pattern masks fixed patterns many₀ y₀ many y = 32 - y
+μ-loop pattern masks fixed patterns count₀ y₀ count y = 32 - y
 
 loop-holds : tie.Need-loop-holds Inv-loop μ-loop
 loop-holds c = search needs
@@ -19,8 +19,8 @@ mul-gives c = search needs
 array-read-gives : tie.Need-array-read-gives Inv-loop μ-loop
 array-read-gives c = search needs
 
-number-if-requires : tie.Need-number-if-requires Inv-loop μ-loop
-number-if-requires c κs = search needs
+one-if-requires : tie.Need-one-if-requires Inv-loop μ-loop
+one-if-requires c κs = search needs
 
 wrapping-add-usize-requires : tie.Need-wrapping-add-usize-requires Inv-loop μ-loop
 wrapping-add-usize-requires c κs = search needs
@@ -46,7 +46,7 @@ settings-spec =
     loop-holds
     mul-gives
     array-read-gives
-    number-if-requires
+    one-if-requires
     wrapping-add-usize-requires
     add-y
     loop-less

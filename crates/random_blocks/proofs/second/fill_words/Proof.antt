@@ -5,19 +5,58 @@ use Rattle.random_blocks.proofs.second.fill_words.Statement.{statement}
 use Rattle.random_blocks.proofs.second.fill_words.Tie as tie
 
 abbrev Inv-loop : tie.InvT-loop
-Inv-loop block store₀ end k₀ store k = Unit
+Inv-loop store₀ block end k₀ store k = Unit
 
 abbrev μ-loop : tie.MeasureT-loop
-μ-loop block store₀ end k₀ store k = end - k
-
-element-copy-out-end : tie.Need-element-copy-out-end Inv-loop μ-loop
-element-copy-out-end c = search needs
+μ-loop store₀ block end k₀ store k = end - k
 
 mul-end : tie.Need-mul-end Inv-loop μ-loop
 mul-end c = search needs
 
 loop-holds : tie.Need-loop-holds Inv-loop μ-loop
 loop-holds c = search needs
+
+mul-node : tie.Need-mul-node Inv-loop μ-loop
+mul-node c = search needs
+
+element-copy-out-node : tie.Need-element-copy-out-node Inv-loop μ-loop
+element-copy-out-node c = search needs
+
+cast-first : tie.Need-cast-first Inv-loop μ-loop
+cast-first c = search needs
+
+mul-first : tie.Need-mul-first Inv-loop μ-loop
+mul-first c = search needs
+
+add-first : tie.Need-add-first Inv-loop μ-loop
+add-first c = search needs
+
+add-first-2 : tie.Need-add-first-2 Inv-loop μ-loop
+add-first-2 c = search needs
+
+mul-first-2 : tie.Need-mul-first-2 Inv-loop μ-loop
+mul-first-2 c = search needs
+
+element-copy-out-first : tie.Need-element-copy-out-first Inv-loop μ-loop
+element-copy-out-first c = search needs
+
+cast-second : tie.Need-cast-second Inv-loop μ-loop
+cast-second c = search needs
+
+mul-second : tie.Need-mul-second Inv-loop μ-loop
+mul-second c = search needs
+
+add-second : tie.Need-add-second Inv-loop μ-loop
+add-second c = search needs
+
+add-second-2 : tie.Need-add-second-2 Inv-loop μ-loop
+add-second-2 c = search needs
+
+mul-second-2 : tie.Need-mul-second-2 Inv-loop μ-loop
+mul-second-2 c = search needs
+
+element-copy-out-second : tie.Need-element-copy-out-second Inv-loop μ-loop
+element-copy-out-second c = search needs
 
 word-of-requires : tie.Need-word-of-requires Inv-loop μ-loop
 word-of-requires c κs = search needs
@@ -49,9 +88,22 @@ fill-words-spec =
     (tie.spec
     Inv-loop
     μ-loop
-    element-copy-out-end
     mul-end
     loop-holds
+    mul-node
+    element-copy-out-node
+    cast-first
+    mul-first
+    add-first
+    add-first-2
+    mul-first-2
+    element-copy-out-first
+    cast-second
+    mul-second
+    add-second
+    add-second-2
+    mul-second-2
+    element-copy-out-second
     word-of-requires
     add-store
     mul-store

@@ -4,13 +4,10 @@ use Rattle.random_blocks.proofs.second.first_suspect.Statement.{stateme
 use Rattle.random_blocks.proofs.second.first_suspect.Tie as tie
 
 abbrev Inv-loop : tie.InvT-loop
-Inv-loop block store layer found₀ i₀ found i = Unit
+Inv-loop store layer block found₀ i₀ found i = Unit
 
 abbrev μ-loop : tie.MeasureT-loop
-μ-loop block store layer found₀ i₀ found i = i
-
-element-copy-out-i : tie.Need-element-copy-out-i Inv-loop μ-loop
-element-copy-out-i c = search needs
+μ-loop store layer block found₀ i₀ found i = i
 
 loop-holds : tie.Need-loop-holds Inv-loop μ-loop
 loop-holds c = search needs
@@ -18,11 +15,23 @@ loop-holds c = search needs
 sub-i : tie.Need-sub-i Inv-loop μ-loop
 sub-i c = search needs
 
+mul-node : tie.Need-mul-node Inv-loop μ-loop
+mul-node c = search needs
+
+element-copy-out-node : tie.Need-element-copy-out-node Inv-loop μ-loop
+element-copy-out-node c = search needs
+
 mul-suspect-set : tie.Need-mul-suspect-set Inv-loop μ-loop
 mul-suspect-set c = search needs
 
 add-suspect-set : tie.Need-add-suspect-set Inv-loop μ-loop
 add-suspect-set c = search needs
+
+element-copy-out-suspect-set : tie.Need-element-copy-out-suspect-set Inv-loop μ-loop
+element-copy-out-suspect-set c = search needs
+
+element-copy-out-suspect-set-2 : tie.Need-element-copy-out-suspect-set-2 Inv-loop μ-loop
+element-copy-out-suspect-set-2 c = search needs
 
 suspect-set-requires : tie.Need-suspect-set-requires Inv-loop μ-loop
 suspect-set-requires c κs = search needs
@@ -54,11 +63,14 @@ first-suspect-spec =
     (tie.spec
     Inv-loop
     μ-loop
-    element-copy-out-i
     loop-holds
     sub-i
+    mul-node
+    element-copy-out-node
     mul-suspect-set
     add-suspect-set
+    element-copy-out-suspect-set
+    element-copy-out-suspect-set-2
     suspect-set-requires
     mul-found
     add-found

@@ -11,17 +11,14 @@ Inv-loop bytes block₀ at₀ block at = Unit
 abbrev μ-loop : tie.MeasureT-loop
 μ-loop bytes block₀ at₀ block at = length bytes - at
 
-element-write-block : tie.Need-element-write-block Inv-loop μ-loop
-element-write-block c = search needs
-
 loop-holds : tie.Need-loop-holds Inv-loop μ-loop
 loop-holds c = search needs
 
-shared-slice-read-take-byte : tie.Need-shared-slice-read-take-byte Inv-loop μ-loop
-shared-slice-read-take-byte c = search needs
+shared-slice-read-with-byte : tie.Need-shared-slice-read-with-byte Inv-loop μ-loop
+shared-slice-read-with-byte c = search needs
 
-take-byte-requires : tie.Need-take-byte-requires Inv-loop μ-loop
-take-byte-requires c κs = search needs
+with-byte-requires : tie.Need-with-byte-requires Inv-loop μ-loop
+with-byte-requires c κs = search needs
 
 add-at : tie.Need-add-at Inv-loop μ-loop
 add-at c = search needs
@@ -32,26 +29,8 @@ loop-less c = search needs
 loop-again : tie.Need-loop-again Inv-loop μ-loop
 loop-again c = search needs
 
-element-copy-out-if1 : tie.Need-element-copy-out-if1 Inv-loop μ-loop
-element-copy-out-if1 c = search needs
-
-element-copy-out-if2 : tie.Need-element-copy-out-if2 Inv-loop μ-loop
-element-copy-out-if2 c = search needs
-
 returns : tie.Need-returns Inv-loop μ-loop
 returns c = search needs
-
-element-write-block-2 : tie.Need-element-write-block-2 Inv-loop μ-loop
-element-write-block-2 c = search needs
-
-element-copy-out-if3 : tie.Need-element-copy-out-if3 Inv-loop μ-loop
-element-copy-out-if3 c = search needs
-
-element-write-block-3 : tie.Need-element-write-block-3 Inv-loop μ-loop
-element-write-block-3 c = search needs
-
-element-write-block-4 : tie.Need-element-write-block-4 Inv-loop μ-loop
-element-write-block-4 c = search needs
 
 returns-2 : tie.Need-returns-2 Inv-loop μ-loop
 returns-2 c = search needs
@@ -65,19 +44,12 @@ read-spec =
     (tie.spec
     Inv-loop
     μ-loop
-    element-write-block
     loop-holds
-    shared-slice-read-take-byte
-    take-byte-requires
+    shared-slice-read-with-byte
+    with-byte-requires
     add-at
     loop-less
     loop-again
-    element-copy-out-if1
-    element-copy-out-if2
     returns
-    element-write-block-2
-    element-copy-out-if3
-    element-write-block-3
-    element-write-block-4
     returns-2
     returns-3)

@@ -5,22 +5,28 @@ use Rattle.random_blocks.proofs.second.work_out.Statement.{statement}
 use Rattle.random_blocks.proofs.second.work_out.Tie as tie
 
 abbrev Inv-loop : tie.InvT-loop
-Inv-loop block store₀ list₀ store list = list ≤ 400
+Inv-loop bytes store₀ block k₀ store k = k ≤ 400
 
 abbrev μ-loop : tie.MeasureT-loop
-μ-loop block store₀ list₀ store list = 400 - list
+μ-loop bytes store₀ block k₀ store k = 400 - k
+
+read-requires : tie.Need-read-requires Inv-loop μ-loop
+read-requires c κs = search needs
 
 loop-holds : tie.Need-loop-holds Inv-loop μ-loop
 loop-holds c = search needs
 
-element-copy-out-if1 : tie.Need-element-copy-out-if1 Inv-loop μ-loop
-element-copy-out-if1 c = search needs
+mul-add-family : tie.Need-mul-add-family Inv-loop μ-loop
+mul-add-family c = search needs
+
+element-copy-out-add-family : tie.Need-element-copy-out-add-family Inv-loop μ-loop
+element-copy-out-add-family c = search needs
 
 add-family-requires : tie.Need-add-family-requires Inv-loop μ-loop
 add-family-requires c κs = search needs
 
-add-list : tie.Need-add-list Inv-loop μ-loop
-add-list c = search needs
+add-k : tie.Need-add-k Inv-loop μ-loop
+add-k c = search needs
 
 loop-less : tie.Need-loop-less Inv-loop μ-loop
 loop-less c = search needs
@@ -40,10 +46,12 @@ work-out-spec =
     (tie.spec
     Inv-loop
     μ-loop
+    read-requires
     loop-holds
-    element-copy-out-if1
+    mul-add-family
+    element-copy-out-add-family
     add-family-requires
-    add-list
+    add-k
     loop-less
     loop-again
     fill-words-requires

@@ -1,16 +1,16 @@
--- `random_blocks::counts::try_nodes` is safe and ends: each turn leaves fewer nodes. Assumes nothing.
+-- `random_blocks::counts::count_block` is safe and ends: each turn leaves fewer nodes. Assumes nothing.
 use borrow.Author.Needs.{needs}
-use Rattle.random_blocks.proofs.counts.try_nodes.Statement.{statement}
-use Rattle.random_blocks.proofs.counts.try_nodes.Tie as tie
+use Rattle.random_blocks.proofs.counts.count_block.Statement.{statement}
+use Rattle.random_blocks.proofs.counts.count_block.Tie as tie
 
 abbrev Inv-loop : tie.InvT-loop
-Inv-loop tally₀ bytes block row lowest₀ node₀ tally lowest node = Unit
+Inv-loop bytes block counted₀ node₀ counted node = Unit
 
 abbrev μ-loop : tie.MeasureT-loop
-μ-loop tally₀ bytes block row lowest₀ node₀ tally lowest node = node
+μ-loop bytes block counted₀ node₀ counted node = node
 
-element-copy-out-node : tie.Need-element-copy-out-node Inv-loop μ-loop
-element-copy-out-node c = search needs
+read-requires : tie.Need-read-requires Inv-loop μ-loop
+read-requires c κs = search needs
 
 loop-holds : tie.Need-loop-holds Inv-loop μ-loop
 loop-holds c = search needs
@@ -18,14 +18,11 @@ loop-holds c = search needs
 sub-node : tie.Need-sub-node Inv-loop μ-loop
 sub-node c = search needs
 
-add-if1 : tie.Need-add-if1 Inv-loop μ-loop
-add-if1 c = search needs
+mul-entry : tie.Need-mul-entry Inv-loop μ-loop
+mul-entry c = search needs
 
-mul-if1 : tie.Need-mul-if1 Inv-loop μ-loop
-mul-if1 c = search needs
-
-element-copy-out-if1 : tie.Need-element-copy-out-if1 Inv-loop μ-loop
-element-copy-out-if1 c = search needs
+element-copy-out-entry : tie.Need-element-copy-out-entry Inv-loop μ-loop
+element-copy-out-entry c = search needs
 
 patterns-of-requires : tie.Need-patterns-of-requires Inv-loop μ-loop
 patterns-of-requires c κs = search needs
@@ -39,17 +36,14 @@ element-copy-out-node-differs-2 c = search needs
 node-differs-requires : tie.Need-node-differs-requires Inv-loop μ-loop
 node-differs-requires c κs = search needs
 
-add-count : tie.Need-add-count Inv-loop μ-loop
-add-count c = search needs
+wrapping-add-usize-requires : tie.Need-wrapping-add-usize-requires Inv-loop μ-loop
+wrapping-add-usize-requires c κs = search needs
 
-count-requires : tie.Need-count-requires Inv-loop μ-loop
-count-requires c κs = search needs
+one-if-requires : tie.Need-one-if-requires Inv-loop μ-loop
+one-if-requires c κs = search needs
 
-number-if-requires : tie.Need-number-if-requires Inv-loop μ-loop
-number-if-requires c κs = search needs
-
-count-requires-2 : tie.Need-count-requires-2 Inv-loop μ-loop
-count-requires-2 c κs = search needs
+wrapping-add-usize-requires-2 : tie.Need-wrapping-add-usize-requires-2 Inv-loop μ-loop
+wrapping-add-usize-requires-2 c κs = search needs
 
 loop-less : tie.Need-loop-less Inv-loop μ-loop
 loop-less c = search needs
@@ -72,26 +66,24 @@ loop-again-3 c = search needs
 returns : tie.Need-returns Inv-loop μ-loop
 returns c = search needs
 
-pub try-nodes-spec : {M : Type 1} → statement M
-try-nodes-spec =
+pub count-block-spec : {M : Type 1} → statement M
+count-block-spec =
     tie.close
     (tie.spec
     Inv-loop
     μ-loop
-    element-copy-out-node
+    read-requires
     loop-holds
     sub-node
-    add-if1
-    mul-if1
-    element-copy-out-if1
+    mul-entry
+    element-copy-out-entry
     patterns-of-requires
     element-copy-out-node-differs
     element-copy-out-node-differs-2
     node-differs-requires
-    add-count
-    count-requires
-    number-if-requires
-    count-requires-2
+    wrapping-add-usize-requires
+    one-if-requires
+    wrapping-add-usize-requires-2
     loop-less
     loop-again
     loop-less-2

@@ -1,20 +1,20 @@
--- `random_blocks::compare::compare_families` is safe and ends: each turn leaves fewer lists, and then fewer bytes. Assumes nothing.
+-- `random_blocks::compare::families_differ` is safe and ends: each turn leaves fewer lists, and then fewer bytes. Assumes nothing.
 use borrow.Author.Needs.{needs}
 use Prim.Native.Nat.{_-_, _≤_}
-use Rattle.random_blocks.proofs.compare.compare_families.Statement.{statement}
-use Rattle.random_blocks.proofs.compare.compare_families.Tie as tie
+use Rattle.random_blocks.proofs.compare.families_differ.Statement.{statement}
+use Rattle.random_blocks.proofs.compare.families_differ.Tie as tie
 
 abbrev Inv-loop : tie.InvT-loop
-Inv-loop tally₀ work₀ store block list₀ tally work list = list ≤ 400
+Inv-loop work₀ store count list₀ work list = list ≤ 400
 
 abbrev μ-loop : tie.MeasureT-loop
-μ-loop tally₀ work₀ store block list₀ tally work list = 400 - list
+μ-loop work₀ store count list₀ work list = 400 - list
 
 abbrev Inv-loop2 : tie.InvT-loop2
-Inv-loop2 tally work store block list left₀ k₀ left k = k ≤ 51200
+Inv-loop2 work store count list left₀ k₀ left k = k ≤ 51200
 
 abbrev μ-loop2 : tie.MeasureT-loop2
-μ-loop2 tally work store block list left₀ k₀ left k = 51200 - k
+μ-loop2 work store count list left₀ k₀ left k = 51200 - k
 
 loop-holds : tie.Need-loop-holds Inv-loop μ-loop Inv-loop2 μ-loop2
 loop-holds c = search needs
@@ -34,9 +34,6 @@ loop-again c = search needs
 loop2-holds : tie.Need-loop2-holds Inv-loop μ-loop Inv-loop2 μ-loop2
 loop2-holds c = search needs
 
-element-copy-out-if1 : tie.Need-element-copy-out-if1 Inv-loop μ-loop Inv-loop2 μ-loop2
-element-copy-out-if1 c = search needs
-
 element-copy-out-left : tie.Need-element-copy-out-left Inv-loop μ-loop Inv-loop2 μ-loop2
 element-copy-out-left c = search needs
 
@@ -49,17 +46,11 @@ loop2-less c = search needs
 loop2-again : tie.Need-loop2-again Inv-loop μ-loop Inv-loop2 μ-loop2
 loop2-again c = search needs
 
-number-if-requires : tie.Need-number-if-requires Inv-loop μ-loop Inv-loop2 μ-loop2
-number-if-requires c κs = search needs
-
-count-requires : tie.Need-count-requires Inv-loop μ-loop Inv-loop2 μ-loop2
-count-requires c κs = search needs
-
 returns : tie.Need-returns Inv-loop μ-loop Inv-loop2 μ-loop2
 returns c = search needs
 
-pub compare-families-spec : {M : Type 1} → statement M
-compare-families-spec =
+pub families-differ-spec : {M : Type 1} → statement M
+families-differ-spec =
     tie.close
     (tie.spec
     Inv-loop
@@ -72,11 +63,8 @@ compare-families-spec =
     loop-less
     loop-again
     loop2-holds
-    element-copy-out-if1
     element-copy-out-left
     add-k
     loop2-less
     loop2-again
-    number-if-requires
-    count-requires
     returns)
