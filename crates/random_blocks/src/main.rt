@@ -1,6 +1,5 @@
 // The checker and the queries over random blocks: first against a second checker, then against mask settings that are counted by
-// force. Prints counts of what was seen. Every one is above 0, so that each branch was taken, but `differences` and `contradictions`,
-// which must be 0.
+// force. Prints counts of what was seen: every one is above 0 but `differences` and `contradictions`, which must be 0.
 mod compare;
 mod counts;
 mod generator;
