@@ -18,9 +18,9 @@ use Rattle.rules.specs.declared.Refusal.the-variants.{FewEntries, ShortWork}
 use Rattle.rules.specs.declared.Reply.the-variants.{Refused, Answered}
 use Rattle.rules.proofs.Halves.{exactly-when}
 use Rattle.rules.proofs.Probe.{one-probe}
-use Rattle.records.specs.declared.Netlist as Value
-use Rattle.records.specs.Netlists.{flatOf, Ready, kept}
-use Rattle.records.proofs.Netlists.{value-variables, value-count, well-formed}
+use Rattle.netlists.specs.declared.Netlist as Value
+use Rattle.netlists.specs.Netlists.{flatOf, Ready, kept}
+use Rattle.netlists.proofs.Netlists.{value-variables, value-count, well-formed}
 use Rattle.suspects.specs.Suspects.{found}
 use Rattle.suspects.proofs.Search.{found-half}
 use Rattle.checker.specs.declared.Examined.{Examined}

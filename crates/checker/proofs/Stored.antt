@@ -14,7 +14,7 @@ use Rattle.rules.specs.Slices.{entry, filled, nodesAfter}
 use Rattle.rules.specs.Checks.{Outcome, answered, refused, admitted}
 use Rattle.rules.proofs.Reading.{read-well-formed}
 use Rattle.rules.proofs.Room.{admitted-says}
-use Rattle.records.specs.Netlists.{padded, blank, flatOf, kept}
+use Rattle.netlists.specs.Netlists.{padded, blank, flatOf, kept}
 use Rattle.checker.specs.Work.{stored}
 
 module _ (records before : List Node) where

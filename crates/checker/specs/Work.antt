@@ -9,7 +9,7 @@ use Rattle.rules.specs.Families.{families, findings}
 use Rattle.rules.specs.Slices.{workBytes, filled}
 use Rattle.rules.specs.Checks.{Outcome, answered, andThen}
 use Rattle.rules.specs.Paper.{replyOf}
-use Rattle.records.specs.Netlists.{blank, flatOf, kept}
+use Rattle.netlists.specs.Netlists.{blank, flatOf, kept}
 use Rattle.checker.specs.declared.Examined.{Examined}
 
 -- what is examined where the outcome of reading and of the slices is `outcome`, and the work slice held `before` and then holds `after`

@@ -10,9 +10,9 @@ ghost use Rattle.rules.specs.Slices.{nodesAfter, workAfter, reply};
 ghost use Rattle.rules.specs.Checks.{answered, slicesFit, admitted};
 ghost use Rattle.rules.specs.Demands.{GlitchClear, NothingSuspect, OneProbe};
 ghost use Rattle.rules.specs.Paper.{replyOf};
-ghost use Rattle.records.specs.Netlists.{blank, flatOf, Formed, Ready, kept};
+ghost use Rattle.netlists.specs.Netlists.{blank, flatOf, Formed, Ready, kept};
 ghost use Rattle.checker.specs.Work.{Examines, stored};
-use records::Netlist;
+use netlists::Netlist;
 use rules::Answer;
 use rules::Node;
 use rules::QueryOutcome;
@@ -31,7 +31,7 @@ fn refused(refusal: Refusal) -> Examined
 {
     Examined {
         reply: Reply::Refused(refusal),
-        netlist: records::no_records(),
+        netlist: netlists::no_records(),
     }
 }
 
@@ -82,7 +82,7 @@ pub fn examine(bytes: &[u8], entries: usize, work: &mut [u8]) -> Examined
         NothingSuspect (now (bytes .entry)) entries (length (now (work .entry))) ⌝ }
     ensures probe { λ r. ⌜ (GlitchClear (replyOf (r .reply)) → OneProbe (now (bytes .entry))) ⌝ }
 {
-    let file = records::read(bytes);
+    let file = netlists::read(bytes);
     let outcome = file.outcome;
     let netlist = file.netlist;
     match outcome {

@@ -10,10 +10,10 @@ ghost use Rattle.rules.specs.Records as Records;
 ghost use Rattle.rules.specs.Records.{Cell};
 ghost use Rattle.rules.specs.Families.{product, spread, settledRule, glitchRule, familiesRule, families};
 ghost use Rattle.rules.specs.Slices.{entry, workBytes};
-ghost use Rattle.records.specs.Netlists.{flatOf, Ready};
+ghost use Rattle.netlists.specs.Netlists.{flatOf, Ready};
 ghost use Rattle.families.specs.Parts.{HasPart, familyAt, withFamily};
 ghost use Rattle.nodes.specs.Work.{soFar, withFamilies, Placed};
-use records::Netlist;
+use netlists::Netlist;
 use rules::Node;
 
 // The family of a gate of this kind with two operands, from those in two lower parts: for XOR the product, for AND and

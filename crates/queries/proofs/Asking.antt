@@ -16,9 +16,9 @@ use Rattle.rules.specs.declared.Refusal.{Refusal}
 use Rattle.rules.specs.declared.QueryOutcome.{QueryOutcome}
 use Rattle.rules.specs.declared.QueryOutcome.the-variants as Query
 use Rattle.rules.proofs.Records.{condition, passes, answer}
-use Rattle.records.specs.declared.ReadFile.{ReadFile}
-use Rattle.records.specs.Netlists.{Formed, Reads}
-use Rattle.records.proofs.Netlists.{value-variables, value-count, few-variables, Stands, read-refused, read-formed}
+use Rattle.netlists.specs.declared.ReadFile.{ReadFile}
+use Rattle.netlists.specs.Netlists.{Formed, Reads}
+use Rattle.netlists.proofs.Netlists.{value-variables, value-count, few-variables, Stands, read-refused, read-formed}
 
 -- ---- one check more
 

@@ -14,10 +14,10 @@ ghost use Rattle.rules.specs.Slices.{entry};
 ghost use Rattle.rules.specs.Checks.{queried, queriedWith};
 ghost use Rattle.rules.specs.Queries.{valueQuery, feedingQuery, membershipQuery};
 ghost use Rattle.rules.specs.Paper.{valueOf, feedingOf, membershipOf};
-ghost use Rattle.records.specs.Netlists.{padded, flatOf, Formed, Reads};
+ghost use Rattle.netlists.specs.Netlists.{padded, flatOf, Formed, Reads};
 ghost use Rattle.queries.specs.Replies.{handedOn};
-use records::Netlist;
-use records::ReadFile;
+use netlists::Netlist;
+use netlists::ReadFile;
 use rules::FeedingReply;
 use rules::MOST_NODES;
 use rules::MOST_WORK;
@@ -33,14 +33,14 @@ use rules::ValueReply;
 fn ask(bytes: &[u8], node: usize) -> ReadFile
     ensures { λ r. ⌜ Reads r (queried (now (bytes .entry)) node) ⌝ }
 {
-    let file = records::read(bytes);
+    let file = netlists::read(bytes);
     let outcome = file.outcome;
     let netlist = file.netlist;
     let QueryOutcome::Answered = outcome else {
         return file;
     };
     if netlist.count <= node {
-        return records::refused(Refusal::NoSuchNode(node));
+        return netlists::refused(Refusal::NoSuchNode(node));
     }
     file
 }
@@ -56,7 +56,7 @@ fn ask_with(bytes: &[u8], node: usize, number: usize) -> ReadFile
         return file;
     };
     if records::undeclared_bit(netlist.variables, number) {
-        return records::refused(Refusal::UndeclaredBit(number));
+        return netlists::refused(Refusal::UndeclaredBit(number));
     }
     file
 }

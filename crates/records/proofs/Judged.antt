@@ -11,7 +11,7 @@ use lib.Pow.{pow-pos}
 use borrow.Author.Tests.{lt-ltb, le-ltb, lt-leb, ltb-true, ltb-false}
 use Rattle.rules.specs.Records.{Cell, input, NOT, XOR, AND, OR, register, Record, node, said, size, recordBytes, body, operands, setOf, most-variables, most-nodes}
 use Rattle.rules.specs.Checks.{andThen, Check, check, judged, overLimit, undeclared, undeclaredSet, notBelow, badOperand, judgedRecord}
-use Rattle.records.specs.Netlists.{foundIf}
+use Rattle.records.specs.Found.{foundIf}
 
 -- the second list is what is left of the first without some rows whose condition is false; a row for either of two conditions is two rows
 data Leaves : List Check → List Check → Type 0 where

@@ -1,3 +1,2 @@
--- What is proved of the definitions, for the proofs of this crate's functions and of its callers.
+-- What is proved of the definitions, for the proofs of this crate's functions.
 pub mod Judged
-pub mod Netlists

@@ -1,2 +1,2 @@
 -- What this crate's contracts cite.
-pub mod Netlists
+pub mod Found

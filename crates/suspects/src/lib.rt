@@ -9,11 +9,11 @@ ghost use Rattle.rules.specs.Records as Records;
 ghost use Rattle.rules.specs.Records.{Class, secret, mask, classByte, most-variables, most-sets};
 ghost use Rattle.rules.specs.Families.{suspect};
 ghost use Rattle.rules.specs.Paper.{findingOf};
-ghost use Rattle.records.specs.Netlists.{flatOf, Ready};
+ghost use Rattle.netlists.specs.Netlists.{flatOf, Ready};
 ghost use Rattle.families.specs.Parts.{HasPart, familyAt};
 ghost use Rattle.suspects.specs.Suspects.{variablesOf, found};
 use families::SETS;
-use records::Netlist;
+use netlists::Netlist;
 use rules::Half;
 
 // The bit of variable `v`, or 0 where the answer is no.

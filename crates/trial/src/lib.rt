@@ -9,7 +9,7 @@ ghost use Rattle.rules.specs.Lists.{tabulate};
 ghost use Rattle.rules.specs.Records.{most-nodes};
 ghost use Rattle.rules.specs.Slices.{nodesAfter, workAfter, reply};
 ghost use Rattle.rules.specs.Paper.{replyOf};
-ghost use Rattle.records.specs.Netlists.{blank};
+ghost use Rattle.netlists.specs.Netlists.{blank};
 ghost use Rattle.trial.specs.Before.{entryBefore, byteBefore, isBefore, keptFrom};
 use rules::MOST_NODES;
 use rules::Node;

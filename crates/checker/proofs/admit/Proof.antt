@@ -1,7 +1,7 @@
 -- `checker::admit` meets its contract: refusal 10 before 11, and where neither applies the answer. Assumes nothing.
 use native.Mathlib.Omega.{arith}
 use borrow.Author.Needs.{needs}
-use Rattle.records.proofs.Netlists.{value-count, few-nodes}
+use Rattle.netlists.proofs.Netlists.{value-count, few-nodes}
 use Rattle.checker.proofs.Core.{few-entries, short-work, both-fit}
 use Rattle.checker.proofs.admit.Statement.{statement}
 use Rattle.checker.proofs.admit.Tie as tie

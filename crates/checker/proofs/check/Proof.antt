@@ -49,8 +49,8 @@ use Rattle.rules.specs.Slices.{nodesAfter, workAfter, reply}
 use Rattle.rules.specs.Checks.{admitted}
 use Rattle.rules.specs.Demands.{GlitchClear, NothingSuspect, OneProbe}
 use Rattle.rules.specs.Paper.{replyOf}
-use Rattle.records.specs.Netlists.{flatOf, kept}
-use Rattle.records.specs.declared.Netlist.{Netlist}
+use Rattle.netlists.specs.Netlists.{flatOf, kept}
+use Rattle.netlists.specs.declared.Netlist.{Netlist}
 use Rattle.rules.proofs.Node as T
 use Rattle.rules.proofs.Reply as R
 use Rattle.rules.proofs.Reply.Laws as R′

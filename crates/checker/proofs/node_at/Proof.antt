@@ -37,7 +37,7 @@ use denote.Triple.Spec.{Meets, tripleOf}
 use denote.Triple.Table.{entered}
 use denote.Triple.Walked.{says, needs, Stays, stay-none-slice, stay-none, walkOf, goes-none-slice, goes-none, Walks, ends-at, walked, walk-meets}
 use denote.Exit.{yes}
-use Rattle.records.specs.Netlists.{blank}
+use Rattle.netlists.specs.Netlists.{blank}
 use Rattle.rules.specs.declared.Node.{Node}
 use Rattle.rules.proofs.Node as T
 use Rattle.rules.proofs.Node.Laws as T′

@@ -50,7 +50,7 @@ use denote.Triple.Clauses.{ensured, lasts}
 use denote.Triple.Table.{entered, cited}
 use denote.Triple.Walked.{says, needs, Stays, stay-slice, stay-none, walkOf, goes-slice, goes-none, Walks, ends-at, walked, walk-meets}
 use denote.Exit.{yes}
-use Rattle.records.specs.Netlists.{blank}
+use Rattle.netlists.specs.Netlists.{blank}
 use Rattle.rules.specs.Records.{most-nodes}
 use Rattle.rules.specs.declared.Node.{Node}
 use Rattle.rules.proofs.Node as T

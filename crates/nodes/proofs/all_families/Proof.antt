@@ -8,9 +8,9 @@ use lib.ListN.{length, getD, drop}
 use Rattle.rules.specs.Records.{Cell, input, Netlist}
 use Rattle.rules.specs.Families.{familiesRule, families}
 use Rattle.rules.specs.Slices.{entry, workBytes}
-use Rattle.records.specs.declared.Netlist as Value
-use Rattle.records.specs.Netlists.{blank, flatOf, Formed}
-use Rattle.records.proofs.Netlists.{value-count, value-entry, few-nodes, one-netlist}
+use Rattle.netlists.specs.declared.Netlist as Value
+use Rattle.netlists.specs.Netlists.{blank, flatOf, Formed}
+use Rattle.netlists.proofs.Netlists.{value-count, value-entry, few-nodes, one-netlist}
 use Rattle.nodes.specs.Work.{soFar, withFamilies, Placed}
 use Rattle.nodes.proofs.Nodes.{nodesDone, none-done, next-done, all-done, done-length, placed}
 use Rattle.nodes.proofs.all_families.Statement.{statement}

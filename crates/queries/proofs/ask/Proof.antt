@@ -8,7 +8,7 @@ use lib.Dec.{leb}
 use lib.ListN.{length}
 use Rattle.rules.specs.Records.{Netlist}
 use Rattle.rules.specs.Checks.{check, nodeCheck, queried}
-use Rattle.records.proofs.Netlists.{value-count, read-stands}
+use Rattle.netlists.proofs.Netlists.{value-count, read-stands}
 use Rattle.queries.proofs.Asking.{stays-refused, row-refuses, row-passes}
 use Rattle.queries.proofs.ask.Statement.{statement}
 use Rattle.queries.proofs.ask.Tie as tie

@@ -6,7 +6,7 @@ use borrow.Author.Needs.{needs}
 use lib.ListN.{length}
 use Rattle.rules.specs.Records.{Netlist}
 use Rattle.rules.specs.Checks.{check, undeclared, numberCheck}
-use Rattle.records.proofs.Netlists.{value-variables, read-stands}
+use Rattle.netlists.proofs.Netlists.{value-variables, read-stands}
 use Rattle.queries.proofs.Asking.{stays-refused, row-refuses, row-passes, node-first}
 use Rattle.queries.proofs.ask_with.Statement.{statement}
 use Rattle.queries.proofs.ask_with.Tie as tie

@@ -10,9 +10,9 @@ use Rattle.rules.specs.Lists.{member, tabulate}
 use Rattle.rules.specs.Records.{Cell, input, Netlist, most-nodes}
 use Rattle.rules.specs.Values.{feeding}
 use Rattle.rules.specs.Slices.{entry}
-use Rattle.records.specs.declared.Netlist as Value
-use Rattle.records.specs.Netlists.{blank, flatOf, Formed}
-use Rattle.records.proofs.Netlists.{value-count, value-entry, few-nodes, one-netlist, operands-below}
+use Rattle.netlists.specs.declared.Netlist as Value
+use Rattle.netlists.specs.Netlists.{blank, flatOf, Formed}
+use Rattle.netlists.proofs.Netlists.{value-count, value-entry, few-nodes, one-netlist, operands-below}
 use Rattle.queries.specs.Replies.{handedOn}
 use Rattle.queries.proofs.Marks.{Leads, leads-start, leads-next, leads-end, handed-length}
 use Rattle.queries.proofs.feeding_marks.Statement.{statement}

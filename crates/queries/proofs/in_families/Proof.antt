@@ -11,9 +11,9 @@ use Rattle.rules.specs.Lists.{member}
 use Rattle.rules.specs.Records.{Netlist}
 use Rattle.rules.specs.Families.{families, familiesAt}
 use Rattle.rules.specs.Slices.{workBytes}
-use Rattle.records.specs.declared.Netlist as Value
-use Rattle.records.specs.Netlists.{flatOf, Formed, Ready}
-use Rattle.records.proofs.Netlists.{value-count, few-nodes, well-formed}
+use Rattle.netlists.specs.declared.Netlist as Value
+use Rattle.netlists.specs.Netlists.{flatOf, Formed, Ready}
+use Rattle.netlists.proofs.Netlists.{value-count, few-nodes, well-formed}
 use Rattle.families.specs.Parts.{familyAt}
 use Rattle.families.proofs.Work.{settled-there, glitch-there}
 use Rattle.queries.proofs.in_families.Statement.{statement}

@@ -1,7 +1,7 @@
 -- `queries::memberships` meets its contract: a refused query gives no for both, and of one that stands both are looked up. Assumes nothing.
 use borrow.Author.Needs.{needs}
 use Rattle.rules.specs.Queries.{membershipQuery}
-use Rattle.records.proofs.Netlists.{read-stands}
+use Rattle.netlists.proofs.Netlists.{read-stands}
 use Rattle.queries.proofs.Asking.{given-refused, given-answered, stands-formed, stands-node, stands-with, stands-number}
 use Rattle.queries.proofs.memberships.Statement.{statement}
 use Rattle.queries.proofs.memberships.Tie as tie

@@ -9,8 +9,8 @@ use borrow.Author.Needs.{needs}
 use lib.ListN.{getD}
 use Rattle.rules.specs.Records.{most-nodes}
 use Rattle.rules.specs.Queries.{valueQuery}
-use Rattle.records.specs.Netlists.{padded}
-use Rattle.records.proofs.Netlists.{padded-same, few-nodes, read-stands}
+use Rattle.netlists.specs.Netlists.{padded}
+use Rattle.netlists.proofs.Netlists.{padded-same, few-nodes, read-stands}
 use Rattle.queries.proofs.Asking.{given-refused, given-answered, stands-formed, stands-node, stands-with}
 use Rattle.queries.proofs.settled_value.Statement.{statement}
 use Rattle.queries.proofs.settled_value.Tie as tie

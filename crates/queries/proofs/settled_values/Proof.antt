@@ -13,9 +13,9 @@ use Rattle.rules.specs.Records.{Cell, input, NOT, XOR, AND, OR, register, Netli
 use Rattle.rules.specs.Values.{Assignment, valueRule, values}
 use Rattle.rules.specs.Slices.{entry}
 use Rattle.rules.proofs.Tables.{first-length, first-next}
-use Rattle.records.specs.declared.Netlist as Value
-use Rattle.records.specs.Netlists.{padded, blank, flatOf, Formed}
-use Rattle.records.proofs.Netlists.{padded-none, padded-set, padded-same, value-variables, value-count, value-entry, few-nodes, one-netlist, operands-below}
+use Rattle.netlists.specs.declared.Netlist as Value
+use Rattle.netlists.specs.Netlists.{padded, blank, flatOf, Formed}
+use Rattle.netlists.proofs.Netlists.{padded-none, padded-set, padded-same, value-variables, value-count, value-entry, few-nodes, one-netlist, operands-below}
 use Rattle.queries.proofs.settled_values.Statement.{statement}
 use Rattle.queries.proofs.settled_values.Tie as tie
 

@@ -6,7 +6,7 @@ use borrow.Author.Needs.{needs}
 use borrow.Author.Tests.{lt-ltb, le-leb, lt-leb}
 use mathlib.Core.Logic.{inl, inr}
 use Rattle.rules.specs.Checks.{andThen, judged, judgedRecord}
-use Rattle.records.specs.Netlists.{foundIf}
+use Rattle.records.specs.Found.{foundIf}
 use Rattle.records.proofs.judge.Statement.{statement}
 use Rattle.records.proofs.judge.Tie as tie
 

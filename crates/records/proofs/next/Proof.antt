@@ -44,7 +44,7 @@ use denote.Triple.Walked.{says, Stays, stay-none, walkOf, goes-none, Walks, ends
 use denote.Exit.{yes}
 use denote.Triple.Clauses.{ensured, lasts}
 use Rattle.rules.specs.Checks.{Outcome}
-use Rattle.records.specs.Netlists.{RecordBytes, foundOf, foundAt}
+use Rattle.records.specs.Found.{RecordBytes, foundOf, foundAt}
 use Rattle.records.specs.declared.Reader.{Reader}
 use Rattle.records.specs.declared.Found.{Found}
 use Rattle.records.proofs.Reader as T

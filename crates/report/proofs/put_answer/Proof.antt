@@ -9,7 +9,7 @@ use Rattle.rules.specs.Records.{Netlist}
 use Rattle.rules.specs.Families.{families, Findings, findings}
 use Rattle.rules.specs.Listing.{word, decimal, line, nodeLines, halfLine, netlistText}
 use Rattle.rules.specs.Paper.{findingOf, findingsOf}
-use Rattle.records.proofs.Netlists.{few-nodes}
+use Rattle.netlists.proofs.Netlists.{few-nodes}
 use Rattle.lines.proofs.Text.{appended-more, appended-as}
 use Rattle.report.proofs.put_answer.Statement.{statement}
 use Rattle.report.proofs.put_answer.Tie as tie

@@ -24,9 +24,9 @@ use Rattle.rules.proofs.Listing.{settled-names, glitch-names}
 use Rattle.rules.proofs.Packing.{work-length}
 use Rattle.rules.proofs.Reading.{read-well-formed}
 use Rattle.rules.proofs.Room.{admitted-all}
-use Rattle.records.specs.declared.Netlist as Value
-use Rattle.records.specs.Netlists.{flatOf, Formed, kept}
-use Rattle.records.proofs.Netlists.{value-count}
+use Rattle.netlists.specs.declared.Netlist as Value
+use Rattle.netlists.specs.Netlists.{flatOf, Formed, kept}
+use Rattle.netlists.proofs.Netlists.{value-count}
 use Rattle.lines.specs.Text.{Short}
 use Rattle.lines.proofs.Text.{appended-as}
 use Rattle.report.proofs.put_listing.Statement.{statement}

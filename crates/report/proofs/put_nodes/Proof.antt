@@ -12,9 +12,9 @@ use Rattle.rules.specs.Families.{families}
 use Rattle.rules.specs.Slices.{entry, workBytes}
 use Rattle.rules.specs.Listing.{decimal, line, kindName, nodeLines, most-line}
 use Rattle.rules.proofs.Listing.{firstLines, first-none, first-more, first-all}
-use Rattle.records.specs.declared.Netlist as Value
-use Rattle.records.specs.Netlists.{blank, flatOf, Formed}
-use Rattle.records.proofs.Netlists.{value-count, value-entry, few-nodes, well-formed}
+use Rattle.netlists.specs.declared.Netlist as Value
+use Rattle.netlists.specs.Netlists.{blank, flatOf, Formed}
+use Rattle.netlists.proofs.Netlists.{value-count, value-entry, few-nodes, well-formed}
 use Rattle.families.specs.Parts.{familyAt}
 use Rattle.families.proofs.Parts.{length-at}
 use Rattle.families.proofs.Work.{settled-size, glitch-size}

@@ -13,8 +13,8 @@ use Rattle.rules.specs.Records as Records
 use Rattle.rules.specs.Records.{secret, mask, input, kindOf, classByte, most-variables, most-nodes, most-sets}
 use Rattle.rules.specs.Families.{suspectAt}
 use Rattle.rules.specs.Slices.{entry}
-use Rattle.records.specs.Netlists.{blank, flatOf}
-use Rattle.records.proofs.Netlists.{flat-entry-at, few-variables, few-nodes}
+use Rattle.netlists.specs.Netlists.{blank, flatOf}
+use Rattle.netlists.proofs.Netlists.{flat-entry-at, few-variables, few-nodes}
 use Rattle.suspects.specs.Suspects.{found}
 use Rattle.suspects.proofs.Search.{suspectIn, Searched, search-start, search-more, search-none, search-some, Passed, found-suspect, found-clear}
 use Rattle.suspects.proofs.scan.Statement.{statement}

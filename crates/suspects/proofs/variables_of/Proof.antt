@@ -14,8 +14,8 @@ use Rattle.rules.specs.Lists.{digit}
 use Rattle.rules.specs.Records as Records
 use Rattle.rules.specs.Records.{Class, public, classByte, number, most-variables}
 use Rattle.rules.specs.Values.{same}
-use Rattle.records.specs.Netlists.{flatOf}
-use Rattle.records.proofs.Netlists.{flat-class-at}
+use Rattle.netlists.specs.Netlists.{flatOf}
+use Rattle.netlists.proofs.Netlists.{flat-class-at}
 use Rattle.suspects.specs.Suspects.{variablesOf}
 use Rattle.suspects.proofs.Suspects.{digit-times, variables-more, same-byte}
 use Rattle.suspects.proofs.variables_of.Statement.{statement}

@@ -43,7 +43,7 @@ use denote.Triple.Table.{entered, cited}
 use denote.Triple.Walked.{says, needs, Stays, stay-dropped, walkOf, goes-dropped, Walks, ends-at, walked, walk-meets}
 use denote.Exit.{yes}
 use Rattle.rules.specs.declared.Node.{Node}
-use Rattle.records.specs.Netlists.{blank}
+use Rattle.netlists.specs.Netlists.{blank}
 use Rattle.rules.proofs.Node as T
 use Rattle.rules.proofs.Node.Laws as T′
 use Rattle.checker.proofs.node_at as node-at

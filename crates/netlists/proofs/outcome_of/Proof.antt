@@ -1,4 +1,4 @@
--- `records::outcome_of` meets its contract: what is over comes to its outcome, and what is not to refusal 8. Assumes nothing.
+-- `netlists::outcome_of` meets its contract: what is over comes to its outcome, and what is not to refusal 8. Assumes nothing.
 use Prim.Native.Nat.{ℕ}
 use mathlib.Core.Path.{_≡_}
 use mathlib.Core.Bool.{true, false}
@@ -8,11 +8,11 @@ use borrow.Author.Needs.{needs}
 use lib.ListN.{length}
 use Rattle.rules.specs.Checks as C
 use Rattle.rules.specs.Checks.{refused, reading, finished, outcomeOf}
-use Rattle.records.specs.declared.ReadFile.{ReadFile}
-use Rattle.records.specs.declared.Progress.{Progress}
-use Rattle.records.specs.Netlists.{Reads, Reached}
-use Rattle.records.proofs.outcome_of.Statement.{statement}
-use Rattle.records.proofs.outcome_of.Tie as tie
+use Rattle.netlists.specs.declared.ReadFile.{ReadFile}
+use Rattle.netlists.specs.declared.Progress.{Progress}
+use Rattle.netlists.specs.Netlists.{Reads, Reached}
+use Rattle.netlists.proofs.outcome_of.Statement.{statement}
+use Rattle.netlists.proofs.outcome_of.Tie as tie
 
 module _ (bytes : List ℕ) (s : Progress) where
   of-over : s .over ≡ true → (p : C.Progress) → Reached s p → Reads (s .file) (outcomeOf bytes p)

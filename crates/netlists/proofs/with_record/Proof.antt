@@ -1,4 +1,4 @@
--- `records::with_record` meets its contract: by the tests on the kind, each with what the record then says. Assumes nothing.
+-- `netlists::with_record` meets its contract: by the tests on the kind, each with what the record then says. Assumes nothing.
 use Prim.Native.Nat.{ℕ, zero, suc, _≤_}
 use mathlib.Core.Path.{_≡_, refl, sym}
 use native.Mathlib.Omega.{arith}
@@ -7,9 +7,9 @@ use borrow.Author.Tests.{leb-false}
 use Rattle.rules.specs.Records.{Cell, node, said, classOf}
 use Rattle.rules.specs.Checks.{overLimit, taken}
 use Rattle.rules.proofs.Records.{byte-of-class}
-use Rattle.records.proofs.Netlists.{read-value}
-use Rattle.records.proofs.with_record.Statement.{statement}
-use Rattle.records.proofs.with_record.Tie as tie
+use Rattle.netlists.proofs.Netlists.{read-value}
+use Rattle.netlists.proofs.with_record.Statement.{statement}
+use Rattle.netlists.proofs.with_record.Tie as tie
 
 -- a kind from 2 to 7 says a node
 says-node : (k b c : ℕ) → 2 ≤ k → k ≤ 7 → (cell : Cell) × (said k b c ≡ node cell)

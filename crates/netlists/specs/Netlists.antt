@@ -1,4 +1,4 @@
--- A file that is being read, and one that was read, as values of this crate's types. Cited by its contracts and its callers'. Assumes nothing.
+-- Netlists by value, a file that is being read, and one that was read. Cited by this crate's contracts and its callers'. Assumes nothing.
 use Prim.Native.Nat.{ℕ, _+_, _*_, _-_, _^_, _≤_, _<_}
 use mathlib.Core.Path.{_≡_}
 use mathlib.Core.Bool.{Bool, true, false}
@@ -11,31 +11,9 @@ use Rattle.rules.specs.Slices.{entry}
 use Rattle.rules.specs.Checks as C
 use Rattle.rules.specs.Checks.{Outcome, answered, refused, andThen, overLimit, judgedAt, reading, finished}
 use Rattle.rules.specs.Paper.{numberOf, placeOf, queryOf}
-use Rattle.records.specs.declared.Found.{Found}
-use Rattle.records.specs.declared.Found.the-variants as Found
-use Rattle.records.specs.declared.Netlist.{Netlist}
-use Rattle.records.specs.declared.ReadFile.{ReadFile}
-use Rattle.records.specs.declared.Progress.{Progress}
-
--- the bytes of a record: its kind byte and the two behind it
-pub record RecordBytes : Type 0 where
-  pub kind : ℕ
-  pub first : ℕ
-  pub second : ℕ
-
--- what is found is these bytes, or a refusal
-abbrev pub foundOf : Found → Outcome RecordBytes
-foundOf (Found.Record k b c) = answered (record { kind = k; first = b; second = c })
-foundOf (Found.Refused r) = refused (numberOf r) (placeOf r)
-
--- what is to be found where the rules judge the record of these bytes so
-unfoldable pub foundIf : Outcome Record → (k b c : ℕ) → Outcome RecordBytes
-foundIf o k b c = andThen o (λ _. answered (record { kind = k; first = b; second = c }))
-
--- what is to be found in a file, after so many variables and nodes
-abbrev pub foundAt : List ℕ → (v n here : ℕ) → Outcome RecordBytes
-foundAt bytes v n here =
-    foundIf (judgedAt bytes v n here) (getD bytes here 0) (getD bytes (here + 1) 0) (getD bytes (here + 2) 0)
+use Rattle.netlists.specs.declared.Netlist.{Netlist}
+use Rattle.netlists.specs.declared.ReadFile.{ReadFile}
+use Rattle.netlists.specs.declared.Progress.{Progress}
 
 -- a list of k entries that begins with xs and goes on with `rest`
 unfoldable pub padded {ℓ} : {A : Type ℓ} → (k : ℕ) (rest : A) → List A → List A

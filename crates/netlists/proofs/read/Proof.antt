@@ -1,4 +1,4 @@
--- `records::read` meets its contract. The loop's invariant: the progress is that of the rules after as many records as were taken, at most `most-records`.
+-- `netlists::read` meets its contract. The loop's invariant: the progress is that of the rules after as many records as were taken, at most `most-records`.
 -- The measure is what is left of them. What it comes to is the outcome of the rules' own progress. Assumes nothing.
 use Prim.Native.Nat.{_-_, _≤_}
 use mathlib.Core.Path.{_≡_, refl}
@@ -6,9 +6,9 @@ use native.Mathlib.Numerals.{add-one}
 use native.Mathlib.Omega.{arith}
 use borrow.Author.Needs.{needs}
 use Rattle.rules.specs.Checks.{after, most-records, read}
-use Rattle.records.specs.Netlists.{Reached}
-use Rattle.records.proofs.read.Statement.{statement}
-use Rattle.records.proofs.read.Tie as tie
+use Rattle.netlists.specs.Netlists.{Reached}
+use Rattle.netlists.proofs.read.Statement.{statement}
+use Rattle.netlists.proofs.read.Tie as tie
 
 abbrev Inv-loop : tie.InvT-loop
 Inv-loop bytes progress₀ records₀ progress records = (records ≤ most-records) × Reached progress (after bytes records)

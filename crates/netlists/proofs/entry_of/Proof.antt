@@ -1,4 +1,4 @@
--- `records::entry_of` meets its contract: the fields returned are those of the entry of the node that the bytes say. By the tests on the kind, and by
+-- `netlists::entry_of` meets its contract: the fields returned are those of the entry of the node that the bytes say. By the tests on the kind, and by
 -- cases on the kinds that are left. Assumes nothing.
 use Prim.Native.Nat.{ℕ, zero, suc}
 use mathlib.Core.Path.{_≡_, refl}
@@ -6,8 +6,8 @@ use borrow.Author.Needs.{needs}
 use Rattle.rules.specs.declared.Node.{Node}
 use Rattle.rules.specs.Records.{Cell, node, said, kindOf, operands, setOf}
 use Rattle.rules.specs.Slices.{entry}
-use Rattle.records.proofs.entry_of.Statement.{statement}
-use Rattle.records.proofs.entry_of.Tie as tie
+use Rattle.netlists.proofs.entry_of.Statement.{statement}
+use Rattle.netlists.proofs.entry_of.Tie as tie
 
 -- where the bytes say a node, the entry is that node's
 same-entry : (one cell : Cell) → node one ≡ node cell → entry one ≡ entry cell

@@ -1,9 +1,9 @@
--- `records::answered` meets its contract: field by field. Assumes nothing.
+-- `netlists::answered` meets its contract: field by field. Assumes nothing.
 use mathlib.Core.Path.{refl}
 use Rattle.rules.specs.Checks.{andThen}
-use Rattle.records.specs.Netlists.{kept}
-use Rattle.records.proofs.answered.Statement.{statement}
-use Rattle.records.proofs.answered.Tie as tie
+use Rattle.netlists.specs.Netlists.{kept}
+use Rattle.netlists.proofs.answered.Statement.{statement}
+use Rattle.netlists.proofs.answered.Tie as tie
 
 returns : tie.Need-returns
 unfolding andThen kept

@@ -1,10 +1,10 @@
--- `records::size_of` meets its contract: by the tests on the kind, and by cases on the kinds that are left. Assumes nothing.
+-- `netlists::size_of` meets its contract: by the tests on the kind, and by cases on the kinds that are left. Assumes nothing.
 use Prim.Native.Nat.{ℕ, zero, suc, _<_, _≤_}
 use mathlib.Core.Path.{_≡_, refl}
 use native.Mathlib.Omega.{arith}
 use Rattle.rules.specs.Records.{said, size, recordBytes, kindOf, body, operands}
-use Rattle.records.proofs.size_of.Statement.{statement}
-use Rattle.records.proofs.size_of.Tie as tie
+use Rattle.netlists.proofs.size_of.Statement.{statement}
+use Rattle.netlists.proofs.size_of.Tie as tie
 
 other-kind : (k b c : ℕ) → (k ≡ 1 → ⊥) → (k ≡ 3 → ⊥) → (k ≡ 7 → ⊥) → 0 < k → k ≤ 7 → 3 ≡ size (said k b c)
 unfolding said size recordBytes kindOf body operands

@@ -1,10 +1,10 @@
--- `records::refused` meets its contract: field by field. Assumes nothing.
+-- `netlists::refused` meets its contract: field by field. Assumes nothing.
 use mathlib.Core.Path.{refl}
 use borrow.Author.Needs.{needs}
 use Rattle.rules.specs.Checks.{andThen}
-use Rattle.records.specs.Netlists.{kept}
-use Rattle.records.proofs.refused.Statement.{statement}
-use Rattle.records.proofs.refused.Tie as tie
+use Rattle.netlists.specs.Netlists.{kept}
+use Rattle.netlists.proofs.refused.Statement.{statement}
+use Rattle.netlists.proofs.refused.Tie as tie
 
 no-records-requires : tie.Need-no-records-requires
 no-records-requires c κs = search needs

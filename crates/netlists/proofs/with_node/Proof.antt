@@ -1,14 +1,14 @@
--- `records::with_node` meets its contract: the store behind the nodes is one node more of the flat netlist. Assumes nothing.
+-- `netlists::with_node` meets its contract: the store behind the nodes is one node more of the flat netlist. Assumes nothing.
 use Prim.Native.Nat.{_<_}
 use mathlib.Core.List.{[], _∷_}
 use lib.ListN.{length, length-append}
 use borrow.Author.Needs.{needs}
 use Rattle.rules.specs.Records.{most-nodes}
 use Rattle.rules.specs.Slices.{entry}
-use Rattle.records.specs.Netlists.{blank, flatOf}
-use Rattle.records.proofs.Netlists.{made-set}
-use Rattle.records.proofs.with_node.Statement.{statement}
-use Rattle.records.proofs.with_node.Tie as tie
+use Rattle.netlists.specs.Netlists.{blank, flatOf}
+use Rattle.netlists.proofs.Netlists.{made-set}
+use Rattle.netlists.proofs.with_node.Statement.{statement}
+use Rattle.netlists.proofs.with_node.Tie as tie
 
 mul-last : tie.Need-mul-last
 mul-last c = search needs

@@ -18,9 +18,9 @@ use Rattle.rules.specs.Paper.{numberOf, placeOf, queryOf}
 use Rattle.rules.proofs.Members.{all-at}
 use Rattle.rules.proofs.Records.{class-of-byte}
 use Rattle.rules.proofs.Reading.{read-well-formed}
-use Rattle.records.specs.declared.Netlist.{Netlist as Flat}
-use Rattle.records.specs.declared.ReadFile.{ReadFile}
-use Rattle.records.specs.Netlists.{padded, blank, flatOf, Formed, kept, Reads}
+use Rattle.netlists.specs.declared.Netlist.{Netlist as Flat}
+use Rattle.netlists.specs.declared.ReadFile.{ReadFile}
+use Rattle.netlists.specs.Netlists.{padded, blank, flatOf, Formed, kept, Reads}
 
 -- ---- padded lists
 

@@ -1,4 +1,4 @@
--- `records::take_record` meets its contract: what is over stays, and what is read takes the record that the rules take there. Assumes nothing.
+-- `netlists::take_record` meets its contract: what is over stays, and what is read takes the record that the rules take there. Assumes nothing.
 use Prim.Native.Nat.{ℕ, _^_, _<_}
 use mathlib.Core.Path.{_≡_, refl, sym, ap, subst, _∙_}
 use mathlib.Core.Bool.{true, false}
@@ -11,12 +11,13 @@ use Rattle.rules.specs.Records.{Record, Netlist, said}
 use Rattle.rules.specs.Checks as C
 use Rattle.rules.specs.Checks.{Outcome, answered, refused, andThen, judgedRecord, judgedAt, recordAt, reading, finished, taken, step}
 use Rattle.rules.proofs.Records.{passes, answer}
 use Rattle.records.specs.declared.Found.the-variants as Found
-use Rattle.records.specs.declared.Progress.{Progress}
-use Rattle.records.specs.Netlists.{RecordBytes, foundOf, foundIf, foundAt, flatOf, RoomFor, Reached}
-use Rattle.records.proofs.Netlists.{read-value}
-use Rattle.records.proofs.take_record.Statement.{statement}
-use Rattle.records.proofs.take_record.Tie as tie
+use Rattle.records.specs.Found.{RecordBytes, foundOf, foundIf, foundAt}
+use Rattle.netlists.specs.declared.Progress.{Progress}
+use Rattle.netlists.specs.Netlists.{flatOf, RoomFor, Reached}
+use Rattle.netlists.proofs.Netlists.{read-value}
+use Rattle.netlists.proofs.take_record.Statement.{statement}
+use Rattle.netlists.proofs.take_record.Tie as tie
 
 -- where a record is found, the rules accept one, and the bytes found are those that they judge
 found-record : (total v n here k b c : ℕ) (found : RecordBytes) (o : Outcome Record) → judgedRecord total v n here k b c ≡ o

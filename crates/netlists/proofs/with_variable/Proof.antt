@@ -1,13 +1,13 @@
--- `records::with_variable` meets its contract: the store behind the classes is one variable more of the flat netlist. Assumes nothing.
+-- `netlists::with_variable` meets its contract: the store behind the classes is one variable more of the flat netlist. Assumes nothing.
 use Prim.Native.Nat.{_<_}
 use mathlib.Core.List.{[], _∷_}
 use lib.ListN.{length, length-append}
 use borrow.Author.Needs.{needs}
 use Rattle.rules.specs.Records.{classByte, most-variables}
-use Rattle.records.specs.Netlists.{flatOf}
-use Rattle.records.proofs.Netlists.{made-set}
-use Rattle.records.proofs.with_variable.Statement.{statement}
-use Rattle.records.proofs.with_variable.Tie as tie
+use Rattle.netlists.specs.Netlists.{flatOf}
+use Rattle.netlists.proofs.Netlists.{made-set}
+use Rattle.netlists.proofs.with_variable.Statement.{statement}
+use Rattle.netlists.proofs.with_variable.Tie as tie
 
 element-write-longer : tie.Need-element-write-longer
 element-write-longer c = search needs

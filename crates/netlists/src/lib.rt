@@ -1,0 +1,235 @@
+// Netlists by value, and the walk over a file, which takes record by record and gives its netlist or the refusal.
+ghost use mathlib.Core.Path.{_≡_};
+ghost use Prim.Native.Nat.{ℕ, _<_, _≤_};
+ghost use Rattle.rules.specs.Records.{Cell, Class, said, size, node, classByte, empty, withVariable, withNode, most-variables, most-nodes, last-kind, most-record};
+ghost use Rattle.rules.specs.Records as Records;
+ghost use Rattle.rules.specs.Slices.{entry};
+ghost use Rattle.rules.specs.Checks.{taken, step, outcomeOf};
+ghost use Rattle.rules.specs.Checks as Checks;
+ghost use Rattle.rules.specs.Paper.{numberOf, placeOf};
+ghost use Rattle.netlists.specs.Netlists.{flatOf, Reads, RoomFor, Reached};
+use records::Found;
+use rules::MOST_NODES;
+use rules::MOST_VARIABLES;
+use rules::Node;
+use rules::QueryOutcome;
+use rules::Refusal;
+
+// No more records than the variables and nodes there may be, and the end.
+const MOST_RECORDS: usize = MOST_VARIABLES + MOST_NODES + 1;
+
+// A netlist by value: the counts, the class bytes and the node records, each in file order. Beyond the counts all is 0.
+pub struct Netlist {
+    pub variables: usize,
+    pub count: usize,
+    pub classes: [u8; MOST_VARIABLES],
+    pub nodes: [Node; MOST_NODES],
+}
+
+// A file that was read: whether it is answered or refused, and its netlist by value, the empty one on a refusal.
+pub struct ReadFile {
+    pub outcome: QueryOutcome,
+    pub netlist: Netlist,
+}
+
+// How far a file is read: whether the reading is over, the offset of the next record (0 once it is over), and what the
+// records so far come to.
+struct Progress {
+    over: bool,
+    here: usize,
+    file: ReadFile,
+}
+
+// The netlist of no records.
+pub fn no_records() -> Netlist
+    ensures { λ r. ⌜ r ≡ flatOf empty ⌝ }
+{
+    Netlist {
+        variables: 0,
+        count: 0,
+        classes: [0u8; MOST_VARIABLES],
+        nodes: [Node {
+            kind: 0,
+            first: 0,
+            second: 0,
+            set: 0,
+        }; MOST_NODES],
+    }
+}
+
+// The netlist with one variable more.
+fn with_variable(netlist: Netlist, class: u8) -> Netlist
+    requires { ⌜ netlist .variables < most-variables ⌝ }
+    ensures { λ r. ⌜ ((n : Records.Netlist) (c : Class) → netlist ≡ flatOf n → class ≡ classByte c →
+        r ≡ flatOf (withVariable n c)) ⌝ }
+{
+    let mut longer = netlist;
+    let at = longer.variables;
+    longer.classes[at] = class;
+    longer.variables = at + 1;
+    longer
+}
+
+// The netlist with one node more.
+fn with_node(netlist: Netlist, last: Node) -> Netlist
+    requires { ⌜ netlist .count < most-nodes ⌝ }
+    ensures { λ r. ⌜ ((n : Records.Netlist) (cell : Cell) → netlist ≡ flatOf n → last ≡ entry cell →
+        r ≡ flatOf (withNode n cell)) ⌝ }
+{
+    let mut longer = netlist;
+    let at = longer.count;
+    longer.nodes[at] = last;
+    longer.count = at + 1;
+    longer
+}
+
+// The node record of a node of kind `k` with the body `b`, `c`.
+fn entry_of(k: u8, b: u8, c: u8) -> Node
+    ensures { λ r. ⌜ ((cell : Cell) → said k b c ≡ node cell → r ≡ entry cell) ⌝ }
+{
+    if k == 2 {
+        return Node {
+            kind: 2,
+            first: 0,
+            second: 0,
+            set: (b as u16) + 256 * (c as u16),
+        };
+    }
+    if k == 3 {
+        return Node {
+            kind: 3,
+            first: b,
+            second: 0,
+            set: 0,
+        };
+    }
+    if k == 7 {
+        return Node {
+            kind: 7,
+            first: b,
+            second: 0,
+            set: 0,
+        };
+    }
+    Node {
+        kind: k,
+        first: b,
+        second: c,
+        set: 0,
+    }
+}
+
+// How many bytes a variable or a node of kind `k` takes.
+fn size_of(k: u8) -> usize
+    ensures { λ r. ⌜ ((b c : ℕ) → 0 < k → k ≤ last-kind → r ≡ size (said k b c)) ⌝ }
+    ensures few { λ r. ⌜ r ≤ most-record ⌝ }
+{
+    if k == 1 {
+        return 2;
+    }
+    if k == 3 {
+        return 2;
+    }
+    if k == 7 {
+        return 2;
+    }
+    3
+}
+
+// A file that is answered with this netlist.
+fn answered(netlist: Netlist) -> ReadFile
+    ensures { λ r. ⌜ ((n : Records.Netlist) → netlist ≡ flatOf n → Reads r (Checks.answered n)) ⌝ }
+{
+    ReadFile {
+        outcome: QueryOutcome::Answered,
+        netlist,
+    }
+}
+
+// A file that is refused.
+pub fn refused(refusal: Refusal) -> ReadFile
+    ensures { λ r. ⌜ Reads r (Checks.refused (numberOf refusal) (placeOf refusal)) ⌝ }
+{
+    ReadFile {
+        outcome: QueryOutcome::Refused(refusal),
+        netlist: no_records(),
+    }
+}
+
+// A record of kind `k` with the body `b`, `c` is taken: the end record ends the reading, and a variable or a node goes
+// behind those before it.
+fn with_record(progress: Progress, k: u8, b: u8, c: u8) -> Progress
+    requires { ⌜ RoomFor progress k b c ⌝ }
+    ensures { λ r. ⌜ ((n : Records.Netlist) (here : ℕ) → Reached progress (Checks.reading n here) →
+        Reached r (taken n here (Checks.answered (said k b c)))) ⌝ }
+{
+    let file = progress.file;
+    if k == 0 {
+        return Progress {
+            over: true,
+            here: 0,
+            file,
+        };
+    }
+    let here = progress.here + size_of(k);
+    let netlist = file.netlist;
+    if k == 1 {
+        return Progress {
+            over: false,
+            here,
+            file: answered(with_variable(netlist, b)),
+        };
+    }
+    Progress {
+        over: false,
+        here,
+        file: answered(with_node(netlist, entry_of(k, b, c))),
+    }
+}
+
+// Takes the next record; a reading that is over stays as it is.
+fn take_record(bytes: &[u8], progress: Progress) -> Progress
+    ensures { λ r. ⌜ ((p : Checks.Progress) → Reached progress p → Reached r (step (now (bytes .entry)) p)) ⌝ }
+{
+    if progress.over {
+        return progress;
+    }
+    let here = progress.here;
+    let file = progress.file;
+    let netlist = file.netlist;
+    match records::next_record(bytes, here, netlist.variables, netlist.count) {
+        Found::Refused(refusal) => Progress {
+            over: true,
+            here: 0,
+            file: refused(refusal),
+        },
+        Found::Record(k, b, c) => with_record(progress, k, b, c),
+    }
+}
+
+// What a reading comes to. One that is not over has met no end record.
+fn outcome_of(bytes: &[u8], progress: Progress) -> ReadFile
+    ensures { λ r. ⌜ ((p : Checks.Progress) → Reached progress p → Reads r (outcomeOf (now (bytes .entry)) p)) ⌝ }
+{
+    if progress.over {
+        return progress.file;
+    }
+    refused(Refusal::NoEnd(bytes.len()))
+}
+
+// Reads a whole file: its netlist, or the refusal.
+pub fn read(bytes: &[u8]) -> ReadFile
+    ensures { λ r. ⌜ Reads r (Checks.read (now (bytes .entry))) ⌝ }
+{
+    let mut progress = Progress {
+        over: false,
+        here: 0,
+        file: answered(no_records()),
+    };
+    let mut records: usize = 0;
+    while records < MOST_RECORDS {
+        progress = take_record(bytes, progress);
+        records += 1;
+    }
+    outcome_of(bytes, progress)
+}
