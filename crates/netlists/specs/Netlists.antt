@@ -3,14 +3,14 @@ use Prim.Native.Nat.{ℕ, _+_, _*_, _-_, _^_, _≤_, _<_}
 use mathlib.Core.Path.{_≡_}
 use mathlib.Core.Bool.{Bool, true, false}
 use mathlib.Core.List.{List, _++_, map}
-use lib.ListN.{length, getD, replicate}
+use lib.ListN.{length, replicate}
 use Rattle.rules.specs.declared.Node.{Node}
 use Rattle.rules.specs.Records as R
-use Rattle.rules.specs.Records.{Record, empty, most-variables, most-nodes, said, classByte, last-kind, most-record}
+use Rattle.rules.specs.Records.{empty, most-variables, most-nodes, said, classByte, last-kind, most-record}
 use Rattle.rules.specs.Slices.{entry}
 use Rattle.rules.specs.Checks as C
-use Rattle.rules.specs.Checks.{Outcome, answered, refused, andThen, overLimit, judgedAt, reading, finished}
-use Rattle.rules.specs.Paper.{numberOf, placeOf, queryOf}
+use Rattle.rules.specs.Checks.{Outcome, answered, refused, andThen, overLimit, reading, finished}
+use Rattle.rules.specs.Paper.{queryOf}
 use Rattle.netlists.specs.declared.Netlist.{Netlist}
 use Rattle.netlists.specs.declared.ReadFile.{ReadFile}
 use Rattle.netlists.specs.declared.Progress.{Progress}

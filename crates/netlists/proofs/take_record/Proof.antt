@@ -7,7 +7,7 @@ use native.Mathlib.Omega.{arith}
 use lib.ListN.{length}
 use borrow.Author.Needs.{needs}
 use borrow.Author.Tests.{leb-false, ltb-false}
-use Rattle.rules.specs.Records.{Record, Netlist, said}
+use Rattle.rules.specs.Records.{Record, Netlist, last-kind, said}
 use Rattle.rules.specs.Checks as C
 use Rattle.rules.specs.Checks.{Outcome, answered, refused, andThen, judgedRecord, judgedAt, recordAt, reading, finished, taken, step}
 use Rattle.rules.proofs.Records.{passes, answer}
@@ -40,7 +40,7 @@ judged-room total s k b c short e =
     let p = passes _ _ _ e in
     let inside = leb-false total (s .here) (p 0) in
     record {
-      kind = ltb-false 7 k (p 1);
+      kind = ltb-false last-kind k (p 1);
       class = λ one. ltb-false 2 b (rw one at (p 5));
       room = p 3;
       here = omega arith;
