@@ -46,7 +46,7 @@ most-variables = 10
 abbrev pub most-nodes : ℕ
 most-nodes = 200
 
--- so many sets have so many variables
+-- how many sets so many variables have
 abbrev pub most-sets : ℕ
 most-sets = 2 ^ most-variables
 
