@@ -61,7 +61,7 @@ unfoldable pub textOf : Outcome Netlist → List ℕ
 textOf (refused k p) = line (word "refused" ∷ decimal k ∷ decimal p ∷ [])
 textOf (answered n) = netlistText n
 
--- a line has at most 18 bytes, and a listing at most three lines beside those of the nodes
+-- a netlist's text has at most 18 bytes a line, and three lines beside those of the nodes; a refusal's one line is shorter than all these
 abbrev pub most-line : ℕ
 most-line = 18
 
