@@ -116,7 +116,7 @@ fn reply_of(examined: Examined) -> Reply
 }
 
 // Writes the node records that were examined to the front of the slice.
-fn store(nodes: &mut [Node], examined: Examined)
+pub fn store(nodes: &mut [Node], examined: Examined)
     requires { ⌜ (examined .netlist .count ≤ length (now nodes)) × (examined .netlist .count ≤ most-nodes) ⌝ }
     ensures { λ _. ⌜ now (nodes .exit) ≡ stored (examined .netlist .nodes) (now (nodes .entry)) (examined .netlist .count) ⌝ }
 {

@@ -1,7 +1,7 @@
 -- What the parts of the work bytes hold: parts 2 × i and 2 × i + 1 hold just the sets of the two families of node i, and as many. By the bits of
 -- the bytes, which are those of every set below 1,024; a family has no other. Assumes nothing.
 use Prim.Native.Nat.{ℕ, _+_, _*_, _/_, _%_, _^_, _≤_, _<_}
-use mathlib.Core.Path.{_≡_, _∙_}
+use mathlib.Core.Path.{_≡_, sym, _∙_}
 use mathlib.Core.Logic.{⊎-elim}
 use mathlib.Core.List.{List, _++_}
 use native.Mathlib.Omega.{arith}
@@ -9,20 +9,35 @@ use lib.Dec.{T}
 use lib.ListN.{length, getD, List·getD-append}
 use Rattle.rules.specs.Lists.{member}
 use Rattle.rules.specs.Records.{Netlist, WellFormed, odd, most-sets}
-use Rattle.rules.specs.Families.{Family, Families, constant, families, familiesAt}
+use Rattle.rules.specs.Families.{Family, product, Families, constant, families, familiesAt}
 use Rattle.rules.specs.Slices.{workBytes}
 use Rattle.rules.proofs.Tests.{same-test, lt-or-le}
+use Rattle.rules.proofs.Lists.{product-holds}
 use Rattle.rules.proofs.Members.{All}
 use Rattle.rules.proofs.Once.{once, same-length, settled-once, glitch-once}
-use Rattle.rules.proofs.Bounds.{families-small}
+use Rattle.rules.proofs.Bounds.{product-cases, families-small}
 use Rattle.rules.proofs.Packing.{work-length, settled-bit, glitch-bit}
 use Rattle.rules.proofs.Exit.{families-length}
-use Rattle.families.specs.Parts.{holdsAt, familyAt}
-use Rattle.families.proofs.Parts.{member-at, below-at, once-at}
+use Rattle.families.specs.Parts.{HasPart, holdsAt, familyAt, withFamily}
+use Rattle.families.proofs.Parts.{member-at, below-at, once-at, with-here}
 
 -- families with the same sets
 pub record Alike (F G : Family) : Type 0 where
   pub same : (A : ℕ) → member A F ≡ member A G
+
+-- products see only which sets are in the families
+pub alike-product : {F G F′ G′ : Family} → Alike F F′ → Alike G G′ → Alike (product F G) (product F′ G′)
+alike-product {F} {G} {F′} {G′} p q = record {
+  same = λ C.
+      same-test (member C (product F G)) (member C (product F′ G′))
+      (through F G F′ G′ (p .same) (q .same) C) (through F′ G′ F G (λ A. sym (p .same A)) (λ A. sym (q .same A)) C);
+}
+  where
+    through : (F G F′ G′ : Family) → ((A : ℕ) → member A F ≡ member A F′) → ((A : ℕ) → member A G ≡ member A G′) → (C : ℕ)
+        → T (member C (product F G)) → T (member C (product F′ G′))
+    through F G F′ G′ p q C t =
+        let (A, B, a, b, e) = product-cases F G C t in
+        rw e (product-holds F′ G′ A B (rw (p A) at a) (rw (q B) at b))
 
 -- families of sets of ten variables
 abbrev Small : Family → Type 0
@@ -39,6 +54,13 @@ part-alike bytes part F bit small = record {
       (λ t. absurd (omega (arith, small A t))))
       (lt-or-le A most-sets);
 }
+
+-- so a part to which it was written
+pub written-alike : (bytes : List ℕ) (part : ℕ) (F : Family) → HasPart bytes part → All (λ A. A < most-sets) F
+    → Alike (familyAt (withFamily bytes part F) part) F
+written-alike bytes part F has small =
+    part-alike (withFamily bytes part F) part F
+    (λ A l. sym (member-at (withFamily bytes part F) part A l) ∙ with-here bytes part F has A l) small
 
 -- as many sets, where the family names each once
 part-size : (bytes : List ℕ) (part : ℕ) (F : Family) → T (once F) → Alike (familyAt bytes part) F → length (familyAt bytes part) ≡ length F

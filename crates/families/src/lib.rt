@@ -17,7 +17,7 @@ use rules::MOST_VARIABLES;
 // How many sets so many variables have, and how many bytes hold a bit for each.
 pub const SETS: usize = 1 << MOST_VARIABLES;
 
-const PART: usize = SETS / 8;
+pub const PART: usize = SETS / 8;
 
 // Whether a part holds a set.
 pub fn holds(work: &[u8], part: usize, set: usize) -> bool

@@ -14,14 +14,13 @@ use Rattle.rules.specs.Tables.{table}
 use Rattle.rules.specs.Records.{Cell, input, NOT, XOR, AND, OR, register, Netlist, WellFormed, operands}
 use Rattle.rules.specs.Families.{Family, product, spread, Families, constant, settledRule, glitchRule, familiesRule, families, familiesAt}
 use Rattle.rules.specs.Slices.{entry, familyBytes, nodeBytes, workBytes}
-use Rattle.rules.proofs.Tests.{same-test}
-use Rattle.rules.proofs.Lists.{member-head, member-tail, member-insert, member-union, product-holds}
-use Rattle.rules.proofs.Bounds.{product-cases, set-small, families-small}
+use Rattle.rules.proofs.Lists.{member-head, member-tail, member-insert, member-union}
+use Rattle.rules.proofs.Bounds.{set-small, families-small}
 use Rattle.rules.proofs.Tables.{table-length, first-length, first-next, table-take}
 use Rattle.rules.proofs.Packing.{tabulate-at, tabulate-same, family-length, work-length}
 use Rattle.families.specs.Parts.{HasPart, withFamily}
 use Rattle.families.proofs.Parts.{with-same, with-there}
-use Rattle.families.proofs.Work.{Alike, settled-alike, glitch-alike}
+use Rattle.families.proofs.Work.{Alike, alike-product, settled-alike, glitch-alike}
 use Rattle.nodes.specs.Work.{familiesIn, soFar, withFamilies, Placed}
 
 -- ---- families with the same sets
@@ -31,19 +30,6 @@ alike-insert {F} {G} h = record { same = λ A. rw (member-insert A 0 F, member-i
 
 alike-union : {F G F′ G′ : Family} → Alike F F′ → Alike G G′ → Alike (union F G) (union F′ G′)
 alike-union {F} {G} {F′} {G′} p q = record { same = λ A. rw (member-union A F G, member-union A F′ G′, p .same A, q .same A) }
-
-alike-product : {F G F′ G′ : Family} → Alike F F′ → Alike G G′ → Alike (product F G) (product F′ G′)
-alike-product {F} {G} {F′} {G′} p q = record {
-  same = λ C.
-      same-test (member C (product F G)) (member C (product F′ G′))
-      (through F G F′ G′ (p .same) (q .same) C) (through F′ G′ F G (λ A. sym (p .same A)) (λ A. sym (q .same A)) C);
-}
-  where
-    through : (F G F′ G′ : Family) → ((A : ℕ) → member A F ≡ member A F′) → ((A : ℕ) → member A G ≡ member A G′) → (C : ℕ)
-        → T (member C (product F G)) → T (member C (product F′ G′))
-    through F G F′ G′ p q C t =
-        let (A, B, a, b, e) = product-cases F G C t in
-        rw e (product-holds F′ G′ A B (rw (p A) at a) (rw (q B) at b))
 
 alike-spread : {F G F′ G′ : Family} → Alike F F′ → Alike G G′ → Alike (spread F G) (spread F′ G′)
 unfolding spread

@@ -40,6 +40,10 @@ product-cases (A ∷ F) G C t =
     (λ m. let (A′, B, a, b, e) = product-cases F G C m in (A′, B, member-tail A′ A F a, b, e))
     (union-cases C (map (bitXor A) G) (product F G) t)
 
+-- so sets of the first v variables make a product of such sets
+pub product-below : (v : ℕ) (F G : Family) → All (λ A. A < 2 ^ v) F → All (λ A. A < 2 ^ v) G → All (λ A. A < 2 ^ v) (product F G)
+product-below v F G p q C t = let (A, B, a, b, e) = product-cases F G C t in rw e (xor-lt v A B (p A a) (q B b))
+
 -- ---- the sets of the families
 
 -- where each input has a set of the first v variables, so has each node in both of its families
@@ -52,14 +56,11 @@ sets-below n v inputs =
       alone = λ i h. all-single Below (setOf (getD (n .nodes) i (input 0))) (inputs i h);
       added = λ F p. all-insert Below 0 F (pow-pos v) p;
       joined = all-union Below;
-      multiplied = multiplied;
+      multiplied = product-below v;
     }
   where
     Below : ℕ → Type 0
     Below A = A < 2 ^ v
-
-    multiplied : (F G : Family) → All Below F → All Below G → All Below (product F G)
-    multiplied F G p q C t = let (A, B, a, b, e) = product-cases F G C t in rw e (xor-lt v A B (p A a) (q B b))
 
 -- of a netlist that obeys the record rules
 module _ (n : Netlist) (formed : WellFormed n) where

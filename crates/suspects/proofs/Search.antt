@@ -60,7 +60,7 @@ pub record Searched (n : Netlist) (layer : ℕ) (bytes : List ℕ) (i A : ℕ) :
   pub before : (B : ℕ) → B < A → T (tested (getD (n .nodes) i (input 0))) → suspectIn n layer bytes i B ≡ false
 
 -- kind 2 is not tested, and every other is
-tested-kind : (cell : Cell) → eqb (kindOf cell) 2 ≡ not (tested cell)
+pub tested-kind : (cell : Cell) → eqb (kindOf cell) 2 ≡ not (tested cell)
 unfolding kindOf tested
 tested-kind (input s) = refl
 tested-kind (NOT a) = refl
@@ -73,18 +73,13 @@ module _ (n : Netlist) (layer : ℕ) (bytes : List ℕ) (i : ℕ) where
   cell : Cell
   cell = getD (n .nodes) i (input 0)
 
-  pub search-start : (A : ℕ) → (kindOf (getD (n .nodes) i (input 0)) ≡ 2 → A ≡ most-sets) → ((kindOf (getD (n .nodes) i (input 0)) ≡ 2 → ⊥) → A ≡ 0)
-      → Searched n layer bytes i A
+  pub search-start : (A : ℕ) → A ≡ cond (tested (getD (n .nodes) i (input 0))) 0 most-sets → Searched n layer bytes i A
   unfolding cell
-  search-start A last first = go (tested cell) refl
+  search-start A start = go (tested cell) refl start
     where
-      go : (b : Bool) → tested cell ≡ b → Searched n layer bytes i A
-      go true e =
-          let start : A ≡ 0 = first (eqb-false (kindOf cell) 2 (tested-kind cell ∙ ap not e)) in
-          record { isTested = λ l. pass e; before = λ B l t. absurd (omega arith) }
-      go false e =
-          let end : A ≡ most-sets = last (eqb-true (kindOf cell) 2 (tested-kind cell ∙ ap not e)) in
-          record { isTested = λ l. absurd (omega arith); before = λ B l t. absurd (rw e at t) }
+      go : (b : Bool) → tested cell ≡ b → A ≡ cond b 0 most-sets → Searched n layer bytes i A
+      go true e first = record { isTested = λ l. pass e; before = λ B l t. absurd (omega arith) }
+      go false e last = record { isTested = λ l. absurd (omega arith); before = λ B l t. absurd (rw e at t) }
 
   pub search-more : (A : ℕ) → Searched n layer bytes i A → suspectIn n layer bytes i A ≡ false → Searched n layer bytes i (A + 1)
   search-more A s here = record {

@@ -1,17 +1,17 @@
-// The scan of the work bytes for the lowest suspect node and its lowest-numbered suspect set.
+// The scan of the work bytes for the lowest suspect node and its lowest-numbered suspect set, and that of one part for its set.
 ghost use mathlib.Core.Path.{_≡_};
-ghost use mathlib.Core.Bool.{_&&_};
+ghost use mathlib.Core.Bool.{_&&_, cond};
 ghost use mathlib.Core.List.{List};
 ghost use Prim.Native.Nat.{_*_, _^_, _<_, _≤_};
 ghost use lib.ListN.{length};
 ghost use Rattle.rules.specs.Lists.{digit, member};
 ghost use Rattle.rules.specs.Records as Records;
-ghost use Rattle.rules.specs.Records.{Class, secret, mask, classByte, most-variables, most-sets};
-ghost use Rattle.rules.specs.Families.{suspect};
+ghost use Rattle.rules.specs.Records.{Class, secret, mask, Cell, kindOf, classByte, most-variables, most-sets};
+ghost use Rattle.rules.specs.Families.{suspect, tested, reported};
 ghost use Rattle.rules.specs.Paper.{findingOf};
 ghost use Rattle.netlists.specs.Netlists.{flatOf, Ready};
 ghost use Rattle.families.specs.Parts.{HasPart, familyAt};
-ghost use Rattle.suspects.specs.Suspects.{variablesOf, found};
+ghost use Rattle.suspects.specs.Suspects.{variablesOf, reportOf, found};
 use families::SETS;
 use netlists::Netlist;
 use rules::Half;
@@ -25,7 +25,7 @@ fn bit_if(yes: bool, v: usize) -> usize
 }
 
 // The variables of a class, as a set.
-fn variables_of(netlist: Netlist, class: u8) -> usize
+pub fn variables_of(netlist: Netlist, class: u8) -> usize
     requires { ⌜ netlist .variables ≤ most-variables ⌝ }
     ensures { λ r. ⌜ ((n : Records.Netlist) (c : Class) → netlist ≡ flatOf n → class ≡ classByte c →
         r ≡ variablesOf c (n .variables)) ⌝ }
@@ -56,11 +56,34 @@ fn suspect_in(work: &[u8], part: usize, secrets: usize, masks: usize, set: usize
     families::holds(work, part, set)
 }
 
-// The set from which a node of this kind is scanned: an input is not tested, so none is left of it.
-fn first_set(kind: u8) -> usize
-    ensures { λ r. ⌜ (kind ≡ 2 → r ≡ most-sets) × ((kind ≡ 2 → ⊥) → r ≡ 0) ⌝ }
+// The set that a part reports, its lowest-numbered suspect one, or `SETS` if it has none.
+pub fn first_suspect(work: &[u8], part: usize, secrets: usize, masks: usize) -> usize
+    requires { ⌜ HasPart (now work) part ⌝ }
+    ensures { λ r. ⌜ ((variables : List Class) → secrets ≡ variablesOf secret variables → masks ≡ variablesOf mask variables →
+        reportOf r ≡ reported variables (familyAt (now (work .entry)) part)) ⌝ }
 {
-    if kind == 2 { SETS } else { 0 }
+    let mut set = 0;
+    while set < SETS {
+        if suspect_in(work, part, secrets, masks, set) {
+            break;
+        }
+        set += 1;
+    }
+    set
+}
+
+// Whether nodes of this kind are tested: all but inputs are.
+pub fn is_tested(kind: u8) -> bool
+    ensures { λ r. ⌜ ((cell : Cell) → kind ≡ kindOf cell → r ≡ tested cell) ⌝ }
+{
+    kind != 2
+}
+
+// The set from which a node of this kind is scanned: of one that is not tested, none is left.
+fn first_set(kind: u8) -> usize
+    ensures { λ r. ⌜ ((cell : Cell) → kind ≡ kindOf cell → r ≡ cond (tested cell) 0 most-sets) ⌝ }
+{
+    if is_tested(kind) { 0 } else { SETS }
 }
 
 // The lowest suspect node of a layer (settled 0, glitch 1) and its lowest-numbered suspect set.

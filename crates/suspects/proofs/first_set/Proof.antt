@@ -1,13 +1,17 @@
--- `suspects::first_set` meets its contract: kind 2 is an input. Assumes nothing.
-use mathlib.Core.Path.{refl}
+-- `suspects::first_set` meets its contract: of what is tested the sets from 0 on are scanned, and else none is left. Assumes nothing.
+use mathlib.Core.Path.{sym, _∙_}
+use borrow.Author.Needs.{needs}
 use Rattle.suspects.proofs.first_set.Statement.{statement}
 use Rattle.suspects.proofs.first_set.Tie as tie
 
+is-tested-requires : tie.Need-is-tested-requires
+is-tested-requires c κs = search needs
+
 returns : tie.Need-returns
-returns c = (λ e. refl, λ other. absurd (other (c .if1 .taken)))
+returns c = λ cell e. rw (sym (c .before .is-tested .ensures cell e) ∙ c .if1 .taken)
 
 returns-2 : tie.Need-returns-2
-returns-2 c = (λ e. absurd (c .if1 .left e), λ other. refl)
+returns-2 c = λ cell e. rw (sym (c .before .is-tested .ensures cell e) ∙ c .if1 .left)
 
 pub first-set-spec : {M : Type 1} → statement M
-first-set-spec = tie.close (tie.spec returns returns-2)
+first-set-spec = tie.close (tie.spec is-tested-requires returns returns-2)

@@ -77,8 +77,7 @@ loop-holds c =
     let i = c .before .before .before .nodes .i in
     let inside : i < length (n .nodes) = rw e at (c .before .before .nodes-test .taken) in
     let kind : getD (args .t1 .nodes) i blank .kind ≡ kindOf (getD (n .nodes) i (input 0)) = rw (e, flat-entry-at n i inside) in
-    search-start n (args .layer) (now (args .work)) i (c .first-set .result) (rw kind at (c .first-set .ensures .0))
-    (rw kind at (c .first-set .ensures .1))
+    search-start n (args .layer) (now (args .work)) i (c .first-set .result) (c .first-set .ensures (getD (n .nodes) i (input 0)) kind)
 
 suspect-in-requires : tie.Need-suspect-in-requires Inv-loop μ-loop Inv-nodes μ-nodes
 suspect-in-requires c κs = omega (arith, start (c .before .before .before .before .before) .pre)

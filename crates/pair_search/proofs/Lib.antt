@@ -1,0 +1,3 @@
+-- What is proved of pairs: the search over lists of them, their order, what each finding says, and what it says under another limit.
+pub mod Growing
+pub mod Reports

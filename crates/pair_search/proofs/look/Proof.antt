@@ -1,0 +1,40 @@
+-- `pair_search::look` meets its contract: the search over one pair, by the limit and by what the pair reports. Assumes nothing.
+use mathlib.Core.Path.{_≡_, sym, _∙_}
+use mathlib.Core.Option.{some, none}
+use native.Mathlib.Numerals.{add-one}
+use borrow.Author.Needs.{needs}
+use borrow.Author.Tests.{lt-ltb, le-ltb}
+use Rattle.suspects.specs.Suspects.{reportOf}
+use Rattle.pair_search.specs.Pairs.{onward, searchFrom}
+use Rattle.pair_search.proofs.look.Statement.{statement}
+use Rattle.pair_search.proofs.look.Tie as tie
+
+returns : tie.Need-returns
+unfolding searchFrom
+returns c = λ variables s m. rw (le-ltb _ _ (c .if1 .taken))
+
+pair-set-requires : tie.Need-pair-set-requires
+pair-set-requires c κs = search needs
+
+add-t13 : tie.Need-add-t13
+add-t13 c = search needs
+
+add-t15 : tie.Need-add-t15
+add-t15 c = search needs
+
+returns-2 : tie.Need-returns-2
+unfolding searchFrom onward reportOf
+returns-2 c =
+    λ variables s m.
+    let reports : some (c .before .pair-set .result) ≡ _ = rw (lt-ltb _ _ (c .if2 .taken)) at (c .before .pair-set .ensures variables s m) in
+    rw (lt-ltb _ _ (c .before .before .if1 .left), ← reports, add-one)
+
+returns-3 : tie.Need-returns-3
+unfolding searchFrom onward reportOf
+returns-3 c =
+    λ variables s m.
+    let reports : none ≡ _ = rw (le-ltb _ _ (c .if2 .left)) at (c .before .pair-set .ensures variables s m) in
+    rw (lt-ltb _ _ (c .before .before .if1 .left), ← reports, add-one)
+
+pub look-spec : {M : Type 1} → statement M
+look-spec = tie.close (tie.spec returns pair-set-requires add-t13 add-t15 returns-2 returns-3)

@@ -1,0 +1,77 @@
+-- `pair_search::take_family` meets its contract. The loop's invariant: the part's first j bytes are those of the family, and all else is as it
+-- was (`Filled`). The measure is what is left of the 128 bytes. Assumes nothing.
+use Prim.Native.Nat.{_+_, _*_, _-_}
+use native.Mathlib.Omega.{arith}
+use denote.Ref.{now}
+use Rattle.families.specs.Parts.{familyAt}
+use Rattle.families.proofs.Filling.{Filled, fill-start, fill-more, fill-end, bit-at}
+use Rattle.pair_search.proofs.take_family.Statement.{statement}
+use Rattle.pair_search.proofs.take_family.Tie as tie
+
+abbrev Inv-loop : tie.InvT-loop
+Inv-loop scratch₀ into work from a b j₀ scratch j = Filled scratch₀ into (familyAt work from) j scratch
+
+abbrev μ-loop : tie.MeasureT-loop
+μ-loop scratch₀ into work from a b j₀ scratch j = 128 - j
+
+mul-a : tie.Need-mul-a Inv-loop μ-loop
+mul-a c = omega arith
+
+mul-b : tie.Need-mul-b Inv-loop μ-loop
+mul-b c = omega arith
+
+loop-holds : tie.Need-loop-holds Inv-loop μ-loop
+loop-holds c = fill-start
+
+add-scratch : tie.Need-add-scratch Inv-loop μ-loop
+add-scratch c = omega arith
+
+shared-slice-read-scratch : tie.Need-shared-slice-read-scratch Inv-loop μ-loop
+shared-slice-read-scratch c = omega arith
+
+add-scratch-2 : tie.Need-add-scratch-2 Inv-loop μ-loop
+add-scratch-2 c = omega arith
+
+slice-write-scratch : tie.Need-slice-write-scratch Inv-loop μ-loop
+slice-write-scratch c = omega arith
+
+add-j : tie.Need-add-j Inv-loop μ-loop
+add-j c = omega arith
+
+loop-less : tie.Need-loop-less Inv-loop μ-loop
+loop-less c = omega arith
+
+loop-again : tie.Need-loop-again Inv-loop μ-loop
+loop-again c =
+    let known = c .before .before in
+    let start = known .before in
+    fill-more (start .pre .0) (c .before .loop-test .taken) (known .loop .inv)
+    (record {
+      below = c .shared-slice-known .given (128 * start .args .from + known .loop .j) .fits;
+      bit = λ k l. bit-at (now (start .args .work)) (start .args .from) (known .loop .j) k (c .before .loop-test .taken) l;
+    })
+
+same-length : tie.Need-same-length Inv-loop μ-loop
+same-length c = c .before .loop .inv .size
+
+returns : tie.Need-returns Inv-loop μ-loop
+returns c = fill-end (c .before .before .pre .0) (c .loop-test .left) (c .before .loop .inv)
+
+pub take-family-spec : {M : Type 1} → statement M
+take-family-spec =
+    tie.close
+    (tie.spec
+    Inv-loop
+    μ-loop
+    mul-a
+    mul-b
+    loop-holds
+    add-scratch
+    shared-slice-read-scratch
+    add-scratch-2
+    slice-write-scratch
+    add-j
+    loop-less
+    loop-again
+    same-length
+    returns)

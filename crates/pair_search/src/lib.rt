@@ -1,0 +1,168 @@
+// The search over the pairs of tested nodes, under a limit. A pair is suspect if the product of its two glitch families holds
+// a suspect set; the pairs are looked at in their order, by the higher node and then by the lower, and counted.
+ghost use mathlib.Core.Path.{_≡_};
+ghost use mathlib.Core.Bool.{cond};
+ghost use mathlib.Core.List.{List, [], _∷_};
+ghost use Prim.Native.Nat.{_+_, _*_, _<_, _≤_};
+ghost use lib.ListN.{length};
+ghost use Rattle.rules.specs.Records as Records;
+ghost use Rattle.rules.specs.Records.{Class, secret, mask};
+ghost use Rattle.netlists.specs.Netlists.{flatOf, Ready};
+ghost use Rattle.families.specs.Parts.{HasPart, familyAt, withFamily};
+ghost use Rattle.suspects.specs.Suspects.{variablesOf, reportOf};
+ghost use Rattle.pair_search.specs.Pairs.{row, pairs, searchFrom};
+ghost use Rattle.pair_search.specs.Meaning.{searchedOf};
+ghost use Rattle.pair_search.specs.Work.{reportIn, over};
+use families::PART;
+use families::SETS;
+use netlists::Netlist;
+
+// What a search over pairs finds.
+pub enum Found {
+    // A node that is suspect by itself, and its set; no pair is looked at.
+    Single(usize, usize),
+    // Every pair is clear.
+    NoPair,
+    // The first suspect pair, the lower node before the higher, and its set.
+    Pair(usize, usize, usize),
+    // As many pairs as the limit allows are clear, and more remain.
+    Spent,
+}
+
+// What was found, and how many pairs were looked at: up to the pair that was found, its position.
+pub struct Search {
+    pub found: Found,
+    pub looked: usize,
+}
+
+// A part holds what a part of other bytes holds.
+fn take_family(scratch: &mut [u8], into: usize, work: &[u8], from: usize)
+    requires { ⌜ HasPart (now scratch) into × HasPart (now work) from ⌝ }
+    ensures { λ _. ⌜ now (scratch .exit) ≡ withFamily (now (scratch .entry)) into (familyAt (now (work .entry)) from) ⌝ }
+{
+    let a = PART * into;
+    let b = PART * from;
+    let mut j = 0;
+    while j < PART {
+        scratch[a + j] = work[b + j];
+        j += 1;
+    }
+}
+
+// The set that the pair of nodes `i` and `j` reports, or `SETS` if it is clear. The product is made in bytes of its own.
+fn pair_set(work: &[u8], i: usize, j: usize, secrets: usize, masks: usize) -> usize
+    requires { ⌜ HasPart (now work) (2 * i + 1) × HasPart (now work) (2 * j + 1) ⌝ }
+    ensures { λ r. ⌜ ((variables : List Class) → secrets ≡ variablesOf secret variables → masks ≡ variablesOf mask variables →
+        reportOf r ≡ reportIn variables (now (work .entry)) (record { i = i; j = j })) ⌝ }
+{
+    let mut scratch = [0u8; 3 * PART];
+    take_family(&mut scratch, 0, work, 2 * i + 1);
+    take_family(&mut scratch, 1, work, 2 * j + 1);
+    families::multiply(&mut scratch, 2, 0, 1);
+    suspects::first_suspect(&scratch, 2, secrets, masks)
+}
+
+// Looks at the pair of nodes `i` and `j`, unless the limit is spent.
+fn look(work: &[u8], i: usize, j: usize, secrets: usize, masks: usize, limit: usize, looked: usize) -> Search
+    requires { ⌜ HasPart (now work) (2 * i + 1) × HasPart (now work) (2 * j + 1) ⌝ }
+    ensures { λ r. ⌜ ((variables : List Class) → secrets ≡ variablesOf secret variables → masks ≡ variablesOf mask variables →
+        searchedOf r ≡ searchFrom (reportIn variables (now (work .entry))) limit looked (record { i = i; j = j } ∷ [])) ⌝ }
+{
+    if looked >= limit {
+        return Search {
+            found: Found::Spent,
+            looked,
+        };
+    }
+    let set = pair_set(work, i, j, secrets, masks);
+    if set < SETS {
+        Search {
+            found: Found::Pair(i, j, set),
+            looked: looked + 1,
+        }
+    } else {
+        Search {
+            found: Found::NoPair,
+            looked: looked + 1,
+        }
+    }
+}
+
+// Looks at the pair of nodes `i` and `j` if it is one to look at, which is to say that both are tested.
+fn look_if(yes: bool, work: &[u8], i: usize, j: usize, secrets: usize, masks: usize, limit: usize, looked: usize) -> Search
+    requires { ⌜ HasPart (now work) (2 * i + 1) × HasPart (now work) (2 * j + 1) ⌝ }
+    ensures { λ r. ⌜ ((variables : List Class) → secrets ≡ variablesOf secret variables → masks ≡ variablesOf mask variables →
+        searchedOf r ≡ searchFrom (reportIn variables (now (work .entry))) limit looked (cond yes (record { i = i; j = j } ∷ []) [])) ⌝ }
+{
+    if yes {
+        look(work, i, j, secrets, masks, limit, looked)
+    } else {
+        Search {
+            found: Found::NoPair,
+            looked,
+        }
+    }
+}
+
+// Whether a search ends with what it found.
+fn is_over(search: Search) -> bool
+    ensures { λ r. ⌜ r ≡ over (searchedOf search .found) ⌝ }
+{
+    let found = search.found;
+    match found {
+        Found::NoPair => false,
+        Found::Single(_, _) => true,
+        Found::Pair(_, _, _) => true,
+        Found::Spent => true,
+    }
+}
+
+// The search goes on with the pairs of node `j`, which is tested, after so many that were clear.
+fn search_row(netlist: Netlist, work: &[u8], j: usize, secrets: usize, masks: usize, limit: usize, looked: usize) -> Search
+    requires { ⌜ Ready netlist (length (now work)) × (j < netlist .count) ⌝ }
+    ensures { λ r. ⌜ ((n : Records.Netlist) → netlist ≡ flatOf n → secrets ≡ variablesOf secret (n .variables) →
+        masks ≡ variablesOf mask (n .variables) →
+        searchedOf r ≡ searchFrom (reportIn (n .variables) (now (work .entry))) limit looked (row n j j)) ⌝ }
+{
+    let higher = netlist.nodes[j];
+    let tested = suspects::is_tested(higher.kind);
+    let mut so_far = Search {
+        found: Found::NoPair,
+        looked,
+    };
+    let mut i = 0;
+    while i < j {
+        let lower = netlist.nodes[i];
+        let both = tested & suspects::is_tested(lower.kind);
+        so_far = look_if(both, work, i, j, secrets, masks, limit, so_far.looked);
+        if is_over(so_far) {
+            break;
+        }
+        i += 1;
+    }
+    so_far
+}
+
+// The search over all pairs of a netlist whose families are in the work bytes.
+pub fn search_pairs(netlist: Netlist, work: &[u8], limit: usize) -> Search
+    requires { ⌜ Ready netlist (length (now work)) ⌝ }
+    ensures { λ r. ⌜ ((n : Records.Netlist) → netlist ≡ flatOf n →
+        searchedOf r ≡ searchFrom (reportIn (n .variables) (now (work .entry))) limit 0 (pairs n)) ⌝ }
+{
+    let secrets = suspects::variables_of(netlist, 0);
+    let masks = suspects::variables_of(netlist, 1);
+    let count = netlist.count;
+    let mut so_far = Search {
+        found: Found::NoPair,
+        looked: 0,
+    };
+    let mut j = 0;
+    while j < count {
+        so_far = search_row(netlist, work, j, secrets, masks, limit, so_far.looked);
+        if is_over(so_far) {
+            break;
+        }
+        j += 1;
+    }
+    so_far
+}

@@ -1,0 +1,2 @@
+-- What the reply of this crate means.
+pub mod Meaning
