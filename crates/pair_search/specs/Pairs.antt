@@ -43,12 +43,12 @@ pairsBelow n (suc j) = pairsBelow n j ++ row n j j
 unfoldable pub pairs : Netlist → List Pair
 pairs n = pairsBelow n (length (n .nodes))
 
--- p is the k-th of the pairs, counted from 1
-pub record Position (ps : List Pair) (p : Pair) (k : ℕ) : Type 0 where
-  pub before : List Pair
-  pub after : List Pair
-  pub parts : ps ≡ before ++ (p ∷ after)
-  pub counted : k ≡ suc (length before)
+-- the pair at a position, counted from 1
+unfoldable pub atPosition : List Pair → (position : ℕ) → Option Pair
+atPosition [] k = none
+atPosition (p ∷ ps) zero = none
+atPosition (p ∷ ps) (suc zero) = some p
+atPosition (p ∷ ps) (suc (suc k)) = atPosition ps (suc k)
 
 -- ---- suspect pairs
 
