@@ -4,26 +4,34 @@ use Prim.Native.Nat.{ℕ, zero, suc, _+_, _≤_, _<_}
 use mathlib.Core.Path.{_≡_, refl, sym, ap, subst, _∙_}
 use mathlib.Core.Logic.{_↔_, _⊎_, inl, inr, ⊎-elim}
 use mathlib.Core.Bool.{Bool, true, false, cond}
-use mathlib.Core.List.{List, [], _∷_}
+use mathlib.Core.List.{List, [], _∷_, _++_}
 use mathlib.Core.Option.{Option, none, some}
 use native.Mathlib.Omega.{arith}
-use borrow.Author.Tests.{lt-ltb, le-ltb, ltb-true, ltb-false}
-use lib.Dec.{ltb}
+use borrow.Author.Tests.{lt-ltb, le-ltb}
 use lib.ListN.{length}
-use Rattle.rules.specs.Records.{Netlist}
-use Rattle.rules.specs.Families.{Finding, clear, suspectAt, half}
+use Rattle.rules.specs.Records.{Netlist, WellFormed}
+use Rattle.rules.specs.Families.{families, Finding, clear, suspectAt, half}
+use Rattle.rules.specs.Slices.{workBytes}
 use Rattle.rules.proofs.Tests.{lt-or-le}
 use Rattle.rules.proofs.Each.{Each}
-use Rattle.pair_search.proofs.Order.{none-first}
 use Rattle.pair_search.specs.Pairs.{Pair, pairs, atPosition, pairReport, PairFinding, single, noPair, pairAt, spent, Searched, onward, searchFrom, unlessSingle, searched}
+use Rattle.pair_search.specs.Work.{reportIn}
+use Rattle.pair_search.proofs.Reports.{report-there}
+use Rattle.pair_search.proofs.Order.{each-more, none-first, pairs-there}
 
 -- ---- reports that are the same
 
-pub search-same : (report other : Pair → Option ℕ) (limit looked : ℕ) (ps : List Pair) → Each (λ p. report p ≡ other p) ps
+search-same : (report other : Pair → Option ℕ) (limit looked : ℕ) (ps : List Pair) → Each (λ p. report p ≡ other p) ps
     → searchFrom report limit looked ps ≡ searchFrom other limit looked ps
 unfolding searchFrom
 search-same report other limit looked [] h = refl
 search-same report other limit looked (p ∷ ps) h = rw (h .0, search-same report other limit (suc looked) ps (h .1))
+
+-- over the bytes of a netlist's families they are the rules' reports
+pub search-there : (n : Netlist) → WellFormed n → (rest : List ℕ) (limit : ℕ)
+    → searchFrom (reportIn (n .variables) (workBytes (families n) ++ rest)) limit 0 (pairs n) ≡ searchFrom (pairReport n) limit 0 (pairs n)
+search-there n formed rest limit =
+    search-same _ _ limit 0 (pairs n) (each-more _ _ (pairs n) (λ p h. report-there n formed rest p (h .0) (h .1)) (pairs-there n))
 
 -- ---- a larger limit
 

@@ -23,7 +23,7 @@ module _ {A : Type 0} where
   each-map f P [] h = tt
   each-map f P (x ∷ xs) h = (h .0, each-map f P xs (h .1))
 
-  each-more : (P Q : A → Type 0) (xs : List A) → ((x : A) → P x → Q x) → Each P xs → Each Q xs
+  pub each-more : (P Q : A → Type 0) (xs : List A) → ((x : A) → P x → Q x) → Each P xs → Each Q xs
   each-more P Q [] f h = tt
   each-more P Q (x ∷ xs) f h = (f x (h .0), each-more P Q xs f (h .1))
 
@@ -201,6 +201,11 @@ has-position p (q ∷ ps) (inr h) = let (k, e) = has-position p ps h in further 
 -- ---- what the order lists
 
 module _ (n : Netlist) where
+  -- nodes that are there
+  pub pairs-there : Each (λ p. (p .i < length (n .nodes)) × (p .j < length (n .nodes))) (pairs n)
+  unfolding pairs
+  pairs-there = each-more _ _ (pairs n) (λ p h. (omega (arith, h .0, h .1), h .1)) (two-tested n (length (n .nodes)))
+
   -- at each position two tested nodes, i below j
   pub lists-tested : (k : ℕ) (p : Pair) → atPosition (pairs n) k ≡ some p → TestedNode n (p .i) × TestedNode n (p .j) × (p .i < p .j)
   unfolding pairs isTested

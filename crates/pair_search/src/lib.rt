@@ -63,7 +63,15 @@ fn pair_set(work: &[u8], i: usize, j: usize, secrets: usize, masks: usize) -> us
 }
 
 // Looks at the pair of nodes `i` and `j`, unless the limit is spent.
-fn look(work: &[u8], i: usize, j: usize, secrets: usize, masks: usize, limit: usize, looked: usize) -> Search
+fn look(
+    work: &[u8],
+    i: usize,
+    j: usize,
+    secrets: usize,
+    masks: usize,
+    limit: usize,
+    looked: usize,
+) -> Search
     requires { ⌜ HasPart (now work) (2 * i + 1) × HasPart (now work) (2 * j + 1) ⌝ }
     ensures { λ r. ⌜ ((variables : List Class) → secrets ≡ variablesOf secret variables → masks ≡ variablesOf mask variables →
         searchedOf r ≡ searchFrom (reportIn variables (now (work .entry))) limit looked (record { i = i; j = j } ∷ [])) ⌝ }
@@ -89,7 +97,16 @@ fn look(work: &[u8], i: usize, j: usize, secrets: usize, masks: usize, limit: us
 }
 
 // Looks at the pair of nodes `i` and `j` if it is one to look at, which is to say that both are tested.
-fn look_if(yes: bool, work: &[u8], i: usize, j: usize, secrets: usize, masks: usize, limit: usize, looked: usize) -> Search
+fn look_if(
+    yes: bool,
+    work: &[u8],
+    i: usize,
+    j: usize,
+    secrets: usize,
+    masks: usize,
+    limit: usize,
+    looked: usize,
+) -> Search
     requires { ⌜ HasPart (now work) (2 * i + 1) × HasPart (now work) (2 * j + 1) ⌝ }
     ensures { λ r. ⌜ ((variables : List Class) → secrets ≡ variablesOf secret variables → masks ≡ variablesOf mask variables →
         searchedOf r ≡ searchFrom (reportIn variables (now (work .entry))) limit looked (cond yes (record { i = i; j = j } ∷ []) [])) ⌝ }
@@ -118,7 +135,15 @@ fn is_over(search: Search) -> bool
 }
 
 // The search goes on with the pairs of node `j`, which is tested, after so many that were clear.
-fn search_row(netlist: Netlist, work: &[u8], j: usize, secrets: usize, masks: usize, limit: usize, looked: usize) -> Search
+fn search_row(
+    netlist: Netlist,
+    work: &[u8],
+    j: usize,
+    secrets: usize,
+    masks: usize,
+    limit: usize,
+    looked: usize,
+) -> Search
     requires { ⌜ Ready netlist (length (now work)) × (j < netlist .count) ⌝ }
     ensures { λ r. ⌜ ((n : Records.Netlist) → netlist ≡ flatOf n → secrets ≡ variablesOf secret (n .variables) →
         masks ≡ variablesOf mask (n .variables) →

@@ -81,10 +81,7 @@ pub fn examine_pairs(bytes: &[u8], entries: usize, work: &mut [u8], limit: usize
         Reply::Answered(answer) => {
             let glitch = answer.glitch;
             let search = search_unless(glitch, netlist, work, limit);
-            let answer = PairsAnswer {
-                answer,
-                search,
-            };
+            let answer = PairsAnswer { answer, search };
             ExaminedPairs {
                 reply: PairsReply::Answered(answer),
                 examined,
