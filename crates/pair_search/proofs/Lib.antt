@@ -3,3 +3,4 @@ pub mod Growing
 pub mod Reports
 pub mod Order
 pub mod Findings
+pub mod Blocks

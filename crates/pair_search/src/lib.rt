@@ -10,7 +10,7 @@ ghost use Rattle.rules.specs.Records.{Class, secret, mask};
 ghost use Rattle.netlists.specs.Netlists.{flatOf, Ready};
 ghost use Rattle.families.specs.Parts.{HasPart, familyAt, withFamily};
 ghost use Rattle.suspects.specs.Suspects.{variablesOf, reportOf};
-ghost use Rattle.pair_search.specs.Pairs.{row, pairs, searchFrom};
+ghost use Rattle.pair_search.specs.Pairs.{row, pairs, noPair, searchFrom};
 ghost use Rattle.pair_search.specs.Meaning.{searchedOf};
 ghost use Rattle.pair_search.specs.Work.{reportIn, over};
 use families::PART;
@@ -62,6 +62,16 @@ fn pair_set(work: &[u8], i: usize, j: usize, secrets: usize, masks: usize) -> us
     suspects::first_suspect(&scratch, 2, secrets, masks)
 }
 
+// After so many pairs, all of them clear.
+fn no_pair(looked: usize) -> Search
+    ensures { λ r. ⌜ searchedOf r ≡ record { found = noPair; looked = looked } ⌝ }
+{
+    Search {
+        found: Found::NoPair,
+        looked,
+    }
+}
+
 // Looks at the pair of nodes `i` and `j`, unless the limit is spent.
 fn look(
     work: &[u8],
@@ -82,17 +92,14 @@ fn look(
             looked,
         };
     }
+    let position = looked + 1;
     let set = pair_set(work, i, j, secrets, masks);
-    if set < SETS {
-        Search {
-            found: Found::Pair(i, j, set),
-            looked: looked + 1,
-        }
-    } else {
-        Search {
-            found: Found::NoPair,
-            looked: looked + 1,
-        }
+    if set >= SETS {
+        return no_pair(position);
+    }
+    Search {
+        found: Found::Pair(i, j, set),
+        looked: position,
     }
 }
 
@@ -114,10 +121,7 @@ fn look_if(
     if yes {
         look(work, i, j, secrets, masks, limit, looked)
     } else {
-        Search {
-            found: Found::NoPair,
-            looked,
-        }
+        no_pair(looked)
     }
 }
 
@@ -151,10 +155,7 @@ fn search_row(
 {
     let higher = netlist.nodes[j];
     let tested = suspects::is_tested(higher.kind);
-    let mut so_far = Search {
-        found: Found::NoPair,
-        looked,
-    };
+    let mut so_far = no_pair(looked);
     let mut i = 0;
     while i < j {
         let lower = netlist.nodes[i];
@@ -177,10 +178,7 @@ pub fn search_pairs(netlist: Netlist, work: &[u8], limit: usize) -> Search
     let secrets = suspects::variables_of(netlist, 0);
     let masks = suspects::variables_of(netlist, 1);
     let count = netlist.count;
-    let mut so_far = Search {
-        found: Found::NoPair,
-        looked: 0,
-    };
+    let mut so_far = no_pair(0);
     let mut j = 0;
     while j < count {
         so_far = search_row(netlist, work, j, secrets, masks, limit, so_far.looked);

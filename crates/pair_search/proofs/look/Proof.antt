@@ -13,28 +13,28 @@ returns : tie.Need-returns
 unfolding searchFrom
 returns c = λ variables s m. rw (le-ltb _ _ (c .if1 .taken))
 
+add-position : tie.Need-add-position
+add-position c = search needs
+
 pair-set-requires : tie.Need-pair-set-requires
 pair-set-requires c κs = search needs
 
-add-t13 : tie.Need-add-t13
-add-t13 c = search needs
-
-add-t15 : tie.Need-add-t15
-add-t15 c = search needs
+no-pair-requires : tie.Need-no-pair-requires
+no-pair-requires c κs = search needs
 
 returns-2 : tie.Need-returns-2
 unfolding searchFrom onward reportOf
 returns-2 c =
     λ variables s m.
-    let reports : some (c .before .pair-set .result) ≡ _ = rw (lt-ltb _ _ (c .if2 .taken)) at (c .before .pair-set .ensures variables s m) in
-    rw (lt-ltb _ _ (c .before .before .if1 .left), ← reports, add-one)
+    let reports : none ≡ _ = rw (le-ltb _ _ (c .before .if2 .taken)) at (c .before .before .pair-set .ensures variables s m) in
+    rw (lt-ltb _ _ (c .before .before .before .if1 .left), ← reports, ← add-one) (c .no-pair .ensures)
 
 returns-3 : tie.Need-returns-3
 unfolding searchFrom onward reportOf
 returns-3 c =
     λ variables s m.
-    let reports : none ≡ _ = rw (le-ltb _ _ (c .if2 .left)) at (c .before .pair-set .ensures variables s m) in
+    let reports : some (c .before .pair-set .result) ≡ _ = rw (lt-ltb _ _ (c .if2 .left)) at (c .before .pair-set .ensures variables s m) in
     rw (lt-ltb _ _ (c .before .before .if1 .left), ← reports, add-one)
 
 pub look-spec : {M : Type 1} → statement M
-look-spec = tie.close (tie.spec returns pair-set-requires add-t13 add-t15 returns-2 returns-3)
+look-spec = tie.close (tie.spec returns add-position pair-set-requires no-pair-requires returns-2 returns-3)

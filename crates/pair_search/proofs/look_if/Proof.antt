@@ -10,9 +10,12 @@ look-requires c κs = search needs
 returns : tie.Need-returns
 returns c = λ variables s m. rw (c .before .if1 .taken) (c .look .ensures variables s m)
 
+no-pair-requires : tie.Need-no-pair-requires
+no-pair-requires c κs = search needs
+
 returns-2 : tie.Need-returns-2
 unfolding searchFrom
-returns-2 c = λ variables s m. rw (c .if1 .left)
+returns-2 c = λ variables s m. rw (c .before .if1 .left) (c .no-pair .ensures)
 
 pub look-if-spec : {M : Type 1} → statement M
-look-if-spec = tie.close (tie.spec look-requires returns returns-2)
+look-if-spec = tie.close (tie.spec look-requires no-pair-requires returns returns-2)

@@ -1,7 +1,7 @@
 -- `pair_search::search_pairs` meets its contract. The loop's invariant: the search over the pairs of the nodes passed has found no pair yet. The
 -- measure is what is left to pass. Assumes nothing.
 use Prim.Native.Nat.{_+_, _-_, _≤_}
-use mathlib.Core.Path.{_≡_, refl, sym, _∙_}
+use mathlib.Core.Path.{_≡_, refl, sym, ap, _∙_}
 use mathlib.Core.Bool.{false}
 use denote.Ref.{now}
 use native.Mathlib.Omega.{arith}
@@ -11,7 +11,7 @@ use Rattle.rules.specs.Records as Records
 use Rattle.rules.specs.Records.{secret, mask, classByte}
 use Rattle.netlists.specs.Netlists.{flatOf}
 use Rattle.netlists.proofs.Netlists.{value-count, few-variables, few-nodes}
-use Rattle.pair_search.specs.Pairs.{row, pairsBelow, pairs, searchFrom}
+use Rattle.pair_search.specs.Pairs.{row, pairsBelow, pairs, Searched, searchFrom}
 use Rattle.pair_search.specs.Meaning.{searchedOf}
 use Rattle.pair_search.specs.Work.{reportIn, over}
 use Rattle.pair_search.proofs.Growing.{goes-on, stays-over, pairs-none, pairs-more}
@@ -29,7 +29,7 @@ abbrev μ-loop : tie.MeasureT-loop
 
 -- where the function began, and where a turn of its loop did
 abbrev start : tie.At-loop Inv-loop μ-loop → tie.Start Inv-loop μ-loop
-start c = c .before .before .before .before
+start c = c .before .before .before .before .before
 
 abbrev turn : tie.After-is-over Inv-loop μ-loop → tie.At-loop Inv-loop μ-loop
 turn c = c .before .before .before
@@ -40,9 +40,12 @@ variables-of-requires c κs = few-variables (c .before .pre .formed)
 variables-of-requires-2 : tie.Need-variables-of-requires-2 Inv-loop μ-loop
 variables-of-requires-2 c κs = few-variables (c .before .before .pre .formed)
 
+no-pair-requires : tie.Need-no-pair-requires Inv-loop μ-loop
+no-pair-requires c κs = search needs
+
 loop-holds : tie.Need-loop-holds Inv-loop μ-loop
 unfolding searchFrom
-loop-holds c = (search needs, refl, λ n e. rw (pairs-none n))
+loop-holds c = (search needs, ap (λ (s : Searched). over (s .found)) (c .no-pair .ensures), λ n e. rw (pairs-none n) (c .no-pair .ensures))
 
 search-row-requires : tie.Need-search-row-requires Inv-loop μ-loop
 search-row-requires c κs = search needs
@@ -65,7 +68,8 @@ looked-on c n e =
     let j = turn c .loop .j in
     let inv = turn c .loop .inv in
     rw (pairs-more n j, goes-on _ _ 0 (pairsBelow n j) (row n j j) _ (inv .2 n e) (inv .1))
-    (c .before .search-row .ensures n e (turn c .before .before .variables-of .ensures n secret e refl) (turn c .before .variables-of2 .ensures n mask e refl))
+    (c .before .search-row .ensures n e (turn c .before .before .before .variables-of .ensures n secret e refl)
+    (turn c .before .before .variables-of2 .ensures n mask e refl))
 
 loop-again : tie.Need-loop-again Inv-loop μ-loop
 loop-again c = (search needs, sym (c .before .is-over .ensures) ∙ c .if1 .left, looked-on (c .before))
@@ -95,6 +99,7 @@ search-pairs-spec =
     μ-loop
     variables-of-requires
     variables-of-requires-2
+    no-pair-requires
     loop-holds
     search-row-requires
     is-over-requires

@@ -1,7 +1,7 @@
 -- `pair_search::search_row` meets its contract. The loop's invariant: the search over the pairs of node j with the nodes passed has found no
 -- pair yet. The measure is what is left to pass. Assumes nothing.
 use Prim.Native.Nat.{ℕ, _+_, _-_, _<_, _≤_}
-use mathlib.Core.Path.{_≡_, refl, sym, ap, _∙_}
+use mathlib.Core.Path.{_≡_, sym, ap, _∙_}
 use mathlib.Core.Bool.{Bool, false}
 use denote.Ref.{now}
 use native.Mathlib.Omega.{arith}
@@ -16,7 +16,7 @@ use Rattle.netlists.specs.declared.Netlist.{Netlist}
 use Rattle.netlists.specs.Netlists.{blank, flatOf}
 use Rattle.netlists.proofs.Netlists.{value-entry, few-nodes}
 use Rattle.suspects.specs.Suspects.{variablesOf}
-use Rattle.pair_search.specs.Pairs.{isTested, row, searchFrom}
+use Rattle.pair_search.specs.Pairs.{isTested, row, Searched, searchFrom}
 use Rattle.pair_search.specs.Meaning.{searchedOf}
 use Rattle.pair_search.specs.Work.{reportIn, over}
 use Rattle.pair_search.proofs.Growing.{goes-on, stays-over, onePair, row-none, row-more}
@@ -34,7 +34,7 @@ abbrev μ-loop : tie.MeasureT-loop
 
 -- where the function began, and where a turn of its loop did
 abbrev start : tie.At-loop Inv-loop μ-loop → tie.Start Inv-loop μ-loop
-start c = c .before .before .before .before
+start c = c .before .before .before .before .before
 
 abbrev turn : tie.After-is-over Inv-loop μ-loop → tie.At-loop Inv-loop μ-loop
 turn c = c .before .before .before .before .before
@@ -48,9 +48,12 @@ element-copy-out-higher c = omega (arith, few-nodes (c .before .pre .0 .formed))
 is-tested-requires : tie.Need-is-tested-requires Inv-loop μ-loop
 is-tested-requires c κs = search needs
 
+no-pair-requires : tie.Need-no-pair-requires Inv-loop μ-loop
+no-pair-requires c κs = search needs
+
 loop-holds : tie.Need-loop-holds Inv-loop μ-loop
 unfolding searchFrom
-loop-holds c = (search needs, refl, λ n e s m. rw (row-none n _))
+loop-holds c = (search needs, ap (λ (s : Searched). over (s .found)) (c .no-pair .ensures), λ n e s m. rw (row-none n _) (c .no-pair .ensures))
 
 mul-lower : tie.Need-mul-lower Inv-loop μ-loop
 mul-lower c = omega (arith, few-nodes (start (c .before) .pre .0 .formed))
@@ -93,7 +96,7 @@ looked-on c n e s m =
     let inv = turn c .loop .inv in
     rw (row-more n j i, goes-on _ _ _ (row n j i) (onePair n j i) _ (inv .2 n e s m) (inv .1))
     (rw (
-      ← tested-there (start (turn c) .args .t1) n e j (start (turn c) .pre .1) (c .before .before .before .before .before .before .is-tested .ensures),
+      ← tested-there (start (turn c) .args .t1) n e j (start (turn c) .pre .1) (turn c .before .before .is-tested .ensures),
       ← tested-there (start (turn c) .args .t1) n e i (omega (arith, start (turn c) .pre .1)) (c .before .before .is-tested2 .ensures),
     ) (c .before .look-if .ensures (n .variables) s m))
 
@@ -124,6 +127,7 @@ search-row-spec =
     mul-higher
     element-copy-out-higher
     is-tested-requires
+    no-pair-requires
     loop-holds
     mul-lower
     element-copy-out-lower
