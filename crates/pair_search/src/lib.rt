@@ -17,6 +17,9 @@ use families::PART;
 use families::SETS;
 use netlists::Netlist;
 
+// The layer of the glitch families: that of node i is part 2 × i + 1.
+const GLITCH: usize = 1;
+
 // What a search over pairs finds.
 pub enum Found {
     // A node that is suspect by itself, and its set; no pair is looked at.
@@ -56,8 +59,8 @@ fn pair_set(work: &[u8], i: usize, j: usize, secrets: usize, masks: usize) -> us
         reportOf r ≡ reportIn variables (now (work .entry)) (record { i = i; j = j })) ⌝ }
 {
     let mut scratch = [0u8; 3 * PART];
-    take_family(&mut scratch, 0, work, 2 * i + 1);
-    take_family(&mut scratch, 1, work, 2 * j + 1);
+    take_family(&mut scratch, 0, work, 2 * i + GLITCH);
+    take_family(&mut scratch, 1, work, 2 * j + GLITCH);
     families::multiply(&mut scratch, 2, 0, 1);
     suspects::first_suspect(&scratch, 2, secrets, masks)
 }

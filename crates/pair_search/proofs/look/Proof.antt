@@ -1,11 +1,12 @@
 -- `pair_search::look` meets its contract: the search over one pair, by the limit and by what the pair reports. Assumes nothing.
-use mathlib.Core.Path.{_≡_, sym, _∙_}
+use Prim.Native.Nat.{ℕ}
+use mathlib.Core.Path.{_≡_, ap}
 use mathlib.Core.Option.{some, none}
 use native.Mathlib.Numerals.{add-one}
 use borrow.Author.Needs.{needs}
 use borrow.Author.Tests.{lt-ltb, le-ltb}
 use Rattle.suspects.specs.Suspects.{reportOf}
-use Rattle.pair_search.specs.Pairs.{onward, searchFrom}
+use Rattle.pair_search.specs.Pairs.{pairAt, onward, searchFrom}
 use Rattle.pair_search.proofs.look.Statement.{statement}
 use Rattle.pair_search.proofs.look.Tie as tie
 
@@ -34,7 +35,9 @@ unfolding searchFrom onward reportOf
 returns-3 c =
     λ variables s m.
     let reports : some (c .before .pair-set .result) ≡ _ = rw (lt-ltb _ _ (c .if2 .left)) at (c .before .pair-set .ensures variables s m) in
-    rw (lt-ltb _ _ (c .before .before .if1 .left), ← reports, add-one)
+    let args = c .before .before .before .before .args in
+    let found = pairAt (args .i) (args .j) (c .before .pair-set .result) in
+    rw (lt-ltb _ _ (c .before .before .if1 .left), ← reports) (ap (λ (k : ℕ). record { found = found; looked = k }) (add-one (args .looked)))
 
 pub look-spec : {M : Type 1} → statement M
 look-spec = tie.close (tie.spec returns add-position pair-set-requires no-pair-requires returns-2 returns-3)

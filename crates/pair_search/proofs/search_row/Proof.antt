@@ -53,7 +53,7 @@ no-pair-requires c κs = search needs
 
 loop-holds : tie.Need-loop-holds Inv-loop μ-loop
 unfolding searchFrom
-loop-holds c = (search needs, ap (λ (s : Searched). over (s .found)) (c .no-pair .ensures), λ n e s m. rw (row-none n _) (c .no-pair .ensures))
+loop-holds c = (omega arith, ap (λ (s : Searched). over (s .found)) (c .no-pair .ensures), λ n e s m. rw (row-none n _) (c .no-pair .ensures))
 
 mul-lower : tie.Need-mul-lower Inv-loop μ-loop
 mul-lower c = omega (arith, few-nodes (start (c .before) .pre .0 .formed))

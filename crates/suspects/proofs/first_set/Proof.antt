@@ -1,6 +1,8 @@
 -- `suspects::first_set` meets its contract: of what is tested the sets from 0 on are scanned, and else none is left. Assumes nothing.
-use mathlib.Core.Path.{sym, _∙_}
+use mathlib.Core.Path.{sym, ap, _∙_}
+use mathlib.Core.Bool.{Bool, cond}
 use borrow.Author.Needs.{needs}
+use Rattle.rules.specs.Records.{most-sets}
 use Rattle.suspects.proofs.first_set.Statement.{statement}
 use Rattle.suspects.proofs.first_set.Tie as tie
 
@@ -8,10 +10,10 @@ is-tested-requires : tie.Need-is-tested-requires
 is-tested-requires c κs = search needs
 
 returns : tie.Need-returns
-returns c = λ cell e. rw (sym (c .before .is-tested .ensures cell e) ∙ c .if1 .taken)
+returns c = λ cell e. ap (λ (b : Bool). cond b 0 most-sets) (sym (c .if1 .taken) ∙ c .before .is-tested .ensures cell e)
 
 returns-2 : tie.Need-returns-2
-returns-2 c = λ cell e. rw (sym (c .before .is-tested .ensures cell e) ∙ c .if1 .left)
+returns-2 c = λ cell e. ap (λ (b : Bool). cond b 0 most-sets) (sym (c .if1 .left) ∙ c .before .is-tested .ensures cell e)
 
 pub first-set-spec : {M : Type 1} → statement M
 first-set-spec = tie.close (tie.spec is-tested-requires returns returns-2)
