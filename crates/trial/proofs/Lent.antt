@@ -1,4 +1,4 @@
--- An array of node records that is lent and taken back, for the two functions that lend one: an array written whole is its records side by side, and they are the
+-- An array of node records that is lent and taken back, for the functions that lend one: an array written whole is its records side by side, and they are the
 -- array, or room for it, again. Assumes nothing.
 use mathlib.Core.Path.{_≡_, refl, sym, _∙_, ap, subst}
 use Prim.Native.Nat.{ℕ, zero, suc, _+_, _-_, _≤_}

@@ -1,5 +1,5 @@
 // What stands in lent slices before a check, from where on it still stands there after one, a check over node records of its
-// own, and one of those records, read through a lent slice. For test programs.
+// own with one probe and with two, and one of those records, read through a lent slice. For test programs.
 ghost use mathlib.Core.Path.{_≡_};
 ghost use mathlib.Core.List.{_++_};
 ghost use Prim.Native.Nat.{_-_, _<_, min};
@@ -10,7 +10,10 @@ ghost use Rattle.rules.specs.Records.{most-nodes};
 ghost use Rattle.rules.specs.Slices.{nodesAfter, workAfter, reply};
 ghost use Rattle.rules.specs.Paper.{replyOf};
 ghost use Rattle.netlists.specs.Netlists.{blank};
+ghost use Rattle.pair_search.specs.Pairs.{pairsReply};
+ghost use Rattle.pairs.specs.Meaning.{pairsReplyOf};
 ghost use Rattle.trial.specs.Before.{entryBefore, byteBefore, isBefore, keptFrom};
+use pairs::PairsReply;
 use rules::MOST_NODES;
 use rules::Node;
 use rules::Reply;
@@ -84,9 +87,14 @@ pub fn work_kept_from(work: &[u8]) -> usize
 
 // ---- a check
 
-// What a check leaves: the reply, and all entries.
+// What a check leaves, and one with two probes: the reply, and all entries.
 pub struct Seen {
     pub reply: Reply,
+    pub nodes: [Node; MOST_NODES],
+}
+
+pub struct SeenPairs {
+    pub reply: PairsReply,
     pub nodes: [Node; MOST_NODES],
 }
 
@@ -113,6 +121,27 @@ pub fn check_over(bytes: &[u8], entries: usize, before: Node, work: &mut [u8]) -
     let mut nodes = [before; MOST_NODES];
     let reply = checker::check(bytes, &mut nodes[..lent], work);
     Seen { reply, nodes }
+}
+
+// The same with two probes, where at most `limit` pairs are looked at.
+pub fn check_pairs_over(
+    bytes: &[u8],
+    entries: usize,
+    before: Node,
+    work: &mut [u8],
+    limit: usize,
+) -> SeenPairs
+    ensures reply { λ r. ⌜ pairsReplyOf (r .reply) ≡
+        pairsReply (now (bytes .entry)) (min entries most-nodes) (length (now (work .entry))) limit ⌝ }
+    ensures nodes { λ r. ⌜ r .nodes ≡
+        nodesAfter (now (bytes .entry)) (replicate (min entries most-nodes) before) (length (now (work .entry)))
+        ++ replicate (most-nodes - min entries most-nodes) before ⌝ }
+    ensures work { λ _. ⌜ now (work .exit) ≡ workAfter (now (bytes .entry)) (min entries most-nodes) (now (work .entry)) ⌝ }
+{
+    let lent = at_most(entries);
+    let mut nodes = [before; MOST_NODES];
+    let reply = pairs::check_pairs(bytes, &mut nodes[..lent], work, limit);
+    SeenPairs { reply, nodes }
 }
 
 // The record at one of the entries that a check leaves, read through a lent slice.
