@@ -4,6 +4,7 @@
 // Standard input has one case a line: a command with its numbers, a block and the case's name, with colons between them.
 //
 //     check ENTRIES BYTES : BLOCK : NAME    the reply, and from where on the node entries and the work bytes are as they were
+//     pairs LIMIT ENTRIES BYTES : BLOCK : NAME    the same with two probes, where at most so many pairs are looked at
 //     ask NODE NUMBER : BLOCK : NAME        all three queries, with the number as assignment and as set
 //     value NODE NUMBER : BLOCK             the settled value alone
 //     points NODE : BLOCK                   the points that feed a node alone
@@ -22,6 +23,9 @@ ghost use Rattle.families.specs.Parts.{HasPart};
 use check::same;
 use families::SETS;
 use libc::STDIN_FILENO;
+use pair_search::Found;
+use pair_search::Search;
+use pairs::PairsReply;
 use report::MOST_TEXT;
 use rules::MOST_NODES;
 use rules::MOST_WORK;
@@ -29,6 +33,7 @@ use rules::Node;
 use rules::QueryOutcome;
 use tools::least;
 use tools::print;
+use tools::print_answer;
 use tools::print_byte;
 use tools::print_counts;
 use tools::print_number;
@@ -140,9 +145,10 @@ fn decimal(word: &[u8]) -> usize {
     value
 }
 
-// How many numbers a command has, and the last two of them.
+// How many numbers a command has, and the last three of them.
 struct Numbers {
     count: usize,
+    limit: usize,
     first: usize,
     last: usize,
 }
@@ -150,6 +156,7 @@ struct Numbers {
 // The numbers of a command, with a blank before each.
 fn numbers_of(words: &[u8]) -> Numbers {
     let mut count: usize = 0;
+    let mut limit = 0;
     let mut first = 0;
     let mut last = 0;
     let mut at = 0;
@@ -159,11 +166,17 @@ fn numbers_of(words: &[u8]) -> Numbers {
         if from == at {
             continue;
         }
+        limit = first;
         first = last;
         last = decimal(&words[from..at]);
         count += 1;
     }
-    Numbers { count, first, last }
+    Numbers {
+        count,
+        limit,
+        first,
+        last,
+    }
 }
 
 // ---- blocks
@@ -248,6 +261,46 @@ fn check(bytes: &[u8], entries: usize, room: usize)
     let work = &mut most[0..room];
     trial::fill(work);
     let nodes = reply_to(bytes, entries, work);
+    let from = trial::entries_kept_from(nodes);
+    print_counts(b", kept from# and#", &[from, trial::work_kept_from(work)]);
+}
+
+// What a search over pairs found, and how many it looked at.
+fn print_search(search: Search) {
+    let found = search.found;
+    print_counts(b" looked at#", &[search.looked]);
+    match found {
+        Found::Single(node, set) => print_counts(b" single##", &[node, set]),
+        Found::NoPair => print(b" no pair"),
+        Found::Pair(i, j, set) => print_counts(b" pair###", &[i, j, set]),
+        Found::Spent => print(b" spent"),
+    }
+}
+
+fn print_pairs(reply: PairsReply) {
+    print_byte(b':');
+    match reply {
+        PairsReply::Refused(refusal) => print_refusal(refusal),
+        PairsReply::Answered(both) => {
+            let answer = both.answer;
+            let search = both.search;
+            print_answer(answer);
+            print_search(search);
+        }
+    }
+}
+
+// The same with two probes.
+fn check_pairs(bytes: &[u8], limit: usize, entries: usize, room: usize)
+    requires { ⌜ room ≤ 256 * most-nodes ⌝ }
+{
+    let mut most = [0u8; MOST_WORK];
+    let work = &mut most[0..room];
+    trial::fill(work);
+    let seen = trial::check_pairs_over(bytes, entries, trial::entry_before(), work, limit);
+    let reply = seen.reply;
+    let nodes = seen.nodes;
+    print_pairs(reply);
     let from = trial::entries_kept_from(nodes);
     print_counts(b", kept from# and#", &[from, trial::work_kept_from(work)]);
 }
@@ -352,7 +405,22 @@ fn node(bytes: &[u8], i: usize)
 
 // ---- lines
 
-// Runs a command of two numbers; answers whether there is such a command, and the numbers are within its limits.
+// Runs a command of three numbers; answers whether there is such a command, and the numbers are within its limits.
+fn run_three(command: &[u8], bytes: &[u8], limit: usize, first: usize, last: usize) -> bool {
+    if same(command, b"pairs") {
+        if first > MOST_NODES {
+            return false;
+        }
+        if last > MOST_WORK {
+            return false;
+        }
+        check_pairs(bytes, limit, first, last);
+        return true;
+    }
+    false
+}
+
+// The same of two numbers.
 fn run_two(command: &[u8], bytes: &[u8], first: usize, last: usize) -> bool {
     if same(command, b"check") {
         if first > MOST_NODES {
@@ -412,6 +480,7 @@ fn run_command(command: &[u8], numbers: Numbers, bytes: [u8; MOST_BLOCK], digits
     match count {
         1 => run_one(command, block, numbers.last),
         2 => run_two(command, block, numbers.first, numbers.last),
+        3 => run_three(command, block, numbers.limit, numbers.first, numbers.last),
         _ => false,
     }
 }

@@ -88,7 +88,7 @@ fn print_half(name: &[u8], half: Half) {
     }
 }
 
-fn print_answer(answer: Answer) {
+pub fn print_answer(answer: Answer) {
     let settled = answer.settled;
     let glitch = answer.glitch;
     print_counts(b" vars# nodes#", &[answer.variables, answer.nodes]);
