@@ -126,7 +126,7 @@ NoSuspectPair n = (i j : ℕ) → TestedNode n i → TestedNode n j → i < j
     → (A : ℕ) → T (member A (pairFamily n record { i = i; j = j })) → T (not (suspect (n .variables) A))
 
 -- the checker refuses nothing, no tested node is suspect and no pair of them is, and the limit reaches to the last pair
-pub record NothingSuspectTwice (bytes : List ℕ) (entries work limit : ℕ) : Type 0 where
+pub record NothingSuspectInPairs (bytes : List ℕ) (entries work limit : ℕ) : Type 0 where
   pub netlist : Netlist
   pub admits : admitted bytes entries work ≡ answered netlist
   pub noSuspect : NoSuspect netlist

@@ -6,19 +6,26 @@ ghost use mathlib.Core.List.{List, [], _∷_};
 ghost use Prim.Native.Nat.{_+_, _*_, _<_, _≤_};
 ghost use lib.ListN.{length};
 ghost use Rattle.rules.specs.Records as Records;
-ghost use Rattle.rules.specs.Records.{Class, secret, mask};
+ghost use Rattle.rules.specs.Records.{Class};
 ghost use Rattle.netlists.specs.Netlists.{flatOf, Ready};
 ghost use Rattle.families.specs.Parts.{HasPart, familyAt, withFamily};
-ghost use Rattle.suspects.specs.Suspects.{variablesOf, reportOf};
+ghost use Rattle.suspects.specs.Suspects.{reportOf};
 ghost use Rattle.pair_search.specs.Pairs.{row, pairs, noPair, searchFrom};
 ghost use Rattle.pair_search.specs.Meaning.{searchedOf};
-ghost use Rattle.pair_search.specs.Work.{reportIn, over};
+ghost use Rattle.pair_search.specs.Work.{ByClass, reportIn, over};
 use families::PART;
 use families::SETS;
 use netlists::Netlist;
 
 // The layer of the glitch families: that of node i is part 2 × i + 1.
 const GLITCH: usize = 1;
+
+// What a search goes by: which variables are secrets and which are masks, as sets, and the limit on pairs.
+struct Terms {
+    secrets: usize,
+    masks: usize,
+    limit: usize,
+}
 
 // What a search over pairs finds.
 pub enum Found {
@@ -45,24 +52,24 @@ fn take_family(scratch: &mut [u8], into: usize, work: &[u8], from: usize)
 {
     let a = PART * into;
     let b = PART * from;
-    let mut j = 0;
-    while j < PART {
-        scratch[a + j] = work[b + j];
-        j += 1;
+    let mut k = 0;
+    while k < PART {
+        scratch[a + k] = work[b + k];
+        k += 1;
     }
 }
 
 // The set that the pair of nodes `i` and `j` reports, or `SETS` if it is clear. The product is made in bytes of its own.
-fn pair_set(work: &[u8], i: usize, j: usize, secrets: usize, masks: usize) -> usize
+fn pair_set(work: &[u8], i: usize, j: usize, terms: Terms) -> usize
     requires { ⌜ HasPart (now work) (2 * i + 1) × HasPart (now work) (2 * j + 1) ⌝ }
-    ensures { λ r. ⌜ ((variables : List Class) → secrets ≡ variablesOf secret variables → masks ≡ variablesOf mask variables →
+    ensures { λ r. ⌜ ((variables : List Class) → ByClass terms variables →
         reportOf r ≡ reportIn variables (now (work .entry)) (record { i = i; j = j })) ⌝ }
 {
     let mut scratch = [0u8; 3 * PART];
     take_family(&mut scratch, 0, work, 2 * i + GLITCH);
     take_family(&mut scratch, 1, work, 2 * j + GLITCH);
     families::multiply(&mut scratch, 2, 0, 1);
-    suspects::first_suspect(&scratch, 2, secrets, masks)
+    suspects::first_suspect(&scratch, 2, terms.secrets, terms.masks)
 }
 
 // After so many pairs, all of them clear.
@@ -75,56 +82,30 @@ fn no_pair(looked: usize) -> Search
     }
 }
 
-// Looks at the pair of nodes `i` and `j`, unless the limit is spent.
-fn look(
-    work: &[u8],
-    i: usize,
-    j: usize,
-    secrets: usize,
-    masks: usize,
-    limit: usize,
-    looked: usize,
-) -> Search
+// After so many pairs that were clear, looks at that of nodes `i` and `j`, unless they are not both tested or the limit is spent.
+fn look(work: &[u8], i: usize, j: usize, both: bool, terms: Terms, looked: usize) -> Search
     requires { ⌜ HasPart (now work) (2 * i + 1) × HasPart (now work) (2 * j + 1) ⌝ }
-    ensures { λ r. ⌜ ((variables : List Class) → secrets ≡ variablesOf secret variables → masks ≡ variablesOf mask variables →
-        searchedOf r ≡ searchFrom (reportIn variables (now (work .entry))) limit looked (record { i = i; j = j } ∷ [])) ⌝ }
+    ensures { λ r. ⌜ ((variables : List Class) → ByClass terms variables →
+        searchedOf r ≡ searchFrom (reportIn variables (now (work .entry))) (terms .limit) looked
+        (cond both (record { i = i; j = j } ∷ []) [])) ⌝ }
 {
-    if looked >= limit {
+    if !both {
+        return no_pair(looked);
+    }
+    if looked >= terms.limit {
         return Search {
             found: Found::Spent,
             looked,
         };
     }
     let position = looked + 1;
-    let set = pair_set(work, i, j, secrets, masks);
+    let set = pair_set(work, i, j, terms);
     if set >= SETS {
         return no_pair(position);
     }
     Search {
         found: Found::Pair(i, j, set),
         looked: position,
-    }
-}
-
-// Looks at the pair of nodes `i` and `j` if it is one to look at, which is to say that both are tested.
-fn look_if(
-    yes: bool,
-    work: &[u8],
-    i: usize,
-    j: usize,
-    secrets: usize,
-    masks: usize,
-    limit: usize,
-    looked: usize,
-) -> Search
-    requires { ⌜ HasPart (now work) (2 * i + 1) × HasPart (now work) (2 * j + 1) ⌝ }
-    ensures { λ r. ⌜ ((variables : List Class) → secrets ≡ variablesOf secret variables → masks ≡ variablesOf mask variables →
-        searchedOf r ≡ searchFrom (reportIn variables (now (work .entry))) limit looked (cond yes (record { i = i; j = j } ∷ []) [])) ⌝ }
-{
-    if yes {
-        look(work, i, j, secrets, masks, limit, looked)
-    } else {
-        no_pair(looked)
     }
 }
 
@@ -141,20 +122,11 @@ fn is_over(search: Search) -> bool
     }
 }
 
-// The search goes on with the pairs of node `j`, which is tested, after so many that were clear.
-fn search_row(
-    netlist: Netlist,
-    work: &[u8],
-    j: usize,
-    secrets: usize,
-    masks: usize,
-    limit: usize,
-    looked: usize,
-) -> Search
+// After so many pairs that were clear, the search goes on with those of node `j`.
+fn search_row(netlist: Netlist, work: &[u8], j: usize, terms: Terms, looked: usize) -> Search
     requires { ⌜ Ready netlist (length (now work)) × (j < netlist .count) ⌝ }
-    ensures { λ r. ⌜ ((n : Records.Netlist) → netlist ≡ flatOf n → secrets ≡ variablesOf secret (n .variables) →
-        masks ≡ variablesOf mask (n .variables) →
-        searchedOf r ≡ searchFrom (reportIn (n .variables) (now (work .entry))) limit looked (row n j j)) ⌝ }
+    ensures { λ r. ⌜ ((n : Records.Netlist) → netlist ≡ flatOf n → ByClass terms (n .variables) →
+        searchedOf r ≡ searchFrom (reportIn (n .variables) (now (work .entry))) (terms .limit) looked (row n j j)) ⌝ }
 {
     let higher = netlist.nodes[j];
     let tested = suspects::is_tested(higher.kind);
@@ -163,7 +135,7 @@ fn search_row(
     while i < j {
         let lower = netlist.nodes[i];
         let both = tested & suspects::is_tested(lower.kind);
-        so_far = look_if(both, work, i, j, secrets, masks, limit, so_far.looked);
+        so_far = look(work, i, j, both, terms, so_far.looked);
         if is_over(so_far) {
             break;
         }
@@ -172,19 +144,23 @@ fn search_row(
     so_far
 }
 
-// The search over all pairs of a netlist whose families are in the work bytes.
+// The search over all pairs of a netlist whose families are in the work bytes, at most `limit` of them: what it finds, and how many it
+// looked at.
 pub fn search_pairs(netlist: Netlist, work: &[u8], limit: usize) -> Search
     requires { ⌜ Ready netlist (length (now work)) ⌝ }
     ensures { λ r. ⌜ ((n : Records.Netlist) → netlist ≡ flatOf n →
         searchedOf r ≡ searchFrom (reportIn (n .variables) (now (work .entry))) limit 0 (pairs n)) ⌝ }
 {
-    let secrets = suspects::variables_of(netlist, 0);
-    let masks = suspects::variables_of(netlist, 1);
+    let terms = Terms {
+        secrets: suspects::variables_of(netlist, 0),
+        masks: suspects::variables_of(netlist, 1),
+        limit,
+    };
     let count = netlist.count;
     let mut so_far = no_pair(0);
     let mut j = 0;
     while j < count {
-        so_far = search_row(netlist, work, j, secrets, masks, limit, so_far.looked);
+        so_far = search_row(netlist, work, j, terms, so_far.looked);
         if is_over(so_far) {
             break;
         }

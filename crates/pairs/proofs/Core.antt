@@ -22,7 +22,7 @@ use Rattle.netlists.specs.declared.Netlist as Value
 use Rattle.netlists.specs.Netlists.{flatOf, Ready, kept}
 use Rattle.netlists.proofs.Netlists.{value-count}
 use Rattle.pair_search.specs.declared.Search.{Search}
-use Rattle.pair_search.specs.Pairs.{pairs, searchFrom, unlessSingle, searched, PairFindings, pairFindings, pairsReply, oneProbeReply, NoPair, NothingSuspectTwice, TwoProbes}
+use Rattle.pair_search.specs.Pairs.{pairs, searchFrom, unlessSingle, searched, PairFindings, pairFindings, pairsReply, oneProbeReply, NoPair, NothingSuspectInPairs, TwoProbes}
 use Rattle.pair_search.specs.Meaning.{searchedOf}
 use Rattle.pair_search.specs.Work.{reportIn}
 use Rattle.pair_search.proofs.Findings.{search-there}
@@ -95,7 +95,7 @@ module _ (bytes : List ℕ) (entries limit : ℕ) where
       × ((after ≡ workAfter bytes entries before)
       × ((GlitchClear (oneProbeReply (pairsReplyOf r)) ↔ NothingSuspect bytes entries (length before))
       × ((GlitchClear (oneProbeReply (pairsReplyOf r)) → OneProbe bytes)
-      × ((NoPair (pairsReplyOf r) ↔ NothingSuspectTwice bytes entries (length before) limit)
+      × ((NoPair (pairsReplyOf r) ↔ NothingSuspectInPairs bytes entries (length before) limit)
       × (NoPair (pairsReplyOf r) → TwoProbes bytes))))))
   promises r value before after is is-value is-work =
       let checked = ap oneProbeReply is ∙ one-probe-reply bytes entries (length before) limit in (
@@ -109,7 +109,7 @@ module _ (bytes : List ℕ) (entries limit : ℕ) where
               (
                 subst (λ o. GlitchClear o → OneProbe bytes) (sym checked) (one-probe bytes entries (length before)),
                 (
-                  subst (λ o. NoPair o ↔ NothingSuspectTwice bytes entries (length before) limit) (sym is) (no-pair-exactly bytes entries (length before) limit),
+                  subst (λ o. NoPair o ↔ NothingSuspectInPairs bytes entries (length before) limit) (sym is) (no-pair-exactly bytes entries (length before) limit),
                   subst (λ o. NoPair o → TwoProbes bytes) (sym is) (two-probes bytes entries (length before) limit),
                 ),
               ),

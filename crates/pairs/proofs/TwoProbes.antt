@@ -23,7 +23,7 @@ use Rattle.rules.proofs.Room.{admitted-says}
 use Rattle.rules.proofs.Halves.{half-clear, reported-none, reported-clear}
 use Rattle.rules.proofs.Spans.{Holds, holds-both}
 use Rattle.rules.proofs.Probe.{each-node, matches-union, HoldsPatterns, counts-agree}
-use Rattle.pair_search.specs.Pairs.{Pair, pairs, atPosition, pairFamily, pairReport, noPair, Searched, searched, PairFindings, pairFindings, pairsReply, oneProbeReply, NoPair, NoSuspectPair, NothingSuspectTwice, TwoProbes}
+use Rattle.pair_search.specs.Pairs.{Pair, pairs, atPosition, pairFamily, pairReport, noPair, Searched, searched, PairFindings, pairFindings, pairsReply, oneProbeReply, NoPair, NoSuspectPair, NothingSuspectInPairs, TwoProbes}
 use Rattle.pair_search.proofs.Order.{lists-tested, lists-all}
 use Rattle.pair_search.proofs.Findings.{Means, search-exactly}
 
@@ -130,13 +130,13 @@ module _ (bytes : List ℕ) (entries work limit : ℕ) where
       go (refused k p) = refl
 
   -- the checker answers no pair exactly when it refuses nothing, no tested node is suspect and no pair of them is, and the limit reaches
-  pub no-pair-exactly : NoPair (pairsReply bytes entries work limit) ↔ NothingSuspectTwice bytes entries work limit
+  pub no-pair-exactly : NoPair (pairsReply bytes entries work limit) ↔ NothingSuspectInPairs bytes entries work limit
   unfolding pairsReply andThen NoPair pairFindings
   no-pair-exactly =
       (go (admitted bytes entries work) refl, λ s. rw (s .admits) (no-pair-found (s .netlist) limit .1 (s .noSuspect, s .noSuspectPair, s .reaches)))
     where
       go : (o : Outcome Netlist) → admitted bytes entries work ≡ o → NoPair (andThen o (λ n. answered (pairFindings n limit)))
-          → NothingSuspectTwice bytes entries work limit
+          → NothingSuspectInPairs bytes entries work limit
       go (answered n) e found =
           let (singles, both, within) = no-pair-found n limit .0 found in
           record { netlist = n; admits = e; noSuspect = singles; noSuspectPair = both; reaches = within }

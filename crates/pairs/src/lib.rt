@@ -11,7 +11,7 @@ ghost use Rattle.rules.specs.Checks.{admitted};
 ghost use Rattle.rules.specs.Demands.{GlitchClear, NothingSuspect, OneProbe};
 ghost use Rattle.rules.specs.Paper.{findingOf};
 ghost use Rattle.netlists.specs.Netlists.{flatOf, Ready, kept};
-ghost use Rattle.pair_search.specs.Pairs.{pairs, searchFrom, unlessSingle, pairsReply, oneProbeReply, NoPair, NothingSuspectTwice, TwoProbes};
+ghost use Rattle.pair_search.specs.Pairs.{pairs, searchFrom, unlessSingle, pairsReply, oneProbeReply, NoPair, NothingSuspectInPairs, TwoProbes};
 ghost use Rattle.pair_search.specs.Meaning.{searchedOf};
 ghost use Rattle.pair_search.specs.Work.{reportIn};
 ghost use Rattle.pairs.specs.Meaning.{pairsReplyOf};
@@ -67,7 +67,7 @@ pub fn examine_pairs(bytes: &[u8], entries: usize, work: &mut [u8], limit: usize
         NothingSuspect (now (bytes .entry)) entries (length (now (work .entry))) ⌝ }
     ensures probe { λ r. ⌜ (GlitchClear (oneProbeReply (pairsReplyOf (r .reply))) → OneProbe (now (bytes .entry))) ⌝ }
     ensures pairs { λ r. ⌜ NoPair (pairsReplyOf (r .reply)) ↔
-        NothingSuspectTwice (now (bytes .entry)) entries (length (now (work .entry))) limit ⌝ }
+        NothingSuspectInPairs (now (bytes .entry)) entries (length (now (work .entry))) limit ⌝ }
     ensures probes { λ r. ⌜ (NoPair (pairsReplyOf (r .reply)) → TwoProbes (now (bytes .entry))) ⌝ }
 {
     let examined = checker::examine(bytes, entries, work);
@@ -119,7 +119,7 @@ pub fn check_pairs(bytes: &[u8], nodes: &mut [Node], work: &mut [u8], limit: usi
         NothingSuspect (now (bytes .entry)) (length (now (nodes .entry))) (length (now (work .entry))) ⌝ }
     ensures probe { λ r. ⌜ (GlitchClear (oneProbeReply (pairsReplyOf r)) → OneProbe (now (bytes .entry))) ⌝ }
     ensures pairs { λ r. ⌜ NoPair (pairsReplyOf r) ↔
-        NothingSuspectTwice (now (bytes .entry)) (length (now (nodes .entry))) (length (now (work .entry))) limit ⌝ }
+        NothingSuspectInPairs (now (bytes .entry)) (length (now (nodes .entry))) (length (now (work .entry))) limit ⌝ }
     ensures probes { λ r. ⌜ (NoPair (pairsReplyOf r) → TwoProbes (now (bytes .entry))) ⌝ }
 {
     let examined = examine_pairs(bytes, nodes.len(), work, limit);

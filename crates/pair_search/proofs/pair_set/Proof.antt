@@ -52,12 +52,12 @@ first-suspect-requires c κs = search needs
 returns : tie.Need-returns
 unfolding reportIn
 returns c =
-    λ variables s m.
+    λ variables by.
     let start = c .before .before .before .before .before .before .before .before .before .before .before .before in
     let first = c .before .before .before .before .before .before .before .before .before .take-family .ensures in
     let second = c .before .before .before .before .before .before .take-family2 .ensures in
     let made = c .before .before .before .multiply .ensures in
-    c .first-suspect .ensures variables s m
+    c .first-suspect .ensures variables (by .secrets) (by .masks)
     ∙ ap (λ (bytes : List ℕ). reported variables (familyAt bytes 2))
     (made
     ∙ ap (λ (bytes : List ℕ). withFamily bytes 2 (product (familyAt bytes 0) (familyAt bytes 1)))

@@ -19,13 +19,13 @@ use Rattle.pair_search.proofs.search_pairs.Statement.{statement}
 use Rattle.pair_search.proofs.search_pairs.Tie as tie
 
 abbrev Inv-loop : tie.InvT-loop
-Inv-loop netlist work limit secrets masks count so-far₀ j₀ so-far j =
+Inv-loop netlist work limit terms count so-far₀ j₀ so-far j =
     (j ≤ count) × (over (searchedOf so-far .found) ≡ false)
     × ((n : Records.Netlist) → netlist ≡ flatOf n
     → searchedOf so-far ≡ searchFrom (reportIn (n .variables) work) limit 0 (pairsBelow n j))
 
 abbrev μ-loop : tie.MeasureT-loop
-μ-loop netlist work limit secrets masks count so-far₀ j₀ so-far j = count - j
+μ-loop netlist work limit terms count so-far₀ j₀ so-far j = count - j
 
 -- where the function began, and where a turn of its loop did
 abbrev start : tie.At-loop Inv-loop μ-loop → tie.Start Inv-loop μ-loop
@@ -68,8 +68,10 @@ looked-on c n e =
     let j = turn c .loop .j in
     let inv = turn c .loop .inv in
     rw (pairs-more n j, goes-on _ _ 0 (pairsBelow n j) (row n j j) _ (inv .2 n e) (inv .1))
-    (c .before .search-row .ensures n e (turn c .before .before .before .variables-of .ensures n secret e refl)
-    (turn c .before .before .variables-of2 .ensures n mask e refl))
+    (c .before .search-row .ensures n e record {
+      secrets = turn c .before .before .before .variables-of .ensures n secret e refl;
+      masks = turn c .before .before .variables-of2 .ensures n mask e refl;
+    })
 
 loop-again : tie.Need-loop-again Inv-loop μ-loop
 loop-again c = (search needs, sym (c .before .is-over .ensures) ∙ c .if1 .left, looked-on (c .before))

@@ -1,4 +1,4 @@
--- `pair_search::take_family` meets its contract. The loop's invariant: the part's first j bytes are those of the family, and all else is as it
+-- `pair_search::take_family` meets its contract. The loop's invariant: the part's first k bytes are those of the family, and all else is as it
 -- was (`Filled`). The measure is what is left of the 128 bytes. Assumes nothing.
 use Prim.Native.Nat.{_+_, _*_, _-_}
 use native.Mathlib.Omega.{arith}
@@ -9,10 +9,10 @@ use Rattle.pair_search.proofs.take_family.Statement.{statement}
 use Rattle.pair_search.proofs.take_family.Tie as tie
 
 abbrev Inv-loop : tie.InvT-loop
-Inv-loop scratch₀ into work from a b j₀ scratch j = Filled scratch₀ into (familyAt work from) j scratch
+Inv-loop scratch₀ into work from a b k₀ scratch k = Filled scratch₀ into (familyAt work from) k scratch
 
 abbrev μ-loop : tie.MeasureT-loop
-μ-loop scratch₀ into work from a b j₀ scratch j = 128 - j
+μ-loop scratch₀ into work from a b k₀ scratch k = 128 - k
 
 mul-a : tie.Need-mul-a Inv-loop μ-loop
 mul-a c = omega arith
@@ -35,8 +35,8 @@ add-scratch-2 c = omega arith
 slice-write-scratch : tie.Need-slice-write-scratch Inv-loop μ-loop
 slice-write-scratch c = omega arith
 
-add-j : tie.Need-add-j Inv-loop μ-loop
-add-j c = omega arith
+add-k : tie.Need-add-k Inv-loop μ-loop
+add-k c = omega arith
 
 loop-less : tie.Need-loop-less Inv-loop μ-loop
 loop-less c = omega arith
@@ -47,8 +47,8 @@ loop-again c =
     let start = known .before in
     fill-more (start .pre .0) (c .before .loop-test .taken) (known .loop .inv)
     (record {
-      below = c .shared-slice-known .given (128 * start .args .from + known .loop .j) .fits;
-      bit = λ k l. bit-at (now (start .args .work)) (start .args .from) (known .loop .j) k (c .before .loop-test .taken) l;
+      below = c .shared-slice-known .given (128 * start .args .from + known .loop .k) .fits;
+      bit = λ b l. bit-at (now (start .args .work)) (start .args .from) (known .loop .k) b (c .before .loop-test .taken) l;
     })
 
 same-length : tie.Need-same-length Inv-loop μ-loop
@@ -70,7 +70,7 @@ take-family-spec =
     shared-slice-read-scratch
     add-scratch-2
     slice-write-scratch
-    add-j
+    add-k
     loop-less
     loop-again
     same-length

@@ -44,7 +44,7 @@ use Rattle.rules.specs.Checks.{admitted}
 use Rattle.rules.specs.Demands.{GlitchClear, NothingSuspect, OneProbe}
 use Rattle.netlists.specs.Netlists.{flatOf, kept}
 use Rattle.netlists.specs.declared.Netlist.{Netlist}
-use Rattle.pair_search.specs.Pairs.{pairsReply, oneProbeReply, NoPair, NothingSuspectTwice, TwoProbes}
+use Rattle.pair_search.specs.Pairs.{pairsReply, oneProbeReply, NoPair, NothingSuspectInPairs, TwoProbes}
 use Rattle.checker.specs.declared.Examined.{Examined}
 use Rattle.pairs.specs.declared.PairsReply.{PairsReply}
 use Rattle.pairs.specs.declared.ExaminedPairs.{ExaminedPairs}
@@ -158,7 +158,7 @@ module _ {M : Type 1} (𝓤 : URA M) (H : Heap 𝓤) (A : Atoms 𝓤) (W : Given
   Probed r = GlitchClear (oneProbeReply (pairsReplyOf r)) → OneProbe xs
 
   abbrev Paired : PairsReply → Type 0
-  Paired r = NoPair (pairsReplyOf r) ↔ NothingSuspectTwice xs (length ys) (length zs) limit
+  Paired r = NoPair (pairsReplyOf r) ↔ NothingSuspectInPairs xs (length ys) (length zs) limit
 
   abbrev ProbedTwice : PairsReply → Type 0
   ProbedTwice r = NoPair (pairsReplyOf r) → TwoProbes xs

@@ -41,7 +41,7 @@ use denote.Exit.{yes}
 use Rattle.rules.specs.declared.Node.{Node}
 use Rattle.rules.specs.Slices.{nodesAfter, workAfter}
 use Rattle.rules.specs.Demands.{GlitchClear, NothingSuspect, OneProbe}
-use Rattle.pair_search.specs.Pairs.{pairsReply, oneProbeReply, NoPair, NothingSuspectTwice, TwoProbes}
+use Rattle.pair_search.specs.Pairs.{pairsReply, oneProbeReply, NoPair, NothingSuspectInPairs, TwoProbes}
 use Rattle.pairs.specs.declared.PairsReply.{PairsReply}
 use Rattle.pairs.specs.Meaning.{pairsReplyOf}
 use Rattle.trial.specs.declared.SeenPairs.{SeenPairs}
@@ -199,7 +199,7 @@ module _ {M : Type 1} (𝓤 : URA M) (H : Heap 𝓤) (A : Atoms 𝓤) (W : Given
           (and-then ! (load ! (from ! (stop !)) (look ! 28 refl)) (and-then ! (load ! (from ! (stop !)) (look ! 11 refl)) (and-then ! (load ! (from ! (stop !)) (look ! 7 refl)) (and-then ! (load ! (from ! (stop !)) (look ! 20 refl)) (no-more !))))) (λ t r ws.
           use1 W (raw (fact 𝓤 (Replied few r)) ⊛ raw (fact 𝓤 (ws .1 .0 ≡ nodesAfter xs (front entries before) (length zs))) ⊛ raw (fact 𝓤 (Worked few (ws .1 .1 .0)))
           ⊛ raw (fact 𝓤 (GlitchClear (oneProbeReply (pairsReplyOf r)) ↔ NothingSuspect xs few (length zs))) ⊛ raw (fact 𝓤 (GlitchClear (oneProbeReply (pairsReplyOf r)) → OneProbe xs))
-          ⊛ raw (fact 𝓤 (NoPair (pairsReplyOf r) ↔ NothingSuspectTwice xs few (length zs) limit)) ⊛ raw (fact 𝓤 (NoPair (pairsReplyOf r) → TwoProbes xs))) (id⊢ 𝓤 _) $
+          ⊛ raw (fact 𝓤 (NoPair (pairsReplyOf r) ↔ NothingSuspectInPairs xs few (length zs) limit)) ⊛ raw (fact 𝓤 (NoPair (pairsReplyOf r) → TwoProbes xs))) (id⊢ 𝓤 _) $
           split ! $ heard ! (Replied few r) (λ replied. split ! $ heard ! (ws .1 .0 ≡ nodesAfter xs (front entries before) (length zs)) (λ is-ns. split ! $
           heard ! (Worked few (ws .1 .1 .0)) (λ worked. drop ! $ fsplit ! $ drop ! $ fsplit ! $ fsplit ! $ move ! (1 ∷ []) $ feqL ! (λ same.
           move ! (1 ∷ []) $ fsplit ! $ fsplit ! $ move ! (1 ∷ []) $ feqL ! (λ l.
