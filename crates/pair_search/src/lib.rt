@@ -89,10 +89,11 @@ fn look(work: &[u8], i: usize, j: usize, both: bool, terms: Terms, looked: usize
         searchedOf r ≡ searchFrom (reportIn variables (now (work .entry))) (terms .limit) looked
         (cond both (record { i = i; j = j } ∷ []) [])) ⌝ }
 {
+    let limit = terms.limit;
     if !both {
         return no_pair(looked);
     }
-    if looked >= terms.limit {
+    if looked >= limit {
         return Search {
             found: Found::Spent,
             looked,

@@ -18,6 +18,10 @@ use Rattle.pair_search.proofs.look.Tie as tie
 opposite : (a : Bool) {b : Bool} → not a ≡ b → a ≡ not b
 opposite a e = sym (Bool·not-not a) ∙ ap not e
 
+returns-2 : tie.Need-returns-2
+unfolding searchFrom
+returns-2 c = λ variables by. rw (opposite (c .before .before .before .args .both) (c .before .if1 .left), le-ltb _ _ (c .if2 .taken))
+
 no-pair-requires : tie.Need-no-pair-requires
 no-pair-requires c κs = search needs
 
@@ -29,10 +33,6 @@ returns c =
     c .no-pair .ensures
     ∙ ap (λ (b : Bool). searchFrom (reportIn variables (now (args .work))) (args .terms .limit) (args .looked) (cond b (record { i = args .i; j = args .j } ∷ []) []))
     (sym (opposite (args .both) (c .before .if1 .taken)))
-
-returns-2 : tie.Need-returns-2
-unfolding searchFrom
-returns-2 c = λ variables by. rw (opposite (c .before .before .before .before .args .both) (c .before .before .if1 .left), le-ltb _ _ (c .if2 .taken))
 
 add-position : tie.Need-add-position
 add-position c = search needs
@@ -48,16 +48,16 @@ unfolding searchFrom onward reportOf
 returns-3 c =
     λ variables by.
     let reports : none ≡ _ = rw (le-ltb _ _ (c .before .if3 .taken)) at (c .before .before .pair-set .ensures variables by) in
-    rw (opposite (c .before .before .before .before .before .before .before .args .both) (c .before .before .before .before .before .if1 .left), lt-ltb _ _ (c .before .before .before .if2 .left), ← reports, ← add-one) (c .no-pair2 .ensures)
+    rw (opposite (c .before .before .before .before .before .before .args .both) (c .before .before .before .before .if1 .left), lt-ltb _ _ (c .before .before .before .if2 .left), ← reports, ← add-one) (c .no-pair2 .ensures)
 
 returns-4 : tie.Need-returns-4
 unfolding searchFrom onward reportOf
 returns-4 c =
     λ variables by.
     let reports : some (c .before .pair-set .result) ≡ _ = rw (lt-ltb _ _ (c .if3 .left)) at (c .before .pair-set .ensures variables by) in
-    let args = c .before .before .before .before .before .before .args in
+    let args = c .before .before .before .before .before .args in
     let found = pairAt (args .i) (args .j) (c .before .pair-set .result) in
-    rw (opposite (args .both) (c .before .before .before .before .if1 .left), lt-ltb _ _ (c .before .before .if2 .left), ← reports)
+    rw (opposite (args .both) (c .before .before .before .if1 .left), lt-ltb _ _ (c .before .before .if2 .left), ← reports)
     (ap (λ (k : ℕ). record { found = found; looked = k }) (add-one (args .looked)))
 
 pub look-spec : {M : Type 1} → statement M
