@@ -43,6 +43,8 @@ pub enum Kind {
     Sparse,
     Between,
     Dense,
+    /// A hundred sets a glitch family, and no suspect pair.
+    Wide,
     /// A block of the kind between, cut at any byte, and so refused.
     Cut,
 }
@@ -53,6 +55,7 @@ impl fmt::Display for Kind {
             Kind::Sparse => "sparse",
             Kind::Between => "between",
             Kind::Dense => "dense",
+            Kind::Wide => "wide",
             Kind::Cut => "cut",
         })
     }
@@ -64,6 +67,7 @@ pub fn block(kind: Kind, nodes: usize, variables: usize, random: &mut Random) ->
         Kind::Sparse => sparse(nodes, variables, random),
         Kind::Between => between(nodes, variables, random),
         Kind::Dense => dense(nodes, variables, random),
+        Kind::Wide => wide(nodes, variables, random),
         Kind::Cut => {
             let mut bytes = between(nodes, variables, random);
             bytes.truncate(random.below(bytes.len()));
@@ -122,8 +126,8 @@ impl Records {
 }
 
 /// Many registers, few sets a family: a gate of two inputs, its XOR with a third, and two registers
-/// behind one another; then anew from the inputs. Each input has a mask of its own, so both halves
-/// are clear.
+/// behind one another; then anew from the inputs. Each input has a mask of its own, so every set of
+/// every product is empty or has a mask: both halves are clear, and so is every pair.
 fn sparse(nodes: usize, variables: usize, random: &mut Random) -> Vec<u8> {
     let mut records = Records::one_secret(variables);
     let inputs = (variables - 1).min(nodes / 2);
@@ -194,6 +198,90 @@ fn dense(nodes: usize, variables: usize, random: &mut Random) -> Vec<u8> {
         let full = records.nodes - last;
         let (first, second) = (last + random.below(full), last + random.below(full));
         records.binary(random.one_of(&[XOR, AND, OR]), first, second);
+    }
+    records.end()
+}
+
+/// Inputs as in a sparse block, so that every pair is clear, and no register. Six gates take in seven
+/// inputs, which doubles the families up to 128 sets, and sixteen more take the gate before and one
+/// of these inputs; then anew from the next input on.
+fn wide(nodes: usize, variables: usize, random: &mut Random) -> Vec<u8> {
+    let mut records = Records::one_secret(variables);
+    let inputs = (variables - 1).min(nodes / 2);
+    for mask in 1..=inputs {
+        records.input((1 << mask) + random.below(2));
+    }
+    let mut stage = 0;
+    while records.nodes < nodes {
+        let mut last = stage % inputs;
+        for gate in 0..22.min(nodes - records.nodes) {
+            let taken = if gate < 6 { gate + 1 } else { random.below(7) };
+            let kind = random.one_of(&[XOR, AND, OR]);
+            last = records.binary(kind, last, (stage + taken) % inputs);
+        }
+        stage += 1;
+    }
+    records.end()
+}
+
+/// A register behind every gate; a gate takes inputs or registers. Up to three variables are not
+/// masks, and one at least of these is a secret. An input has one or two masks, and any of these.
+pub fn registers(nodes: usize, variables: usize, random: &mut Random) -> Vec<u8> {
+    let mut records = Records::default();
+    let mut classes = vec![1; variables];
+    for class in [0, 2, 0] {
+        classes[random.below(variables)] = class;
+    }
+    let mut masks = Vec::new();
+    let mut others = 0;
+    for (v, class) in classes.into_iter().enumerate() {
+        records.variable(class);
+        match class {
+            1 => masks.push(1 << v),
+            _ => others |= 1 << v,
+        }
+    }
+    let mut held = Vec::new();
+    for _ in 0..1 + random.below(variables) {
+        let [first, second] = [(); 2].map(|()| masks[random.below(masks.len())]);
+        let set = first | second | (others & random.below(1 << variables));
+        held.push(records.input(set));
+    }
+    while records.nodes + 1 < nodes {
+        let [first, second] = [(); 2].map(|()| held[random.below(held.len())]);
+        let gate = match random.one_of(&[NOT, XOR, XOR, AND, OR]) {
+            NOT => records.unary(NOT, first),
+            kind => records.binary(kind, first, second),
+        };
+        held.push(records.unary(REGISTER, gate));
+    }
+    records.end()
+}
+
+/// Gates and registers as in a sparse block, each over any three inputs. The last input, which is
+/// taken from some node on only, has the masks of three or four others, and the XOR of these four or
+/// five inputs is the secret. So no node is suspect by itself, and two are that hold all of these.
+pub fn late(nodes: usize, variables: usize, random: &mut Random) -> Vec<u8> {
+    let mut records = Records::one_secret(variables);
+    let inputs = variables - 1;
+    let others = 3 + random.below(2);
+    let mut last = 1;
+    for mask in 1..inputs {
+        let set = (1 << mask) + random.below(2);
+        records.input(set);
+        if mask <= others {
+            last ^= set;
+        }
+    }
+    records.input(last);
+    let from = random.below(nodes);
+    while records.nodes + 4 <= nodes {
+        let taken = inputs - usize::from(records.nodes < from);
+        let [first, second, third] = [(); 3].map(|()| random.below(taken));
+        let gate = records.binary(random.one_of(&[XOR, AND, OR]), first, second);
+        let sum = records.binary(XOR, gate, third);
+        let register = records.unary(REGISTER, sum);
+        records.unary(REGISTER, register);
     }
     records.end()
 }

@@ -1,13 +1,14 @@
 //! Every block is checked by Telgouin and by the plain implementation with both its products, and
-//! the answers are held to one another. The first difference ends the program.
+//! the answers are held to one another: the listings, and the searches over pairs under several
+//! limits. The first difference ends the program.
 
 use crate::blocks::{self, Random, MOST_NODES, MOST_VARIABLES};
 use crate::document;
+use crate::pairs::{self, Found};
 use crate::plain;
 use crate::telgouin::{self, MOST_TEXT};
 
 /// How many blocks were compared, and what became of them.
-#[derive(Default)]
 pub struct Tally {
     blocks: usize,
     /// Those read, by their glitch half.
@@ -15,12 +16,24 @@ pub struct Tally {
     suspect: usize,
     /// Those refused, by number.
     refused: [usize; 10],
+    /// Searches over pairs, by what they find.
+    searches: [(&'static str, usize); 5],
 }
 
 /// What a lent slice holds before a call.
 const BEFORE: u8 = 0xa5;
 
 impl Tally {
+    pub fn new() -> Tally {
+        Tally {
+            blocks: 0,
+            clear: 0,
+            suspect: 0,
+            refused: [0; 10],
+            searches: ["refused", "single", "no pair", "pair", "spent"].map(|name| (name, 0)),
+        }
+    }
+
     /// Compares one block, and gives its listing.
     pub fn compare(&mut self, bytes: &[u8]) -> String {
         let text = plain::listing(bytes, plain::by_pairs);
@@ -53,7 +66,40 @@ impl Tally {
             None if text.ends_with("glitch clear\n") => self.clear += 1,
             None => self.suspect += 1,
         }
+        self.compare_pairs(bytes);
         text
+    }
+
+    /// Compares the searches over the pairs of one block: with no limit, under the smallest limits,
+    /// and under those around the first suspect pair and around the number of pairs.
+    fn compare_pairs(&mut self, bytes: &[u8]) {
+        let plain = [plain::by_pairs, plain::by_words].map(|form| pairs::Block::new(bytes, form));
+        let found_at = plain[1].search(usize::MAX).looked;
+        let mut limits = vec![0, 1, usize::MAX];
+        for edge in [found_at, plain[1].pairs()] {
+            limits.extend([edge.saturating_sub(1), edge, edge + 1]);
+        }
+        limits.sort();
+        limits.dedup();
+        for limit in limits {
+            let search = telgouin::pairs(bytes, limit);
+            for block in &plain {
+                let expected = block.search(limit);
+                if search != expected {
+                    let what = format!("the search over pairs under the limit {limit}");
+                    let [expected, search] = [expected, search].map(|s| format!("{s:?}"));
+                    differs(bytes, &what, &expected, search.as_bytes());
+                }
+            }
+            let case = match search.found {
+                Found::Refused(..) => 0,
+                Found::Single(..) => 1,
+                Found::NoPair => 2,
+                Found::Pair(..) => 3,
+                Found::Spent => 4,
+            };
+            self.searches[case].1 += 1;
+        }
     }
 
     pub fn print(&self) {
@@ -66,6 +112,12 @@ impl Tally {
             .map(|number| format!("{number}: {}", self.refused[number]))
             .collect();
         println!("Refused, by number: {}.", refused.join(", "));
+        let all: usize = self.searches.iter().map(|(_, count)| count).sum();
+        let cases = self
+            .searches
+            .map(|(name, count)| format!("{name}: {count}"));
+        println!("{all} searches over pairs compared, no difference.");
+        println!("By what they find: {}.", cases.join(", "));
     }
 }
 
@@ -96,7 +148,7 @@ pub fn document(tally: &mut Tally) {
 }
 
 /// The edges of the limits; block A with every change of one byte, and cut at every byte; blocks
-/// with any nodes; damaged ones.
+/// with any nodes; damaged ones; blocks with many registers, in which pairs are suspect or clear.
 pub fn many(tally: &mut Tally) {
     let mut random = Random(1);
     for variables in [MOST_VARIABLES, MOST_VARIABLES + 1] {
@@ -136,5 +188,17 @@ pub fn many(tally: &mut Tally) {
     for _ in 0..100 {
         let (nodes, variables) = (random.below(50), 7 + random.below(4));
         tally.compare(&blocks::any(nodes, variables, &mut random));
+    }
+    for _ in 0..3000 {
+        let (nodes, variables) = (random.below(40), 4 + random.below(7));
+        tally.compare(&blocks::registers(nodes, variables, &mut random));
+    }
+    for at in 0..100 {
+        let nodes = if at < 4 {
+            MOST_NODES
+        } else {
+            20 + random.below(100)
+        };
+        tally.compare(&blocks::late(nodes, 7 + random.below(4), &mut random));
     }
 }

@@ -1,10 +1,11 @@
-//! The benchmark: Telgouin's listing against a plain Rust implementation of document 01. It
-//! compares every answer, then measures time and memory. See docs/BENCH.md.
+//! The benchmark: Telgouin's listing and its search over pairs against a plain Rust implementation.
+//! It compares every answer, then measures time and memory. See docs/BENCH.md.
 
 mod blocks;
 mod compare;
 mod document;
 mod memory;
+mod pairs;
 mod plain;
 mod telgouin;
 mod time;
@@ -12,7 +13,7 @@ mod ways;
 
 use blocks::Kind;
 use compare::Tally;
-use time::{measure, print_table, Cell};
+use time::{measure, measure_pairs, print_pairs, print_table, Cell, PairsCell};
 
 /// The numbers of nodes and variables that are measured.
 const SIZES: [(usize, usize); 9] = [
@@ -33,7 +34,7 @@ fn main() {
         return memory::one_way(&way);
     }
 
-    let mut tally = Tally::default();
+    let mut tally = Tally::new();
     compare::document(&mut tally);
     compare::many(&mut tally);
     let mut cells = Vec::new();
@@ -41,6 +42,10 @@ fn main() {
         cells.extend(SIZES.map(|(nodes, variables)| Cell::new(kind, nodes, variables, &mut tally)));
     }
     cells.push(Cell::new(Kind::Cut, 100, 10, &mut tally));
+    let mut pairs_cells = Vec::new();
+    for kind in [Kind::Sparse, Kind::Wide] {
+        pairs_cells.extend([50, 100, 200].map(|nodes| PairsCell::new(kind, nodes, &mut tally)));
+    }
     tally.print();
 
     measure(&mut cells);
@@ -62,5 +67,7 @@ fn main() {
         checked().filter(|cell| cell.nodes == 100),
         |cell| format!("{}, {} variables", cell.kind, cell.variables),
     );
+    measure_pairs(&mut pairs_cells);
+    print_pairs("The search over all pairs: 10 variables", &pairs_cells);
     memory::print();
 }

@@ -7,14 +7,14 @@ const MOST_VARIABLES: usize = 10;
 const MOST_NODES: usize = 200;
 
 #[derive(Clone, Copy, PartialEq)]
-enum Class {
+pub enum Class {
     Secret,
     Mask,
     Public,
 }
 
 /// A node: an input has its set, a gate or register its operands.
-enum Node {
+pub enum Node {
     Input(u16),
     Not(usize),
     Xor(usize, usize),
@@ -24,18 +24,42 @@ enum Node {
 }
 
 #[derive(Default)]
-struct Netlist {
+pub struct Netlist {
     variables: Vec<Class>,
-    nodes: Vec<Node>,
+    pub nodes: Vec<Node>,
 }
 
-struct Refusal {
-    number: usize,
-    place: usize,
+impl Netlist {
+    /// The variables of a class, as a set.
+    fn variables_of(&self, class: Class) -> u16 {
+        let all = self.variables.iter().enumerate();
+        all.filter(|(_, c)| **c == class).map(|(v, _)| 1 << v).sum()
+    }
+
+    /// Whether a set is suspect: it has a secret and no mask.
+    pub fn suspect(&self) -> impl Fn(u16) -> bool {
+        let (secrets, masks) = (
+            self.variables_of(Class::Secret),
+            self.variables_of(Class::Mask),
+        );
+        move |set| set & secrets != 0 && set & masks == 0
+    }
+}
+
+impl Node {
+    /// Whether the node is tested: all but inputs are.
+    pub fn tested(&self) -> bool {
+        !matches!(self, Node::Input(_))
+    }
+}
+
+pub struct Refusal {
+    pub number: usize,
+    pub place: usize,
 }
 
 /// Reads a netlist; the checks of a record are in the order of document 01's table.
-fn read(bytes: &[u8]) -> Result<Netlist, Refusal> {
+pub fn read(bytes: &[u8]) -> Result<Netlist, Refusal> {
     let mut netlist = Netlist::default();
     let mut here = 0;
     loop {
@@ -120,11 +144,11 @@ impl Family {
         family
     }
 
-    fn insert(&mut self, set: u16) {
+    pub fn insert(&mut self, set: u16) {
         self.0[usize::from(set / 64)] |= 1 << (set % 64);
     }
 
-    fn len(&self) -> u32 {
+    pub fn len(&self) -> u32 {
         self.0.iter().map(|word| word.count_ones()).sum()
     }
 
@@ -133,6 +157,13 @@ impl Family {
             *word |= more;
         }
         self
+    }
+
+    /// The lowest-numbered set that both families hold.
+    pub fn first_in(&self, other: &Family) -> Option<u16> {
+        let words = self.0.iter().zip(other.0).map(|(word, more)| word & more);
+        let (at, word) = (0u16..).zip(words).find(|(_, word)| *word != 0)?;
+        Some(64 * at + word.trailing_zeros() as u16)
     }
 
     /// The sets, from the lowest-numbered up.
@@ -201,13 +232,13 @@ fn turned(mut word: u64, by: u16) -> u64 {
 
 /// Both families of a node.
 #[derive(Clone, Copy)]
-struct Families {
+pub struct Families {
     settled: Family,
-    glitch: Family,
+    pub glitch: Family,
 }
 
 /// The families of all nodes, in file order.
-fn families(nodes: &[Node], product: Product) -> Vec<Families> {
+pub fn families(nodes: &[Node], product: Product) -> Vec<Families> {
     let spread = |f: &Family, g: &Family| product(f, g).union(f).union(g).union(&Family::of(0));
     let mut all: Vec<Families> = Vec::with_capacity(nodes.len());
     for node in nodes {
@@ -238,32 +269,18 @@ fn families(nodes: &[Node], product: Product) -> Vec<Families> {
 }
 
 /// The lowest tested node with a suspect set, and its lowest-numbered one.
-fn first_suspect<'a>(
+pub fn first_suspect<'a>(
     netlist: &Netlist,
     layer: impl Iterator<Item = &'a Family>,
 ) -> Option<(usize, u16)> {
-    let variables_of = |class| -> u16 {
-        netlist
-            .variables
-            .iter()
-            .enumerate()
-            .filter(|(_, c)| **c == class)
-            .map(|(v, _)| 1 << v)
-            .sum()
-    };
-    let (secrets, masks) = (variables_of(Class::Secret), variables_of(Class::Mask));
+    let suspect = netlist.suspect();
     netlist
         .nodes
         .iter()
         .zip(layer)
         .enumerate()
-        .filter(|(_, (node, _))| !matches!(node, Node::Input(_)))
-        .find_map(|(i, (_, family))| {
-            let set = family
-                .sets()
-                .find(|set| set & secrets != 0 && set & masks == 0)?;
-            Some((i, set))
-        })
+        .filter(|(_, (node, _))| node.tested())
+        .find_map(|(i, (_, family))| Some((i, family.sets().find(|set| suspect(*set))?)))
 }
 
 /// The listing's text for these netlist bytes.

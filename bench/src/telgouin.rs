@@ -1,4 +1,6 @@
-//! The checker's exported function. A slice passes as pointer and length.
+//! The exported functions of the checker and of `bench/pairs`. A slice passes as pointer and length.
+
+use crate::pairs::{Found, Search};
 
 /// How many bytes have room for every listing.
 pub const MOST_TEXT: usize = 3654;
@@ -10,6 +12,8 @@ extern "C" {
         text: *mut u8,
         text_len: usize,
     ) -> usize;
+
+    fn telgouin_pairs(bytes: *const u8, bytes_len: usize, limit: usize) -> usize;
 }
 
 /// Writes the listing to the front of `text`, and returns how many bytes it has; a slice that is
@@ -17,4 +21,23 @@ extern "C" {
 pub fn listing(bytes: &[u8], text: &mut [u8]) -> usize {
     // SAFETY: both pointers are valid for their lengths, and the function requires nothing more.
     unsafe { telgouin_listing(bytes.as_ptr(), bytes.len(), text.as_mut_ptr(), text.len()) }
+}
+
+/// The search over pairs under a limit.
+pub fn pairs(bytes: &[u8], limit: usize) -> Search {
+    // SAFETY: the pointer is valid for the length, and the function requires nothing more.
+    let packed = unsafe { telgouin_pairs(bytes.as_ptr(), bytes.len(), limit) };
+    let number = |k: usize| (packed >> (24 - 12 * k)) & 0xfff;
+    let found = match (packed >> 36) & 0xf {
+        0 => Found::Refused(number(0), number(1)),
+        1 => Found::Single(number(0), number(1)),
+        2 => Found::NoPair,
+        3 => Found::Pair(number(0), number(1), number(2)),
+        4 => Found::Spent,
+        case => panic!("telgouin_pairs gives case {case}"),
+    };
+    Search {
+        found,
+        looked: packed >> 40,
+    }
 }

@@ -2,6 +2,8 @@
 
 use crate::blocks::{block, Kind, Random};
 use crate::compare::Tally;
+use crate::pairs::{self, Found};
+use crate::plain;
 use crate::telgouin::MOST_TEXT;
 use crate::ways::WAYS;
 
@@ -48,20 +50,80 @@ pub fn measure(cells: &mut [Cell]) {
     for _ in 0..ROUNDS {
         for cell in cells.iter_mut() {
             for (way, time) in WAYS.iter().zip(&mut cell.times) {
-                let start = thread_seconds();
-                let mut checked = 0;
-                let mut seconds = 0.0;
-                while seconds < ROUND_SECONDS {
-                    for bytes in &cell.blocks {
-                        way.check(bytes, &mut text);
-                    }
-                    checked += cell.blocks.len();
-                    seconds = thread_seconds() - start;
-                }
-                *time = time.min(seconds * 1e6 / checked as f64);
+                let seconds = round(&cell.blocks, |bytes| way.check(bytes, &mut text));
+                *time = time.min(seconds * 1e6);
             }
         }
     }
+}
+
+/// Blocks of one kind and size where no pair is suspect.
+pub struct PairsCell {
+    kind: Kind,
+    nodes: usize,
+    blocks: Vec<Vec<u8>>,
+    tested: usize,
+    pairs: usize,
+    /// The mean number of sets in a glitch family of a tested node.
+    sets: f64,
+    /// Milliseconds a block, for each way to search.
+    times: [f64; 3],
+}
+
+impl PairsCell {
+    /// Makes the blocks of a kind and size, with 10 variables, and compares them.
+    pub fn new(kind: Kind, nodes: usize, tally: &mut Tally) -> PairsCell {
+        let mut random = Random(nodes as u64);
+        let blocks = [(); 2].map(|()| block(kind, nodes, 10, &mut random));
+        let mut sets = 0.0;
+        let (mut tested, mut pairs) = (0, 0);
+        for bytes in &blocks {
+            tally.compare(bytes);
+            let plain = pairs::Block::new(bytes, plain::by_words);
+            let search = plain.search(usize::MAX);
+            assert_eq!(
+                search.found,
+                Found::NoPair,
+                "a block to measure has no pair"
+            );
+            (tested, pairs) = (plain.tested(), search.looked);
+            sets += f64::from(plain.sets()) / (tested * blocks.len()) as f64;
+        }
+        PairsCell {
+            kind,
+            nodes,
+            blocks: blocks.to_vec(),
+            tested,
+            pairs,
+            sets,
+            times: [f64::INFINITY; 3],
+        }
+    }
+}
+
+/// Measures the searches over all pairs, as `measure` does the listings.
+pub fn measure_pairs(cells: &mut [PairsCell]) {
+    for _ in 0..ROUNDS {
+        for cell in cells.iter_mut() {
+            for (way, time) in WAYS.iter().zip(&mut cell.times) {
+                let seconds = round(&cell.blocks, |bytes| way.search(bytes));
+                *time = time.min(seconds * 1e3);
+            }
+        }
+    }
+}
+
+/// Goes through the blocks, once or until a round's time is over, and gives the seconds a block.
+fn round(blocks: &[Vec<u8>], mut check: impl FnMut(&[u8])) -> f64 {
+    let start = thread_seconds();
+    let mut checked = 0;
+    let mut seconds = 0.0;
+    while seconds < ROUND_SECONDS {
+        blocks.iter().for_each(|bytes| check(bytes));
+        checked += blocks.len();
+        seconds = thread_seconds() - start;
+    }
+    seconds / checked as f64
 }
 
 /// The processor time that this thread has taken: what other programs take is not in it.
@@ -122,6 +184,36 @@ pub fn print_table<'a>(
             telgouin / words,
         ];
         println!("| {} | {} |", name(cell), figures.map(figure).join(" | "));
+    }
+}
+
+/// The table of the searches over all pairs.
+pub fn print_pairs(title: &str, cells: &[PairsCell]) {
+    println!("\n{title}\n");
+    println!(
+        "| block | tested nodes | pairs of nodes | sets a glitch family | Telgouin, ms | pairs, ms \
+         | words, ms | Telgouin / pairs | Telgouin / words | Telgouin, µs a pair |"
+    );
+    println!("|---|{}", "---:|".repeat(9));
+    for cell in cells {
+        let [telgouin, pairs, words] = cell.times;
+        let figures = [
+            cell.sets,
+            telgouin,
+            pairs,
+            words,
+            telgouin / pairs,
+            telgouin / words,
+            telgouin * 1e3 / cell.pairs as f64,
+        ];
+        println!(
+            "| {}, {} nodes | {} | {} | {} |",
+            cell.kind,
+            cell.nodes,
+            cell.tested,
+            figure(cell.pairs as f64),
+            figures.map(figure).join(" | ")
+        );
     }
 }
 

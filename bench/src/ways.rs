@@ -3,6 +3,7 @@
 use std::fmt;
 use std::hint::black_box;
 
+use crate::pairs;
 use crate::plain;
 use crate::telgouin;
 
@@ -30,6 +31,17 @@ impl Way {
                 black_box(plain::listing(bytes, plain::by_words));
             }
         }
+    }
+
+    /// Searches over all pairs of these bytes.
+    pub fn search(self, bytes: &[u8]) {
+        let bytes = black_box(bytes);
+        let limit = black_box(usize::MAX);
+        black_box(match self {
+            Way::Telgouin => telgouin::pairs(bytes, limit),
+            Way::Pairs => pairs::Block::new(bytes, plain::by_pairs).search(limit),
+            Way::Words => pairs::Block::new(bytes, plain::by_words).search(limit),
+        });
     }
 }
 
