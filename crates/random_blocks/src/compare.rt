@@ -1,20 +1,24 @@
 // Compares the checker and the queries with the second checker over random blocks, valid and damaged, in slices of many
 // lengths: replies with number and place, node records, families, what lies beyond them, and the three queries. Prints what it
 // saw, and how often a reply, a slice or a query differs.
-use crate::generator;
-use crate::generator::Shape;
-use crate::generator::next;
-use crate::generator::pick;
-use crate::second;
-use crate::second::Block;
-use crate::second::Store;
-use crate::second::number_if;
-use rules::Half;
-use rules::Node;
 use rules::QueryOutcome;
 use rules::Reply;
+use second::Block;
+use second::Store;
+use second::generator;
+use second::generator::Shape;
+use second::generator::next;
+use second::generator::pick;
+use second::number_if;
+use second::outcome::Expected;
+use second::outcome::Lent;
+use second::outcome::Work;
+use second::outcome::expected_check;
+use second::outcome::families_differ;
+use second::outcome::lengths_for;
+use second::outcome::same_answer;
+use second::outcome::same_entries;
 use std::num::wrapping_add_usize;
-use tools::least;
 use tools::one_if;
 use tools::print_counts;
 
@@ -57,60 +61,11 @@ struct State {
     tally: Tally,
 }
 
-// The work bytes, of which a check is lent the front.
-type Work = [u8; 51200];
-
-// A refusal's number and place; number 0 where there is none.
-struct Expected {
-    number: usize,
-    place: usize,
-}
-
-// How many entries and work bytes are lent.
-struct Lent {
-    entries: usize,
-    work: usize,
-}
-
 fn count(tally: &mut Tally, at: usize, more: usize) {
     tally[at % 36] = wrapping_add_usize(tally[at % 36], more);
 }
 
 // ---- the check
-
-// What a check of a block is refused with.
-fn expected_check(block: Block, lent: Lent) -> Expected {
-    let needed = block.count % 256 * 256;
-    if block.fault > 0 {
-        return Expected {
-            number: block.fault,
-            place: block.start,
-        };
-    }
-    if lent.entries < block.count {
-        return Expected {
-            number: 10,
-            place: block.count,
-        };
-    }
-    Expected {
-        number: number_if(lent.work < needed, 11),
-        place: needed,
-    }
-}
-
-// A half as the second checker gives it.
-fn half_number(half: Half) -> usize {
-    match half {
-        Half::Clear => second::NONE,
-        Half::Suspect(node, set) => {
-            if (node > 199) | (set > 1023) {
-                return second::NONE + 1;
-            }
-            node % 200 * 1024 + set % 1024
-        }
-    }
-}
 
 // Whether a reply is the expected one, with the second checker's suspects where there is an answer.
 fn same_reply(
@@ -126,62 +81,9 @@ fn same_reply(
                 & (rules::place_of(refusal) == expected.place)
         }
         Reply::Answered(answer) => {
-            let settled_half = answer.settled;
-            let glitch_half = answer.glitch;
-            (expected.number == 0)
-                & (answer.variables == block.variables)
-                & (answer.nodes == block.count)
-                & (half_number(settled_half) == settled)
-                & (half_number(glitch_half) == glitch)
+            (expected.number == 0) & same_answer(answer, block, settled, glitch)
         }
     }
-}
-
-// Whether the first `written` entries are the block's.
-fn same_entries(nodes: [Node; 200], block: Block, written: usize) -> bool {
-    let mut same = true;
-    let mut i = 0;
-    while i < 200 {
-        let a = nodes[i];
-        let b = block.nodes[i];
-        let alike = (a.kind == b.kind)
-            & (a.first == b.first)
-            & (a.second == b.second)
-            & (a.set == b.set);
-        same = same & (alike | (i >= written));
-        i += 1;
-    }
-    same
-}
-
-// Takes the sets of a list out of its family in the work bytes. A set that is not there goes in.
-fn take_out(work: &mut Work, store: &Store, list: usize) {
-    let many = second::length_of(store, list);
-    let part = list % 200 * 256 + list / 200 % 2 * 128;
-    let mut k = 0;
-    while k < many {
-        let set = second::set_at(store, list, k) % 1024;
-        work[part + set / 8] = work[part + set / 8] ^ (1u8 << (set % 8));
-        k += 1;
-    }
-}
-
-// Whether the families in the work bytes of an answered block are not the lists: with all sets of the lists taken out, a bit is left.
-fn families_differ(work: &mut Work, store: &Store, count: usize) -> bool {
-    let mut list = 0;
-    while list < second::LISTS {
-        take_out(work, store, list);
-        list += 1;
-    }
-    let mut left = 0;
-    let mut k = 0;
-    while k < 51200 {
-        if k / 256 < count {
-            left = left | work[k];
-        }
-        k += 1;
-    }
-    left != 0
 }
 
 // Counts an answered block: its nodes, its suspects, and the sets of its families.
@@ -354,31 +256,6 @@ fn shape_of(seed: u32, turn: usize) -> Shape {
         nodes,
         mix,
         near,
-    }
-}
-
-// Just as many entries and work bytes as a block of so many nodes needs, or some more, or too few.
-fn lengths_for(seed: u32, nodes: usize) -> Lent {
-    let second = next(seed);
-    let third = next(second);
-    let needed = nodes % 256 * 256;
-    match pick(seed, 8) {
-        0 => Lent {
-            entries: pick(second, nodes),
-            work: pick(third, needed + 1),
-        },
-        1 => Lent {
-            entries: nodes,
-            work: pick(third, needed),
-        },
-        2 | 3 | 4 => Lent {
-            entries: nodes,
-            work: needed,
-        },
-        _ => Lent {
-            entries: least(200, nodes % 256 + pick(second, 3)),
-            work: least(51200, needed + pick(third, 300)),
-        },
     }
 }
 

@@ -2,22 +2,19 @@
 // queries, classes and kinds those that the second checker reads. Where the checker's glitch half is clear, the number of mask
 // settings that give a pattern must be the same for all settings of the secrets, at every tested node; where the counts of a node
 // differ, the checker must have named a suspect at that node or a lower one.
-use crate::generator;
-use crate::generator::Shape;
-use crate::generator::next;
-use crate::generator::pick;
-use crate::second;
-use crate::second::number_if;
+use counting::NODES;
 use rules::Half;
 use rules::Reply;
+use second::generator;
+use second::generator::Shape;
+use second::generator::next;
+use second::generator::pick;
+use second::number_if;
 use std::num::wrapping_add_usize;
 use tools::one_if;
 use tools::print_counts;
 
 const BLOCKS: usize = 1500;
-
-// A block here has fewer nodes than this, and at most 32 assignments.
-const NODES: usize = 12;
 
 // What was seen: counts, in the order of the names that `run` prints. The first two are of clear blocks, the next two of suspect ones.
 type Tally = [usize; 7];
@@ -46,36 +43,6 @@ fn patterns_of(bytes: &[u8], node: usize) -> [usize; 32] {
     patterns
 }
 
-// How many mask settings give a pattern, where the variables that are no masks are `fixed`.
-fn settings(patterns: [usize; 32], pattern: usize, masks: usize, fixed: usize) -> usize {
-    let mut count = 0;
-    let mut y = 0;
-    while y < 32 {
-        let gives = (patterns[y] == pattern) & (y & (31 ^ masks) == fixed);
-        count = wrapping_add_usize(count, one_if(gives));
-        y += 1;
-    }
-    count
-}
-
-// Whether there are a pattern, a setting of the publics and two settings of the secrets for which the counts differ: one of the secrets
-// is that all are 0. A pattern that no assignment gives has count 0 throughout.
-fn node_differs(patterns: [usize; 32], secrets: usize, masks: usize) -> bool {
-    let mut differs = false;
-    let mut k = 0;
-    while k < 1024 {
-        let pattern = patterns[k / 32];
-        let publics = k / 32 & (31 ^ (secrets | masks));
-        let setting = k % 32;
-        if setting & secrets == setting {
-            let here = settings(patterns, pattern, masks, publics | setting);
-            differs = differs | (here != settings(patterns, pattern, masks, publics));
-        }
-        k += 1;
-    }
-    differs
-}
-
 // The number of tested nodes, of those whose counts differ, and the lowest of these (or NODES).
 struct Counted {
     tested: usize,
@@ -96,7 +63,7 @@ fn count_block(bytes: &[u8]) -> Counted {
         let entry = block.nodes[node % 200];
         if entry.kind != 2 {
             let patterns = patterns_of(bytes, node);
-            let differs = node_differs(patterns, block.classes[0], block.classes[1]);
+            let differs = counting::counts_differ(&patterns, block.classes[0], block.classes[1]);
             counted.tested = wrapping_add_usize(counted.tested, 1);
             counted.differ = wrapping_add_usize(counted.differ, one_if(differs));
             counted.lowest = if differs { node } else { counted.lowest };

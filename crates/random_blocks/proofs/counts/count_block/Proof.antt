@@ -27,14 +27,14 @@ element-copy-out-entry c = search needs
 patterns-of-requires : tie.Need-patterns-of-requires Inv-loop μ-loop
 patterns-of-requires c κs = search needs
 
-element-copy-out-node-differs : tie.Need-element-copy-out-node-differs Inv-loop μ-loop
-element-copy-out-node-differs c = search needs
+element-copy-out-counts-differ : tie.Need-element-copy-out-counts-differ Inv-loop μ-loop
+element-copy-out-counts-differ c = search needs
 
-element-copy-out-node-differs-2 : tie.Need-element-copy-out-node-differs-2 Inv-loop μ-loop
-element-copy-out-node-differs-2 c = search needs
+element-copy-out-counts-differ-2 : tie.Need-element-copy-out-counts-differ-2 Inv-loop μ-loop
+element-copy-out-counts-differ-2 c = search needs
 
-node-differs-requires : tie.Need-node-differs-requires Inv-loop μ-loop
-node-differs-requires c κs = search needs
+counts-differ-requires : tie.Need-counts-differ-requires Inv-loop μ-loop
+counts-differ-requires c κs = search needs
 
 wrapping-add-usize-requires : tie.Need-wrapping-add-usize-requires Inv-loop μ-loop
 wrapping-add-usize-requires c κs = search needs
@@ -78,9 +78,9 @@ count-block-spec =
     mul-entry
     element-copy-out-entry
     patterns-of-requires
-    element-copy-out-node-differs
-    element-copy-out-node-differs-2
-    node-differs-requires
+    element-copy-out-counts-differ
+    element-copy-out-counts-differ-2
+    counts-differ-requires
     wrapping-add-usize-requires
     one-if-requires
     wrapping-add-usize-requires-2

@@ -1,0 +1,86 @@
+-- `counting::count_pairs` is safe and ends: each turn leaves fewer pairs. Assumes nothing.
+use borrow.Author.Needs.{needs}
+use Prim.Native.Nat.{_-_, _≤_}
+use Rattle.counting.proofs.count_pairs.Statement.{statement}
+use Rattle.counting.proofs.count_pairs.Tie as tie
+
+abbrev Inv-loop : tie.InvT-loop
+Inv-loop store secrets masks tested counted₀ k₀ counted k = k ≤ 144
+
+abbrev μ-loop : tie.MeasureT-loop
+μ-loop store secrets masks tested counted₀ k₀ counted k = 144 - k
+
+element-copy-out-secrets : tie.Need-element-copy-out-secrets Inv-loop μ-loop
+element-copy-out-secrets c = search needs
+
+element-copy-out-masks : tie.Need-element-copy-out-masks Inv-loop μ-loop
+element-copy-out-masks c = search needs
+
+tested-nodes-requires : tie.Need-tested-nodes-requires Inv-loop μ-loop
+tested-nodes-requires c κs = search needs
+
+loop-holds : tie.Need-loop-holds Inv-loop μ-loop
+loop-holds c = search needs
+
+mul-i : tie.Need-mul-i Inv-loop μ-loop
+mul-i c = search needs
+
+element-copy-out-i : tie.Need-element-copy-out-i Inv-loop μ-loop
+element-copy-out-i c = search needs
+
+mul-j : tie.Need-mul-j Inv-loop μ-loop
+mul-j c = search needs
+
+element-copy-out-j : tie.Need-element-copy-out-j Inv-loop μ-loop
+element-copy-out-j c = search needs
+
+wrapping-add-usize-requires : tie.Need-wrapping-add-usize-requires Inv-loop μ-loop
+wrapping-add-usize-requires c κs = search needs
+
+pair-differs-requires : tie.Need-pair-differs-requires Inv-loop μ-loop
+pair-differs-requires c κs = search needs
+
+position-of-requires : tie.Need-position-of-requires Inv-loop μ-loop
+position-of-requires c κs = search needs
+
+number-if-requires : tie.Need-number-if-requires Inv-loop μ-loop
+number-if-requires c κs = search needs
+
+least-requires : tie.Need-least-requires Inv-loop μ-loop
+least-requires c κs = search needs
+
+add-k : tie.Need-add-k Inv-loop μ-loop
+add-k c = search needs
+
+loop-less : tie.Need-loop-less Inv-loop μ-loop
+loop-less c = search needs
+
+loop-again : tie.Need-loop-again Inv-loop μ-loop
+loop-again c = search needs
+
+returns : tie.Need-returns Inv-loop μ-loop
+returns c = search needs
+
+pub count-pairs-spec : {M : Type 1} → statement M
+count-pairs-spec =
+    tie.close
+    (tie.spec
+    Inv-loop
+    μ-loop
+    element-copy-out-secrets
+    element-copy-out-masks
+    tested-nodes-requires
+    loop-holds
+    mul-i
+    element-copy-out-i
+    mul-j
+    element-copy-out-j
+    wrapping-add-usize-requires
+    pair-differs-requires
+    position-of-requires
+    number-if-requires
+    least-requires
+    add-k
+    loop-less
+    loop-again
+    returns)

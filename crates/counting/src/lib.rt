@@ -1,0 +1,95 @@
+// Mask settings counted by force, over blocks of few variables and nodes: whether the number of those that give a pattern differs
+// between settings of the secrets. For test programs.
+use second::Block;
+use second::Store;
+use second::least;
+use second::number_if;
+use std::num::wrapping_add_usize;
+
+// A block that is counted has fewer nodes than this, and at most 32 assignments.
+pub const NODES: usize = 12;
+
+// A position behind those of all pairs.
+pub const NONE: usize = 100;
+
+// The pattern of the feeding points of two nodes under each assignment: bit k is the value of node k, where that feeds one of them.
+fn patterns_of(store: &Store, i: usize, j: usize) -> [usize; 32] {
+    let mut patterns = [0usize; 32];
+    let mut k = 0;
+    while k < 384 {
+        let point = k / 32;
+        let feeds = second::has_bit(store, i, 1024 + point)
+            | second::has_bit(store, j, 1024 + point);
+        let value = feeds & second::has_bit(store, point, k % 32);
+        patterns[k % 32] = patterns[k % 32] | (number_if(value, 1) << point);
+        k += 1;
+    }
+    patterns
+}
+
+// How many mask settings give a pattern, where the variables that are no masks are `fixed`.
+fn settings(patterns: &[usize; 32], pattern: usize, masks: usize, fixed: usize) -> usize {
+    let mut count = 0;
+    let mut y = 0;
+    while y < 32 {
+        let gives = (patterns[y] == pattern) & (y & (31 ^ masks) == fixed);
+        count = wrapping_add_usize(count, number_if(gives, 1));
+        y += 1;
+    }
+    count
+}
+
+// Whether there are a pattern, a setting of the publics and two settings of the secrets for which the counts differ: one of the secrets
+// is that all are 0. Any assignment gives a pattern and a setting; what the counts of all patterns come to is the same for any setting, so
+// where no such count differs, no pattern is left that only the secrets 0 give.
+pub fn counts_differ(patterns: &[usize; 32], secrets: usize, masks: usize) -> bool {
+    let mut differs = false;
+    let mut x = 0;
+    while x < 32 {
+        let pattern = patterns[x];
+        let here = settings(patterns, pattern, masks, x & (31 ^ masks));
+        let there = settings(patterns, pattern, masks, x & (31 ^ (masks | secrets)));
+        differs = differs | (here != there);
+        x += 1;
+    }
+    differs
+}
+
+// Whether the counts of two nodes together differ.
+fn pair_differs(store: &Store, i: usize, j: usize, secrets: usize, masks: usize) -> bool {
+    let patterns = patterns_of(store, i, j);
+    counts_differ(&patterns, secrets, masks)
+}
+
+// How many pairs of tested nodes there are, those of a node with itself among them; and the lowest position of one whose counts differ, or
+// `NONE`. Of a node with itself it is 0.
+pub struct Counted {
+    pub pairs: usize,
+    pub lowest: usize,
+}
+
+pub fn count_pairs(block: Block, store: &Store) -> Counted {
+    let secrets = block.classes[0];
+    let masks = block.classes[1];
+    let tested = second::tested_nodes(block);
+    let mut counted = Counted {
+        pairs: 0,
+        lowest: NONE,
+    };
+    let mut k = 0;
+    while k < 144 {
+        let a = k % NODES;
+        let b = k / NODES;
+        if (a <= b) & (b < tested.count) {
+            let i = tested.nodes[a];
+            let j = tested.nodes[b];
+            counted.pairs = wrapping_add_usize(counted.pairs, 1);
+            if pair_differs(store, i, j, secrets, masks) {
+                let position = number_if(a < b, second::position_of(a, b));
+                counted.lowest = least(position, counted.lowest);
+            }
+        }
+        k += 1;
+    }
+    counted
+}

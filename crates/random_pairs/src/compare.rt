@@ -1,0 +1,262 @@
+// Compares the checker with two probes with the second checker over random blocks, valid and damaged, in slices of many lengths and
+// under many limits: replies with number and place, the answer for one probe, what the search over pairs finds and how many it
+// looks at, node records, families, and what lies beyond them. Prints what it saw, and how often a reply or a slice differs.
+use pair_search::Found;
+use pair_search::Search;
+use pairs::PairsReply;
+use rules::Half;
+use second::Block;
+use second::Store;
+use second::generator;
+use second::generator::Shape;
+use second::generator::next;
+use second::generator::pick;
+use second::number_if;
+use second::outcome::Expected;
+use second::outcome::Lent;
+use second::outcome::NO_PAIR;
+use second::outcome::NOTHING_TO_LOOK_AT;
+use second::outcome::PAIR;
+use second::outcome::SINGLE;
+use second::outcome::SPENT;
+use second::outcome::Sought;
+use second::outcome::Work;
+use second::outcome::expected_check;
+use second::outcome::families_differ;
+use second::outcome::half_number;
+use second::outcome::lengths_for;
+use second::outcome::same_answer;
+use second::outcome::same_entries;
+use second::outcome::seek;
+use std::num::wrapping_add_usize;
+use tools::one_if;
+use tools::print_counts;
+
+const BLOCKS: usize = 2000;
+
+// What was seen: counts, in the order of the names that `run` prints.
+pub(crate) type Tally = [usize; 24];
+
+// The checks answered, and behind them those refused with 1 to 11.
+const CHECKS: usize = 1;
+
+// The searches, by what they find.
+const SEARCHES: usize = 13;
+
+const LOOKED: usize = 18;
+
+const HIGHEST: usize = 19;
+
+const JUST_THE_PAIR: usize = 20;
+
+const JUST_SHORT: usize = 21;
+
+const JUST_ALL: usize = 22;
+
+const DIFFERENCES: usize = 23;
+
+// The generator's state, and what was seen.
+pub(crate) struct State {
+    pub(crate) seed: u32,
+    pub(crate) tally: Tally,
+}
+
+pub(crate) fn count(tally: &mut Tally, at: usize, more: usize) {
+    tally[at % 24] = wrapping_add_usize(tally[at % 24], more);
+}
+
+// ---- the search over pairs
+
+// Whether a search finds what is sought.
+fn same_search(search: Search, sought: Sought) -> bool {
+    let found = search.found;
+    let first = sought.first;
+    let finds = sought.finds;
+    let same = match found {
+        Found::Single(node, set) => {
+            (finds == SINGLE) & (half_number(Half::Suspect(node, set)) == sought.single)
+        }
+        Found::NoPair => (finds == NO_PAIR) | (finds == NOTHING_TO_LOOK_AT),
+        Found::Pair(i, j, set) => {
+            (finds == PAIR) & (i == first.i) & (j == first.j) & (set == first.set)
+        }
+        Found::Spent => finds == SPENT,
+    };
+    same & (search.looked == sought.looked)
+}
+
+// Counts the search of an answered block.
+fn count_search(tally: &mut Tally, sought: Sought) {
+    let first = sought.first;
+    let finds = sought.finds;
+    let limit = sought.limit;
+    let short = (first.position <= first.pairs) & (wrapping_add_usize(limit, 1) == first.position);
+    count(tally, SEARCHES + finds % 5, 1);
+    count(tally, LOOKED, sought.looked);
+    count(
+        tally,
+        JUST_THE_PAIR,
+        one_if((finds == PAIR) & (limit == first.position)),
+    );
+    count(tally, JUST_SHORT, one_if((finds == SPENT) & short));
+    count(
+        tally,
+        JUST_ALL,
+        one_if((finds == NO_PAIR) & (limit == first.pairs)),
+    );
+    if (finds == PAIR) & (first.position > tally[HIGHEST]) {
+        tally[HIGHEST] = first.position;
+    }
+}
+
+// ---- the check
+
+// Whether a reply is the expected one, with the second checker's suspects and search where there is an answer.
+fn same_reply(
+    reply: PairsReply,
+    expected: Expected,
+    block: Block,
+    settled: usize,
+    sought: Sought,
+) -> bool {
+    match reply {
+        PairsReply::Refused(refusal) => {
+            (rules::number_of(refusal) == expected.number)
+                & (rules::place_of(refusal) == expected.place)
+        }
+        PairsReply::Answered(both) => {
+            let answer = both.answer;
+            let search = both.search;
+            (expected.number == 0)
+                & same_answer(answer, block, settled, sought.single)
+                & same_search(search, sought)
+        }
+    }
+}
+
+// Compares the check of a block over so many entries and these work bytes. Tells whether it is to be answered.
+fn compare_check(
+    tally: &mut Tally,
+    bytes: &[u8],
+    block: Block,
+    store: &Store,
+    lent: Lent,
+    sought: Sought,
+    work: &mut [u8],
+) -> bool {
+    let expected = expected_check(block, lent);
+    let settled = second::first_suspect(block, store, 0);
+    let before = trial::entry_before();
+    let seen = trial::check_pairs_over(bytes, lent.entries, before, work, sought.limit);
+    let reply = seen.reply;
+    let nodes = seen.nodes;
+    let answered = expected.number == 0;
+    let written = number_if(answered, block.count % 256);
+    let same = same_reply(reply, expected, block, settled, sought)
+        & same_entries(nodes, block, written)
+        & (trial::entries_kept_from(nodes) <= written)
+        & (trial::work_kept_from(work) <= 256 * written);
+    count(tally, CHECKS + expected.number % 12, 1);
+    count(tally, DIFFERENCES, one_if(!same));
+    answered
+}
+
+// ---- the blocks
+
+// Mostly two to six variables and up to 40 nodes with many registers; some with ten variables, some with one variable or one node more
+// than there may be, and some long ones, in which hardly a node is an input.
+fn shape_of(seed: u32, turn: usize) -> Shape {
+    let second = next(seed);
+    let third = next(second);
+    let fourth = next(third);
+    let mut variables = 2 + pick(seed, 5);
+    let mut nodes = 2 + pick(second, 39);
+    let mut mix = generator::REGISTERED;
+    if pick(third, 2) > 0 {
+        mix = generator::MASKED;
+    }
+    match turn % 50 {
+        1 | 2 => variables = 10,
+        3 => {
+            variables = 11;
+            nodes = pick(second, 5);
+        }
+        4 => {
+            variables = 2;
+            nodes = 201;
+        }
+        5 => {
+            variables = 7 + pick(seed, 4);
+            nodes = 100 + pick(second, 101);
+            mix = generator::LONG;
+        }
+        _ => {}
+    }
+    Shape {
+        seed: fourth,
+        variables,
+        labels: variables % 16 + number_if(pick(fourth, 16) == 0, 1),
+        nodes,
+        mix,
+        near: 256,
+    }
+}
+
+// The work bytes before a check.
+fn work_before() -> Work {
+    let mut work = [0u8; 51200];
+    trial::fill(&mut work);
+    work
+}
+
+// Compares what both checkers say of a block. Gives the generator's state after it.
+fn compare_block(tally: &mut Tally, seed: u32, bytes: &[u8]) -> u32 {
+    let mut store = [0u16; 427024];
+    let mut work = work_before();
+    let block = second::work_out(bytes, &mut store);
+    let lent = lengths_for(seed, block.count);
+    let after = next(next(next(seed)));
+    let sought = seek(after, block, &store);
+    let m = lent.work % 51201;
+    let answered = compare_check(tally, bytes, block, &store, lent, sought, &mut work[..m]);
+    if answered {
+        count_search(tally, sought);
+        let differ = families_differ(&mut work, &store, block.count);
+        count(tally, DIFFERENCES, one_if(differ));
+    }
+    next(next(after))
+}
+
+// Makes a block and compares it. Gives what was seen with it, and the state after it.
+fn one_block(state: State, turn: usize) -> State {
+    let whole = generator::block(shape_of(state.seed, turn));
+    let made = generator::damaged(whole);
+    let bytes = generator::bytes_of(made);
+    let n = made.length % 1025;
+    let mut tally = state.tally;
+    count(&mut tally, 0, 1);
+    let seed = compare_block(&mut tally, next(made.seed), &bytes[..n]);
+    State { seed, tally }
+}
+
+fn print_tally(tally: Tally) {
+    print_counts(
+        b"blocks\nanswered\nchecks refused with 1:\nchecks refused with 2:\nchecks refused with 3:\nchecks refused with 4:\nchecks refused with 5:\nchecks refused with 6:\nchecks refused with 7:\nchecks refused with 8:\nchecks refused with 9:\nchecks refused with 10:\nchecks refused with 11:\nsingle suspects\nno pair\npairs found\nlimit spent\nno pair to look at\npairs looked at\nhighest position\nlimit just the position\nlimit one below it\nlimit just the number of pairs\ndifferences\n",
+        &tally,
+    );
+}
+
+// Compares all blocks, and prints what was seen.
+pub(crate) fn run() {
+    let mut state = State {
+        seed: 1,
+        tally: [0; 24],
+    };
+    let mut turn = 0;
+    while turn < BLOCKS {
+        state = one_block(state, turn);
+        turn += 1;
+    }
+    let tally = state.tally;
+    print_tally(tally);
+}

@@ -1,0 +1,81 @@
+-- `second::first_suspect` is safe and ends: each turn leaves fewer nodes. Assumes nothing.
+use borrow.Author.Needs.{needs}
+use Rattle.second.proofs.first_suspect.Statement.{statement}
+use Rattle.second.proofs.first_suspect.Tie as tie
+
+abbrev Inv-loop : tie.InvT-loop
+Inv-loop store layer block found₀ i₀ found i = Unit
+
+abbrev μ-loop : tie.MeasureT-loop
+μ-loop store layer block found₀ i₀ found i = i
+
+loop-holds : tie.Need-loop-holds Inv-loop μ-loop
+loop-holds c = search needs
+
+sub-i : tie.Need-sub-i Inv-loop μ-loop
+sub-i c = search needs
+
+mul-node : tie.Need-mul-node Inv-loop μ-loop
+mul-node c = search needs
+
+element-copy-out-node : tie.Need-element-copy-out-node Inv-loop μ-loop
+element-copy-out-node c = search needs
+
+mul-suspect-set : tie.Need-mul-suspect-set Inv-loop μ-loop
+mul-suspect-set c = search needs
+
+add-suspect-set : tie.Need-add-suspect-set Inv-loop μ-loop
+add-suspect-set c = search needs
+
+element-copy-out-suspect-set : tie.Need-element-copy-out-suspect-set Inv-loop μ-loop
+element-copy-out-suspect-set c = search needs
+
+element-copy-out-suspect-set-2 : tie.Need-element-copy-out-suspect-set-2 Inv-loop μ-loop
+element-copy-out-suspect-set-2 c = search needs
+
+suspect-set-requires : tie.Need-suspect-set-requires Inv-loop μ-loop
+suspect-set-requires c κs = search needs
+
+mul-found : tie.Need-mul-found Inv-loop μ-loop
+mul-found c = search needs
+
+add-found : tie.Need-add-found Inv-loop μ-loop
+add-found c = search needs
+
+loop-less : tie.Need-loop-less Inv-loop μ-loop
+loop-less c = search needs
+
+loop-again : tie.Need-loop-again Inv-loop μ-loop
+loop-again c = search needs
+
+loop-less-2 : tie.Need-loop-less-2 Inv-loop μ-loop
+loop-less-2 c = search needs
+
+loop-again-2 : tie.Need-loop-again-2 Inv-loop μ-loop
+loop-again-2 c = search needs
+
+returns : tie.Need-returns Inv-loop μ-loop
+returns c = search needs
+
+pub first-suspect-spec : {M : Type 1} → statement M
+first-suspect-spec =
+    tie.close
+    (tie.spec
+    Inv-loop
+    μ-loop
+    loop-holds
+    sub-i
+    mul-node
+    element-copy-out-node
+    mul-suspect-set
+    add-suspect-set
+    element-copy-out-suspect-set
+    element-copy-out-suspect-set-2
+    suspect-set-requires
+    mul-found
+    add-found
+    loop-less
+    loop-again
+    loop-less-2
+    loop-again-2
+    returns)
