@@ -34,7 +34,7 @@ use tools::print_counts;
 
 const BLOCKS: usize = 2000;
 
-// What was seen: counts, in the order of the names that `run` prints.
+// What was seen: counts, in the order of the names that are printed.
 pub(crate) type Tally = [usize; 24];
 
 // The checks answered, and behind them those refused with 1 to 11.
@@ -43,10 +43,14 @@ const CHECKS: usize = 1;
 // The searches, by what they find.
 const SEARCHES: usize = 13;
 
+// The pairs that are looked at, all together.
 const LOOKED: usize = 18;
 
+// The highest position of a pair that is found.
 const HIGHEST: usize = 19;
 
+// The limit is just the position of the pair that is found; it is one below the first suspect pair; it is just the number of pairs, none
+// of which is suspect.
 const JUST_THE_PAIR: usize = 20;
 
 const JUST_SHORT: usize = 21;

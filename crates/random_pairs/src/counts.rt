@@ -36,7 +36,7 @@ fn found_position(bytes: &[u8]) -> usize {
     }
 }
 
-// Counts a block.
+// Counts a block, in the order of the names that are printed.
 fn try_block(tally: &mut Tally, bytes: &[u8]) {
     let mut store = [0u16; 427024];
     let block = second::work_out(bytes, &mut store);
