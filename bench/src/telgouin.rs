@@ -1,4 +1,4 @@
-//! The exported functions of the checker and of `bench/pairs`. A slice passes as pointer and length.
+//! The exported functions of the checker and of the crate `bench_pairs`. A slice passes as pointer and length.
 
 use crate::pairs::{Found, Search};
 
