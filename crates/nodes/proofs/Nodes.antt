@@ -12,7 +12,7 @@ use lib.Seq.{take-all, take-at, drop-append-add, drop-drop, getD-take}
 use Rattle.rules.specs.Lists.{member, insert, union}
 use Rattle.rules.specs.Tables.{table}
 use Rattle.rules.specs.Records.{Cell, input, NOT, XOR, AND, OR, register, Netlist, WellFormed, operands}
-use Rattle.rules.specs.Families.{Family, product, spread, Families, constant, settledRule, glitchRule, familiesRule, families, familiesAt}
+use Rattle.rules.specs.Families.{Family, spread, Families, constant, settledRule, glitchRule, familiesRule, families, familiesAt}
 use Rattle.rules.specs.Slices.{entry, familyBytes, nodeBytes, workBytes}
 use Rattle.rules.proofs.Lists.{member-head, member-tail, member-insert, member-union}
 use Rattle.rules.proofs.Bounds.{set-small, families-small}

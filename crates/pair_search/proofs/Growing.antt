@@ -1,16 +1,15 @@
 -- The search over one list of pairs and then another, and over lists that grow by a turn of a loop: the pairs of one node, and those of all
 -- nodes below a bound. Assumes nothing.
-use Prim.Native.Nat.{ℕ, zero, suc, _+_, _≤_}
-use mathlib.Core.Path.{_≡_, refl, sym, ap, _∙_}
+use Prim.Native.Nat.{ℕ, zero, suc, _+_}
+use mathlib.Core.Path.{_≡_, refl, sym, _∙_}
 use mathlib.Core.Bool.{Bool, true, false, cond, _&&_}
 use mathlib.Core.List.{List, [], _∷_, _++_, map, map-append}
 use mathlib.Core.Option.{Option, none, some}
 use native.Mathlib.Nat.{add-zero, add-suc}
 use native.Mathlib.Numerals.{add-one}
-use native.Mathlib.Omega.{arith}
 use lib.Dec.{ltb}
 use Rattle.rules.specs.Records.{Netlist}
-use Rattle.pair_search.specs.Pairs.{Pair, isTested, testedBelow, row, pairsBelow, noPair, spent, Searched, onward, searchFrom}
+use Rattle.pair_search.specs.Pairs.{Pair, isTested, testedBelow, row, pairsBelow, spent, Searched, onward, searchFrom}
 use Rattle.pair_search.specs.Work.{over}
 
 -- ---- one list after the other

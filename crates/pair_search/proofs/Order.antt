@@ -1,15 +1,15 @@
 -- The order of the pairs: it lists each pair of tested nodes exactly once, i below j, by j and then i. What holds of each entry of a list and
 -- between any two of its entries is followed through the lists that `pairs` is made of. Assumes nothing.
 use Prim.Native.Nat.{ℕ, zero, suc, _+_, _≤_, _<_}
-use mathlib.Core.Path.{_≡_, refl, sym, ap, subst, _∙_}
+use mathlib.Core.Path.{_≡_, refl, sym, ap, subst}
 use mathlib.Core.Logic.{_⊎_, inl, inr, ⊎-elim}
 use mathlib.Core.Bool.{Bool, true, false, cond}
 use mathlib.Core.List.{List, [], _∷_, _++_, map}
-use mathlib.Core.Option.{Option, none, some}
+use mathlib.Core.Option.{none, some}
 use native.Mathlib.Omega.{arith}
 use lib.Dec.{T}
-use lib.ListN.{length, getD}
-use Rattle.rules.specs.Records.{input, Netlist}
+use lib.ListN.{length}
+use Rattle.rules.specs.Records.{Netlist}
 use Rattle.rules.specs.Families.{tested}
 use Rattle.rules.specs.Demands.{TestedNode}
 use Rattle.rules.proofs.Tests.{pass, lt-or-le}

@@ -1,15 +1,15 @@
 -- What a pair reports, over the bytes: the product is made in bytes of its own, and over the bytes of a netlist's families the report is the
 -- rules'. Products and reports see only which sets are in the families. Assumes nothing.
-use Prim.Native.Nat.{ℕ, _+_, _*_, _<_}
+use Prim.Native.Nat.{ℕ, _+_, _<_}
 use mathlib.Core.Path.{_≡_, _∙_}
 use mathlib.Core.List.{List, _++_}
 use lib.ListN.{length}
 use native.Mathlib.Omega.{arith}
 use Rattle.rules.specs.Records.{Class, Netlist, WellFormed, most-variables}
-use Rattle.rules.specs.Families.{product, families, familiesAt, reported}
+use Rattle.rules.specs.Families.{product, families, reported}
 use Rattle.rules.specs.Slices.{workBytes}
 use Rattle.rules.proofs.Bounds.{product-below}
-use Rattle.families.specs.Parts.{HasPart, familyAt, withFamily}
+use Rattle.families.specs.Parts.{familyAt, withFamily}
 use Rattle.families.proofs.Parts.{below-at, with-length, with-there}
 use Rattle.families.proofs.Work.{Alike, alike-product, written-alike, glitch-there}
 use Rattle.suspects.proofs.Suspects.{reported-same}

@@ -1,21 +1,20 @@
 -- Two probes: where no tested node is suspect and no pair of them is, the counts of mask settings agree on the feeding points of any two tested
 -- nodes together. The patterns there are held by the empty set, both glitch families and their product (`holds-both`), of which no set is
 -- suspect. And the checker answers no pair exactly then, if the limit reaches. Assumes nothing.
-use Prim.Native.Nat.{ℕ, zero, suc, _≤_, _<_}
+use Prim.Native.Nat.{ℕ, _≤_, _<_}
 use mathlib.Core.Path.{_≡_, refl, sym, ap, _∙_, subst, fun-ext}
-use mathlib.Core.Logic.{_↔_, _⊎_, inl, inr, ⊎-elim}
-use mathlib.Core.Bool.{Bool, true, false, not, _&&_, and-comm, and-self}
+use mathlib.Core.Logic.{_↔_, _⊎_, ⊎-elim}
+use mathlib.Core.Bool.{Bool, false, not, _&&_, and-comm, and-self}
 use mathlib.Core.List.{List, [], _∷_}
-use mathlib.Core.Option.{none}
 use native.Mathlib.Omega.{arith}
 use lib.Dec.{T}
 use lib.ListN.{length}
-use Rattle.rules.specs.Lists.{member, insert, union}
+use Rattle.rules.specs.Lists.{member, union}
 use Rattle.rules.specs.Records.{Class, secret, mask, Netlist}
 use Rattle.rules.specs.Values.{values, feeding, Pattern, matches, giving, CountsAgree}
-use Rattle.rules.specs.Families.{Family, product, spread, familiesAt, holds, suspect, clear, half, findings}
+use Rattle.rules.specs.Families.{Family, product, spread, familiesAt, holds, suspect, findings}
 use Rattle.rules.specs.Slices.{reply}
-use Rattle.rules.specs.Checks.{Outcome, answered, refused, andThen, read, admitted}
+use Rattle.rules.specs.Checks.{Outcome, answered, refused, andThen, admitted}
 use Rattle.rules.specs.Demands.{TestedNode, NoSuspect}
 use Rattle.rules.proofs.Tests.{pass, lt-or-le}
 use Rattle.rules.proofs.Lists.{insert-cases, union-cases, count-ext}
@@ -23,7 +22,7 @@ use Rattle.rules.proofs.Room.{admitted-says}
 use Rattle.rules.proofs.Halves.{half-clear, reported-none, reported-clear}
 use Rattle.rules.proofs.Spans.{Holds, holds-both}
 use Rattle.rules.proofs.Probe.{each-node, matches-union, HoldsPatterns, counts-agree}
-use Rattle.pair_search.specs.Pairs.{Pair, pairs, atPosition, pairFamily, pairReport, noPair, Searched, searched, PairFindings, pairFindings, pairsReply, oneProbeReply, NoPair, NoSuspectPair, NothingSuspectInPairs, TwoProbes}
+use Rattle.pair_search.specs.Pairs.{pairs, pairFamily, pairReport, noPair, Searched, searched, pairFindings, pairsReply, oneProbeReply, NoPair, NoSuspectPair, NothingSuspectInPairs, TwoProbes}
 use Rattle.pair_search.proofs.Order.{lists-tested, lists-all}
 use Rattle.pair_search.proofs.Findings.{Means, search-exactly}
 

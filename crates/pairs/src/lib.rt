@@ -2,8 +2,6 @@
 // same over flat forms: it takes the number of entries, and answers the node records by value.
 ghost use mathlib.Core.Path.{_≡_};
 ghost use mathlib.Core.Logic.{_↔_};
-ghost use mathlib.Core.List.{List};
-ghost use Prim.Native.Nat.{ℕ};
 ghost use lib.ListN.{length};
 ghost use Rattle.rules.specs.Records as Records;
 ghost use Rattle.rules.specs.Slices.{nodesAfter, workAfter};

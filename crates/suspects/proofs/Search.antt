@@ -9,7 +9,6 @@ use mathlib.Core.Option.{Option, none, some}
 use native.Mathlib.Nat.{suc-add, add-suc, add-zero, zero-add, lt-of-lt-of-le}
 use native.Mathlib.Omega.{arith}
 use borrow.Author.Count.{below-more}
-use borrow.Author.Tests.{eqb-true, eqb-false}
 use lib.Dec.{T, eqb}
 use lib.ListN.{length, getD, length-map, List·getD-map, List·getD-eq-default}
 use Rattle.rules.specs.Lists.{member, tabulate}
