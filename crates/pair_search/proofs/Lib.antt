@@ -1,6 +1,5 @@
--- What is proved of pairs: the search over lists of them, their order, what each finding says, and what it says under another limit.
+-- What is proved of the search: lists of pairs that a loop grows, what a pair reports over the work bytes, and blocks that antt computes. What the order and
+-- the findings say is proved in `pairs`.
 pub mod Growing
 pub mod Reports
-pub mod Order
-pub mod Findings
 pub mod Blocks

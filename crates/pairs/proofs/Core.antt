@@ -25,7 +25,7 @@ use Rattle.pair_search.specs.declared.Search.{Search}
 use Rattle.pair_search.specs.Pairs.{pairs, searchFrom, unlessSingle, searched, PairFindings, pairFindings, pairsReply, oneProbeReply, NoPair, NothingSuspectInPairs, TwoProbes}
 use Rattle.pair_search.specs.Meaning.{searchedOf}
 use Rattle.pair_search.specs.Work.{reportIn}
-use Rattle.pair_search.proofs.Findings.{search-there}
+use Rattle.pairs.proofs.Findings.{search-there}
 use Rattle.pairs.specs.declared.PairsReply.{PairsReply}
 use Rattle.pairs.specs.declared.PairsReply.the-variants.{Answered}
 use Rattle.pairs.specs.Meaning.{pairsReplyOf}

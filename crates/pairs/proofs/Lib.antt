@@ -1,4 +1,7 @@
--- What is proved of the reply with pairs: what no pair means, and that it does not say too little; and the ways through the core.
+-- What is proved of request A1: the order of the pairs, what each finding says and under another limit, what no pair means; and the ways through the core,
+-- and that the reply's meaning loses nothing.
+pub mod Order
+pub mod Findings
 pub mod TwoProbes
 pub mod Core
 pub mod Meaning

@@ -23,8 +23,8 @@ use Rattle.rules.proofs.Halves.{half-clear, reported-none, reported-clear}
 use Rattle.rules.proofs.Spans.{Holds, holds-both}
 use Rattle.rules.proofs.Probe.{each-node, matches-union, HoldsPatterns, counts-agree}
 use Rattle.pair_search.specs.Pairs.{pairs, pairFamily, pairReport, noPair, Searched, searched, pairFindings, pairsReply, oneProbeReply, NoPair, NoSuspectPair, NothingSuspectInPairs, TwoProbes}
-use Rattle.pair_search.proofs.Order.{lists-tested, lists-all}
-use Rattle.pair_search.proofs.Findings.{Means, search-exactly}
+use Rattle.pairs.proofs.Order.{lists-tested, lists-all}
+use Rattle.pairs.proofs.Findings.{Means, search-exactly}
 
 -- ---- sets that are not suspect
 

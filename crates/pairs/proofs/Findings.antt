@@ -13,10 +13,10 @@ use Rattle.rules.specs.Families.{families, Finding, clear, suspectAt, half}
 use Rattle.rules.specs.Slices.{workBytes}
 use Rattle.rules.proofs.Tests.{lt-or-le}
 use Rattle.rules.proofs.Each.{Each}
 use Rattle.pair_search.specs.Pairs.{Pair, pairs, atPosition, pairReport, PairFinding, single, noPair, pairAt, spent, Searched, onward, searchFrom, unlessSingle, searched}
 use Rattle.pair_search.specs.Work.{reportIn}
 use Rattle.pair_search.proofs.Reports.{report-there}
-use Rattle.pair_search.proofs.Order.{each-more, none-first, pairs-there}
+use Rattle.pairs.proofs.Order.{each-more, none-first, pairs-there}
 
 -- ---- reports that are the same
 
