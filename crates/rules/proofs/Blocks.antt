@@ -2,12 +2,12 @@
 -- rules. Assumes nothing.
 use Prim.Native.Nat.{ℕ}
 use mathlib.Core.Path.{_≡_, refl}
-use mathlib.Core.List.{List, [], _∷_}
+use mathlib.Core.List.{List, [], _∷_, map}
 use Rattle.rules.specs.Lists.{member, insert, union, count}
 use Rattle.rules.specs.Tables.{table}
-use Rattle.rules.specs.Records.{most-nodes, classOf, said, size, recordBytes, kindOf, body, classByte, operands, setOf}
+use Rattle.rules.specs.Records.{most-nodes, classOf, said, size, recordBytes, kindOf, body, classByte, operands, setOf, bits, variableCount}
 use Rattle.rules.specs.Values.{same}
-use Rattle.rules.specs.Families.{product, spread, settledRule, glitchRule, familiesRule, families, holds, suspect, tested, better, reported, mark, marks, lowest, half, findings, Findings, clear, suspectAt}
+use Rattle.rules.specs.Families.{product, spread, settledRule, glitchRule, familiesRule, families, holds, suspect, tested, earlier, better, reported, mark, marks, lowest, half, findings, Findings, clear, suspectAt}
 use Rattle.rules.specs.Checks.{andThen, judged, overLimit, undeclared, undeclaredSet, notBelow, badOperand, judgedRecord, recordAt, taken, step, after, outcomeOf, read, slicesFit, most-work, admitted, Outcome}
 use Rattle.rules.specs.Slices.{reply}
 use Rattle.rules.proofs.Each.{Each}
@@ -15,8 +15,8 @@ use Rattle.rules.specs.Blocks.{Block, answers, blocks, P1, P2, P3, P4, P
 
 -- the reply to a block in slices that hold every netlist; to unfold it is to compute it
 unfoldable pub replyTo : List ℕ → Outcome Findings
-unfolding member insert union count table classOf said size recordBytes kindOf body classByte operands setOf same product spread settledRule
-    glitchRule familiesRule families holds suspect tested better reported mark marks lowest half findings andThen judged overLimit
+unfolding member insert union count table classOf said size recordBytes kindOf body classByte operands setOf bits variableCount same product spread
+    settledRule glitchRule familiesRule families holds suspect tested earlier better reported mark marks lowest half findings andThen judged overLimit
     undeclared undeclaredSet notBelow badOperand judgedRecord recordAt taken step after outcomeOf read slicesFit admitted reply
 replyTo bytes = reply bytes most-nodes most-work
 
@@ -127,3 +127,48 @@ mistakes =
     and right bare-register refl
     and right two-suspects refl
     and tt
+
+-- ---- the reported set
+
+-- change request A2's own example: variables secret, public, secret; inputs 3 and 4; AND of them: sets 3, 4 and 7 are suspect
+abbrev pub fewest-variables : Block
+fewest-variables = record {
+  bytes =
+      0x01 ∷ 0x00 ∷ 0x01 ∷ 0x02 ∷ 0x01 ∷ 0x00
+      ∷ 0x02 ∷ 0x03 ∷ 0x00 ∷ 0x02 ∷ 0x04 ∷ 0x00
+      ∷ 0x05 ∷ 0x00 ∷ 0x01
+      ∷ 0x00 ∷ [];
+  expected = answers (suspectAt 2 4) (suspectAt 2 4) 3 3;
+}
+
+-- the same variables; inputs 6 and 3; AND of them: sets 3, 5 and 6 are suspect, of two variables each
+abbrev pub tie : Block
+tie = record {
+  bytes =
+      0x01 ∷ 0x00 ∷ 0x01 ∷ 0x02 ∷ 0x01 ∷ 0x00
+      ∷ 0x02 ∷ 0x06 ∷ 0x00 ∷ 0x02 ∷ 0x03 ∷ 0x00
+      ∷ 0x05 ∷ 0x00 ∷ 0x01
+      ∷ 0x00 ∷ [];
+  expected = answers (suspectAt 2 3) (suspectAt 2 3) 3 3;
+}
+
+-- variables secret, four publics, secret; inputs 31, of five variables, and 32, of one; AND of them
+abbrev pub one-below-five : Block
+one-below-five = record {
+  bytes =
+      0x01 ∷ 0x00 ∷ 0x01 ∷ 0x02 ∷ 0x01 ∷ 0x02 ∷ 0x01 ∷ 0x02 ∷ 0x01 ∷ 0x02 ∷ 0x01 ∷ 0x00
+      ∷ 0x02 ∷ 0x1f ∷ 0x00 ∷ 0x02 ∷ 0x20 ∷ 0x00
+      ∷ 0x05 ∷ 0x00 ∷ 0x01
+      ∷ 0x00 ∷ [];
+  expected = answers (suspectAt 2 32) (suspectAt 2 32) 6 3;
+}
+
+-- Fewest variables first, and ties to the lower number.
+pub reported-sets : Each Right (fewest-variables ∷ tie ∷ one-below-five ∷ [])
+unfolding replyTo
+reported-sets = right fewest-variables refl and right tie refl and right one-below-five refl and tt
+
+-- every variable of a set counts, masks too: the inputs of P14, with secrets a and b and three masks
+pub variables-of-inputs : map variableCount (5 ∷ 4 ∷ 10 ∷ 8 ∷ 16 ∷ []) ≡ 2 ∷ 1 ∷ 2 ∷ 1 ∷ 1 ∷ []
+unfolding replyTo
+variables-of-inputs = refl

@@ -1,19 +1,19 @@
 -- What a half of the answer says: clear exactly when no tested node's family holds a suspect set, and else the lowest node whose family
--- does, with its lowest-numbered one. First what `reported`, `lowest` and `mark` each tell by what they return. Assumes nothing.
-use Prim.Native.Nat.{ℕ, zero, suc, min, _+_, _≤_, _<_}
+-- does, with the set that it reports. First what `reported`, `lowest` and `mark` each tell by what they return. Assumes nothing.
+use Prim.Native.Nat.{ℕ, zero, suc, _+_, _≤_, _<_}
 use mathlib.Core.Path.{_≡_, refl, sym, ap, _∙_, subst}
 use mathlib.Core.Logic.{_↔_}
 use mathlib.Core.Bool.{Bool, true, false, cond, not}
 use mathlib.Core.List.{List, [], _∷_, map}
 use mathlib.Core.Option.{Option, none, some}
-use native.Mathlib.Nat.{zero-add, le-refl, le-trans, min-eq-left, min-eq-right, not-suc-le-zero, le-of-suc-le-suc}
-use native.Mathlib.Decide.{decLe, decLt}
+use native.Mathlib.Nat.{zero-add, le-refl, not-suc-le-zero, le-of-suc-le-suc}
+use native.Mathlib.Decide.{decLt}
 use native.Mathlib.Omega.{arith}
 use lib.Dec.{T, T-not}
 use lib.ListN.{length, getD, List·getD-eq-default, List·getD-map, length-map}
 use Rattle.rules.specs.Lists.{member}
-use Rattle.rules.specs.Records.{Class, Cell, input, Netlist}
-use Rattle.rules.specs.Families.{Family, Families, constant, familiesRule, families, familiesAt, suspect, tested, better, reported, Finding, clear, suspectAt, mark, marks, lowest, half, findings}
+use Rattle.rules.specs.Records.{Class, Cell, input, Netlist, variableCount}
+use Rattle.rules.specs.Families.{Family, Families, constant, familiesRule, families, familiesAt, suspect, tested, earlier, better, reported, Finding, clear, suspectAt, mark, marks, lowest, half, findings}
 use Rattle.rules.specs.Checks.{Outcome, answered, refused, andThen, admitted}
 use Rattle.rules.specs.Slices.{reply}
 use Rattle.rules.specs.Demands.{GlitchClear, TestedNode, NoSuspect, NothingSuspect}
@@ -21,35 +21,36 @@ use Rattle.rules.proofs.Tests.{pass}
 use Rattle.rules.proofs.Lists.{member-head, member-tail}
 use Rattle.rules.proofs.Members.{all-none, all-front}
 use Rattle.rules.proofs.Tables.{table-length}
+use Rattle.rules.proofs.ReportOrder.{NotLater, not-later-self, earlier-not-later, not-earlier, not-later-trans, not-later-both}
 
 -- ---- what a family reports
 
--- what `reported` tells of a family: that no set of it is suspect, or that A is its lowest-numbered suspect set
+-- what `reported` tells of a family: that no set of it is suspect, or that A is suspect and in it, and no suspect set of it comes before A
 abbrev Reporting : List Class → Family → Option ℕ → Type 0
 Reporting variables F none = (A : ℕ) → T (member A F) → T (not (suspect variables A))
 Reporting variables F (some A) =
-    T (member A F) × T (suspect variables A) × ((B : ℕ) → T (member B F) → T (suspect variables B) → A ≤ B)
+    T (member A F) × T (suspect variables A) × ((B : ℕ) → T (member B F) → T (suspect variables B) → NotLater A B)
 
 module _ (variables : List Class) where
-  -- a suspect A in front of suspects that are not lower is the lowest
-  leads : (A : ℕ) (F : Family) → T (suspect variables A) → ((B : ℕ) → T (member B F) → T (suspect variables B) → A ≤ B)
+  -- a suspect A in front of suspects that are not earlier comes first
+  leads : (A : ℕ) (F : Family) → T (suspect variables A) → ((B : ℕ) → T (member B F) → T (suspect variables B) → NotLater A B)
       → Reporting variables (A ∷ F) (some A)
-  leads A F s low = (member-head A F, s, all-front (λ B. T (suspect variables B) → A ≤ B) A F (λ u. le-refl A) low)
+  leads A F s first = (member-head A F, s, all-front (λ B. T (suspect variables B) → NotLater A B) A F (λ u. not-later-self A) first)
 
-  -- the lowest C stays so behind a set that is not a lower suspect
-  stays : (A C : ℕ) (F : Family) → (T (suspect variables A) → C ≤ A) → Reporting variables F (some C)
+  -- the first, C, stays so behind a set that is not an earlier suspect
+  stays : (A C : ℕ) (F : Family) → (T (suspect variables A) → NotLater C A) → Reporting variables F (some C)
       → Reporting variables (A ∷ F) (some C)
-  stays A C F h r = (member-tail C A F (r .0), r .1, all-front (λ B. T (suspect variables B) → C ≤ B) A F h (r .2))
+  stays A C F h r = (member-tail C A F (r .0), r .1, all-front (λ B. T (suspect variables B) → NotLater C B) A F h (r .2))
 
   with-suspect : (A : ℕ) (F : Family) (o : Option ℕ) → T (suspect variables A) → Reporting variables F o
       → Reporting variables (A ∷ F) (better A o)
   unfolding better
   with-suspect A F none s r = leads A F s (λ B m u. absurd (T-not (suspect variables B) (r B m) u))
-  with-suspect A F (some C) s r = go (decLe A C)
+  with-suspect A F (some C) s r = go (earlier C A) refl
     where
-      go : Dec (A ≤ C) → Reporting variables (A ∷ F) (some (min A C))
-      go (yes h) = rw (min-eq-left h) (leads A F s (λ B m u. le-trans h (r .2 B m u)))
-      go (no h) = let l : C ≤ A = omega arith in rw (min-eq-right l) (stays A C F (λ u. l) r)
+      go : (b : Bool) → earlier C A ≡ b → Reporting variables (A ∷ F) (some (cond b C A))
+      go true e = stays A C F (λ u. earlier-not-later C A (pass e)) r
+      go false e = leads A F s (λ B m u. not-later-trans A C B (not-earlier C A (λ t. rw e at t)) (r .2 B m u))
 
   without : (A : ℕ) (F : Family) (o : Option ℕ) → T (not (suspect variables A)) → Reporting variables F o
       → Reporting variables (A ∷ F) o
@@ -79,10 +80,35 @@ reported-clear variables F h = go (reported variables F) (reporting variables F)
     go none r = refl
     go (some A) r = absurd (T-not (suspect variables A) (h A (r .0)) (r .1))
 
--- what is reported is the lowest-numbered suspect set
-pub reported-some : (variables : List Class) (F : Family) (A : ℕ) → reported variables F ≡ some A
-    → T (member A F) × T (suspect variables A) × ((B : ℕ) → T (member B F) → T (suspect variables B) → A ≤ B)
-reported-some variables F A e = subst (Reporting variables F) e (reporting variables F)
+-- What the reported set is: it is suspect, it is in the family, no suspect set of the family has fewer variables, and none with as many has a
+-- lower number.
+pub record Reports (variables : List Class) (F : Family) (A : ℕ) : Type 0 where
+  pub isSuspect : T (suspect variables A)
+  pub inFamily : T (member A F)
+  pub fewestVariables : (B : ℕ) → T (member B F) → T (suspect variables B) → variableCount A ≤ variableCount B
+  pub lowestNumber : (B : ℕ) → T (member B F) → T (suspect variables B) → variableCount B ≡ variableCount A → A ≤ B
+
+-- a set is reported of a family exactly when it is that
+pub reported-exactly : (variables : List Class) (F : Family) (A : ℕ) → (reported variables F ≡ some A) ↔ Reports variables F A
+reported-exactly variables F A = (
+  λ e. says A (subst (Reporting variables F) e (reporting variables F)),
+  λ r. go r (reported variables F) (reporting variables F),
+)
+  where
+    says : (C : ℕ) → Reporting variables F (some C) → Reports variables F C
+    says C r = record {
+      isSuspect = r .1;
+      inFamily = r .0;
+      fewestVariables = λ B m s. r .2 B m s .fewest;
+      lowestNumber = λ B m s. r .2 B m s .lowest;
+    }
+
+    go : Reports variables F A → (o : Option ℕ) → Reporting variables F o → o ≡ some A
+    go r none none-suspect = absurd (T-not (suspect variables A) (none-suspect A (r .inFamily)) (r .isSuspect))
+    go r (some C) (m, s, first) =
+        ap some
+        (not-later-both C A (first A (r .inFamily) (r .isSuspect))
+        record { fewest = r .fewestVariables C m s; lowest = r .lowestNumber C m s })
 
 -- ---- the lowest that reports
 
@@ -119,7 +145,7 @@ marks-at variables (c ∷ cells) [] F k e = absurd (omega arith)
 marks-at variables (c ∷ cells) (G ∷ Fs) F zero e = refl
 marks-at variables (c ∷ cells) (G ∷ Fs) F (suc k) e = marks-at variables cells Fs F k (omega arith)
 
--- what `mark` tells of a node: that no set of its family is suspect if it is tested, or that it is tested and A is the lowest-numbered
+-- what `mark` tells of a node: that no set of its family is suspect if it is tested, or that it is tested and reports A
 abbrev Marking : List Class → Cell → Family → Option ℕ → Type 0
 Marking variables cell F none = T (tested cell) → Reporting variables F none
 Marking variables cell F (some A) = T (tested cell) × Reporting variables F (some A)
@@ -143,12 +169,14 @@ tested-there n i t = go (decLt i (length (n .nodes)))
 
 -- ---- what a half says
 
--- node i is the lowest tested node whose family holds a suspect set, and A the lowest-numbered suspect set there
+-- node i is the lowest tested node whose family holds a suspect set, and A is the set that it reports: of its suspect sets with fewest variables
+-- the lowest-numbered
 pub record NamesLowest (layer : Families → Family) (n : Netlist) (i A : ℕ) : Type 0 where
   pub testedNode : TestedNode n i
   pub inFamily : T (member A (layer (familiesAt n i)))
   pub isSuspect : T (suspect (n .variables) A)
-  pub lowestSet : (B : ℕ) → T (member B (layer (familiesAt n i))) → T (suspect (n .variables) B) → A ≤ B
+  pub fewestVariables : (B : ℕ) → T (member B (layer (familiesAt n i))) → T (suspect (n .variables) B) → variableCount A ≤ variableCount B
+  pub lowestNumber : (B : ℕ) → T (member B (layer (familiesAt n i))) → T (suspect (n .variables) B) → variableCount B ≡ variableCount A → A ≤ B
   pub lowestNode : (j : ℕ) → j < i → TestedNode n j
       → (B : ℕ) → T (member B (layer (familiesAt n j))) → T (not (suspect (n .variables) B))
 
@@ -189,7 +217,8 @@ half-says layer n = go (lowest 0 (reports layer n)) (lowest-says 0 (reports laye
           testedNode = tested-there n k t;
           inFamily = r .0;
           isSuspect = r .1;
-          lowestSet = r .2;
+          fewestVariables = λ B m u. r .2 B m u .fewest;
+          lowestNumber = λ B m u. r .2 B m u .lowest;
           lowestNode = λ j h u. node-says layer n j none (before j h) (u .isTested);
         }
 
@@ -202,7 +231,7 @@ half-clear layer n = (λ e. subst (Says layer n) e (half-says layer n), λ h. go
     go h clear r = refl
     go h (suspectAt i A) r = absurd (T-not (suspect (n .variables) A) (h i (r .testedNode) A (r .inFamily)) (r .isSuspect))
 
--- and where it is suspect it names the lowest such node, with its lowest-numbered suspect set
+-- and where it is suspect it names the lowest such node, with the set that it reports
 pub half-suspect : (layer : Families → Family) (n : Netlist) (i A : ℕ) → half layer n ≡ suspectAt i A → NamesLowest layer n i A
 half-suspect layer n i A e = subst (Says layer n) e (half-says layer n)
 

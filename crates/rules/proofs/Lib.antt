@@ -23,6 +23,7 @@ pub mod Paper
 pub mod Once
 pub mod Bounds
 pub mod Feeding
+pub mod ReportOrder
 pub mod Halves
 -- demand 3
 pub mod Settings

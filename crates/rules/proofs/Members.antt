@@ -1,10 +1,12 @@
--- A property of all that is in a list: of the empty list, and after a number in front, `insert` and `union`; and of each entry. Assumes nothing.
-use Prim.Native.Nat.{ℕ, zero, suc}
-use mathlib.Core.Path.{sym, subst}
+-- A property of all that is in a list: of the empty list, and after a number in front, `insert` and `union`; and of each entry. Each entry is in
+-- the list, and what is in it is an entry. Assumes nothing.
+use Prim.Native.Nat.{ℕ, zero, suc, _<_}
+use mathlib.Core.Path.{_≡_, sym, subst}
 use mathlib.Core.Logic.{⊎-elim}
 use mathlib.Core.List.{List, [], _∷_}
+use native.Mathlib.Omega.{arith}
 use lib.Dec.{T}
-use lib.ListN.{getD}
+use lib.ListN.{length, getD}
 use Rattle.rules.specs.Lists.{member, insert, union}
 use Rattle.rules.proofs.Lists.{member-head, member-tail, member-cases, insert-cases, union-cases}
 
@@ -33,3 +35,15 @@ module _ (P : ℕ → Type 0) where
   all-at [] d p q i = q
   all-at (x ∷ xs) d p q zero = p x (member-head x xs)
   all-at (x ∷ xs) d p q (suc i) = all-at xs d (λ y t. p y (member-tail y x xs t)) q i
+
+-- each entry is in the list
+pub entry-member : (xs : List ℕ) (d i : ℕ) → i < length xs → T (member (getD xs i d) xs)
+entry-member [] d i h = absurd (omega arith)
+entry-member (x ∷ xs) d zero h = member-head x xs
+entry-member (x ∷ xs) d (suc i) h = member-tail (getD xs i d) x xs (entry-member xs d i (omega arith))
+
+-- and what is in it is an entry
+pub member-entry : (xs : List ℕ) (d x : ℕ) → T (member x xs) → (i : ℕ) × (i < length xs) × (getD xs i d ≡ x)
+member-entry [] d x t = absurd (unfold member in t)
+member-entry (y ∷ xs) d x t =
+    ⊎-elim (λ e. (0, omega arith, sym e)) (λ m. let (i, h, e) = member-entry xs d x m in (suc i, omega arith, e)) (member-cases x y xs t)

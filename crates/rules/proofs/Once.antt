@@ -1,7 +1,8 @@
 -- Each is named once: no feeding point of a node is listed twice, and no set in either of its families. `insert` and `union` keep that, and
--- a product has it whatever its factors. Such lists of the same numbers are equally long. Assumes nothing.
-use Prim.Native.Nat.{ℕ, suc, _≤_}
-use mathlib.Core.Path.{_≡_, refl, sym, subst}
+-- a product has it whatever its factors. Such lists of the same numbers are equally long, and n numbers below n that are named once are all of
+-- them. Assumes nothing.
+use Prim.Native.Nat.{ℕ, suc, _≤_, _<_}
+use mathlib.Core.Path.{_≡_, refl, sym, ap, subst}
 use mathlib.Core.Logic.{_⊎_, inl, inr, ⊎-elim}
 use mathlib.Core.Bool.{Bool, true, false, cond, not, _&&_}
 use mathlib.Core.List.{List, [], _∷_, map}
@@ -10,14 +11,15 @@ use native.Mathlib.Omega.{arith}
 use lib.Bits.{bitXor}
 use lib.Dec.{T, T-not}
 use lib.ListN.{length, getD}
-use Rattle.rules.specs.Lists.{member, insert, union}
+use Rattle.rules.specs.Lists.{member, insert, union, tabulate}
 use Rattle.rules.specs.Records.{input, Netlist, setOf}
 use Rattle.rules.specs.Values.{feeding}
 use Rattle.rules.specs.Families.{Family, product, familiesAt}
-use Rattle.rules.proofs.Tests.{and-left, and-right}
+use Rattle.rules.proofs.Tests.{pass, and-left, and-right}
 use Rattle.rules.proofs.Lists.{member-head, member-tail, member-cases}
-use Rattle.rules.proofs.Members.{All, all-front}
+use Rattle.rules.proofs.Members.{All, all-front, entry-member}
 use Rattle.rules.proofs.Entries.{each-feeding, each-family}
+use Rattle.rules.proofs.Packing.{tabulate-length, tabulate-at}
 
 -- no number is in the list twice
 unfoldable pub once : List ℕ → Bool
@@ -79,6 +81,23 @@ no-longer (x ∷ xs) ys t h =
 pub same-length : (xs ys : List ℕ) → T (once xs) → T (once ys) → ((x : ℕ) → member x xs ≡ member x ys) → length xs ≡ length ys
 same-length xs ys t u same =
     le-antisymm (no-longer xs ys t (λ x m. subst T (same x) m)) (no-longer ys xs u (λ x m. subst T (sym (same x)) m))
+
+-- n numbers below n, each named once, are all numbers below n: with one that is not among them they would be more than n
+pub all-below : (n : ℕ) (xs : List ℕ) → T (once xs) → All (λ x. x < n) xs → length xs ≡ n → (y : ℕ) → y < n → T (member y xs)
+unfolding once
+all-below n xs t low e y h = pass (go (member y xs) refl)
+  where
+    among : (x : ℕ) → x < n → T (member x (tabulate (λ i. i) n))
+    among x l =
+        subst (λ (z : ℕ). T (member z (tabulate (λ i. i) n))) (tabulate-at (λ i. i) n x 0 l)
+        (entry-member (tabulate (λ i. i) n) 0 x (omega (arith, tabulate-length (λ i. i) n)))
+
+    go : (b : Bool) → member y xs ≡ b → member y xs ≡ true
+    go true f = f
+    go false f =
+        let more = no-longer (y ∷ xs) (tabulate (λ i. i) n) (rw f t)
+        (all-front (λ x. T (member x (tabulate (λ i. i) n))) y xs (among y h) (λ x m. among x (low x m))) in
+        absurd (omega (arith, tabulate-length (λ i. i) n))
 
 -- ---- feeding points and families
 

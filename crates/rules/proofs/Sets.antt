@@ -1,7 +1,7 @@
--- A set's number and its bits are each made from the other, and a number has the bit of an undeclared variable just if it is too large.
--- By induction on the bits, a half at a time. Assumes nothing.
+-- A set's number and its bits are each made from the other, its number of variables is that of its bits, and a number has the bit of an undeclared
+-- variable just if it is too large. By induction on the bits, a half at a time. Assumes nothing.
 use Prim.Native.Nat.{ℕ, zero, suc, _+_, _*_, _/_, _%_, _^_, _≤_, _<_}
-use mathlib.Core.Path.{_≡_, refl, sym, ap, ap₂, _∙_}
+use mathlib.Core.Path.{_≡_, refl, sym, ap, ap₂, _∙_, subst}
 use mathlib.Core.Bool.{Bool, true, false}
 use mathlib.Core.List.{List, [], _∷_}
 use native.Mathlib.Nat.{two-pow-succ, pow-succ', div-one, div-div-eq-div-mul, div-eq-of-lt, add-mul-mod-self-left, lt-of-not-le, lt-of-lt-of-le, le-add-right, le-div-iff-mul-le}
@@ -10,8 +10,8 @@ use lib.Arith.{bin-ind}
 use lib.Dec.{T, eqb, leb→le, nleb→lt}
 use lib.ListN.{length}
 use lib.Pow.{pow-pos, pow-mono, shr-shr}
-use Rattle.rules.specs.Lists.{digit}
-use Rattle.rules.specs.Records.{odd, bits, number}
+use Rattle.rules.specs.Lists.{digit, count}
+use Rattle.rules.specs.Records.{most-variables, odd, bits, variableCount, number}
 use Rattle.rules.specs.Checks.{undeclared}
 
 -- ---- one bit
@@ -76,6 +76,11 @@ same-bits (suc k) s t h =
 
 pub same-number : (k s t : ℕ) → s < 2 ^ k → t < 2 ^ k → ((w : ℕ) → w < k → odd (s / 2 ^ w) ≡ odd (t / 2 ^ w)) → s ≡ t
 same-number k s t p q h = sym (number-bits k s p) ∙ ap number (same-bits k s t h) ∙ number-bits k t q
+
+-- the number of variables of a set is how many of the ten are marked in it
+pub variables-marked : (b : List Bool) → length b ≡ most-variables → variableCount (number b) ≡ count (λ m. m) b
+unfolding variableCount
+variables-marked b e = subst (λ (k : ℕ). count (λ m. m) (bits k (number b)) ≡ count (λ m. m) b) e (ap (count (λ m. m)) (bits-number b))
 
 -- ---- the bits of undeclared variables
 

@@ -27,6 +27,10 @@ pub and-right : (a b : Bool) → T (a && b) → T b
 and-right true b t = t
 and-right false b t = absurd t
 
+pub and-both : (a b : Bool) → T a → T b → T (a && b)
+and-both true b t u = u
+and-both false b t u = t
+
 -- a test that is equal to `true` has passed
 pub pass : {b : Bool} → b ≡ true → T b
 pass e = subst T (sym e) tt

@@ -5,7 +5,7 @@ use mathlib.Core.Bool.{Bool}
 use mathlib.Core.List.{List, [], _∷_, _++_}
 use lib.Dec.{T, eqb}
 use lib.ListN.{length, getD}
-use Rattle.rules.specs.Lists.{digit, member}
+use Rattle.rules.specs.Lists.{digit, member, count}
 
 -- the class of a variable
 pub data Class : Type 0 where
@@ -160,6 +160,10 @@ odd n = eqb (n % 2) 1
 unfoldable pub bits : (k number : ℕ) → List Bool
 bits zero s = []
 bits (suc k) s = odd s ∷ bits k (s / 2)
+
+-- the number of variables of a set, of whatever class they are
+unfoldable pub variableCount : (set : ℕ) → ℕ
+variableCount s = count (λ b. b) (bits most-variables s)
 
 -- the number of the set that holds the variables marked so
 unfoldable pub number : List Bool → ℕ

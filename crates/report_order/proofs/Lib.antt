@@ -1,0 +1,2 @@
+-- The rule of the order.
+pub mod Order
