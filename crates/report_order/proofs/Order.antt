@@ -16,7 +16,7 @@ use Rattle.rules.proofs.Tests.{and-left, and-right, and-both}
 use Rattle.rules.proofs.Members.{All, all-none, all-front, entry-member, member-entry}
 use Rattle.rules.proofs.Once.{once, single-once, all-below}
 use Rattle.rules.proofs.ReportOrder.{earlier-trans, not-earlier-self, NotLater, not-later-self, earlier-not-later}
-use Rattle.report_order.specs.Order.{setsOf, setsBelow, reportOrder, setAt}
+use Rattle.report_order.specs.Order.{setsWith, setsWithFewer, reportOrder, setAt}
 
 -- ---- the test
 
@@ -30,11 +30,11 @@ inOrder [] = false
 inOrder (x ∷ xs) = ltb x most-sets && follow x xs
 
 order-passes : T (inOrder reportOrder)
-unfolding setsOf setsBelow reportOrder earlier variableCount bits count
+unfolding setsWith setsWithFewer reportOrder earlier variableCount bits count
 order-passes = tt
 
 order-length : length reportOrder ≡ most-sets
-unfolding setsOf setsBelow reportOrder
+unfolding setsWith setsWithFewer reportOrder
 order-length = refl
 
 -- ---- what passes it
@@ -104,9 +104,9 @@ order-rule = rule reportOrder order-passes order-length
 -- ---- the set at a place
 
 -- it is a ten-bit number
-pub set-low : (k : ℕ) → k < most-sets → setAt k < most-sets
+pub set-low : {A k : ℕ} → A ≡ setAt k → k < most-sets → A < most-sets
 unfolding setAt
-set-low k h = order-rule .low k h
+set-low {A} {k} e h = subst (λ (B : ℕ). B < most-sets) (sym e) (order-rule .low k h)
 
 -- each ten-bit number has its place
 pub place-of : (A : ℕ) → A < most-sets → (k : ℕ) × (k < most-sets) × (setAt k ≡ A)

@@ -1,9 +1,18 @@
-// The 1,024 sets in the order of their report: by number of variables, and then by number.
+// The 1,024 sets in the order of their report: by number of variables, and then by number. A walk through it meets the set that is to be
+// reported before any other suspect one.
 ghost use mathlib.Core.Path.{_≡_};
 ghost use Prim.Native.Nat.{_<_};
 ghost use Rattle.rules.specs.Records.{most-sets};
 ghost use Rattle.report_order.specs.Order.{setAt};
 use families::SETS;
+
+// The set at a place of the order.
+pub fn set_at(place: usize) -> usize
+    requires { ⌜ place < most-sets ⌝ }
+    ensures { λ r. ⌜ r ≡ setAt place ⌝ }
+{
+    ORDER[place] as usize
+}
 
 const ORDER: [u16; SETS] = [
     0,
@@ -1031,11 +1040,3 @@ const ORDER: [u16; SETS] = [
     1022,
     1023,
 ];
-
-// The set at a place of the order.
-pub fn set_at(place: usize) -> usize
-    requires { ⌜ place < most-sets ⌝ }
-    ensures { λ r. ⌜ r ≡ setAt place ⌝ }
-{
-    ORDER[place] as usize
-}

@@ -1,5 +1,5 @@
--- The scan of one layer of the work bytes: a node is passed or reports by the sets looked at so far, and the first node that reports is what
--- the scan finds; over the bytes of a netlist's families that is the rules' half of the answer. Assumes nothing.
+-- The scan of one layer of the work bytes: a node is passed or reports by the sets looked at so far, in the order of report, and the first node
+-- that reports is what the scan finds; over the bytes of a netlist's families that is the rules' half of the answer. Assumes nothing.
 use Prim.Native.Nat.{ℕ, zero, suc, _+_, _*_, _<_, _≤_}
 use mathlib.Core.Path.{_≡_, refl, sym, ap, ap₂, _∙_}
 use mathlib.Core.Logic.{⊎-elim}
@@ -22,6 +22,7 @@ use Rattle.rules.proofs.Exit.{families-length}
 use Rattle.families.specs.Parts.{familyAt}
 use Rattle.families.proofs.Parts.{below-at}
 use Rattle.families.proofs.Work.{Alike, settled-there, glitch-there}
+use Rattle.report_order.specs.Order.{setAt}
 use Rattle.suspects.specs.Suspects.{found}
 use Rattle.suspects.proofs.Suspects.{reported-same, reported-nothing, reported-first}
 
@@ -53,10 +54,10 @@ reports n layer bytes i = mark (n .variables) (getD (n .nodes) i (input 0)) (fam
 abbrev pub suspectIn : Netlist → (layer : ℕ) → List ℕ → (i A : ℕ) → Bool
 suspectIn n layer bytes i A = suspect (n .variables) A && member A (familyAt bytes (2 * i + layer))
 
--- the sets below A are looked at, and none is suspect; all of them, where the node is not tested
-pub record Searched (n : Netlist) (layer : ℕ) (bytes : List ℕ) (i A : ℕ) : Type 0 where
-  pub isTested : A < most-sets → T (tested (getD (n .nodes) i (input 0)))
-  pub before : (B : ℕ) → B < A → T (tested (getD (n .nodes) i (input 0))) → suspectIn n layer bytes i B ≡ false
+-- the sets at lower places are looked at, and none is suspect; all of them, where the node is not tested
+pub record Searched (n : Netlist) (layer : ℕ) (bytes : List ℕ) (i place : ℕ) : Type 0 where
+  pub isTested : place < most-sets → T (tested (getD (n .nodes) i (input 0)))
+  pub before : (k : ℕ) → k < place → T (tested (getD (n .nodes) i (input 0))) → suspectIn n layer bytes i (setAt k) ≡ false
 
 -- kind 2 is not tested, and every other is
 pub tested-kind : (cell : Cell) → eqb (kindOf cell) 2 ≡ not (tested cell)
@@ -72,36 +73,40 @@ module _ (n : Netlist) (layer : ℕ) (bytes : List ℕ) (i : ℕ) where
   cell : Cell
   cell = getD (n .nodes) i (input 0)
 
-  pub search-start : (A : ℕ) → A ≡ cond (tested (getD (n .nodes) i (input 0))) 0 most-sets → Searched n layer bytes i A
+  pub search-start : (place : ℕ) → place ≡ cond (tested (getD (n .nodes) i (input 0))) 0 most-sets → Searched n layer bytes i place
   unfolding cell
-  search-start A start = go (tested cell) refl start
+  search-start place start = go (tested cell) refl start
     where
-      go : (b : Bool) → tested cell ≡ b → A ≡ cond b 0 most-sets → Searched n layer bytes i A
-      go true e first = record { isTested = λ l. pass e; before = λ B l t. absurd (omega arith) }
-      go false e last = record { isTested = λ l. absurd (omega arith); before = λ B l t. absurd (rw e at t) }
+      go : (b : Bool) → tested cell ≡ b → place ≡ cond b 0 most-sets → Searched n layer bytes i place
+      go true e first = record { isTested = λ l. pass e; before = λ k l t. absurd (omega arith) }
+      go false e last = record { isTested = λ l. absurd (omega arith); before = λ k l t. absurd (rw e at t) }
 
-  pub search-more : (A : ℕ) → Searched n layer bytes i A → suspectIn n layer bytes i A ≡ false → Searched n layer bytes i (A + 1)
-  search-more A s here = record {
+  pub search-more : (place : ℕ) → Searched n layer bytes i place → suspectIn n layer bytes i (setAt place) ≡ false
+      → Searched n layer bytes i (place + 1)
+  search-more place s here = record {
     isTested = λ l. s .isTested (omega arith);
-    before = λ B l t. below-more (λ B. suspectIn n layer bytes i B ≡ false) A (λ C m. s .before C m t) here B l;
+    before = λ k l t. below-more (λ k. suspectIn n layer bytes i (setAt k) ≡ false) place (λ j m. s .before j m t) here k l;
   }
 
-  pub search-none : (A : ℕ) → most-sets ≤ A → Searched n layer bytes i A → reports n layer bytes i ≡ none
+  pub search-none : (place : ℕ) → most-sets ≤ place → Searched n layer bytes i place → reports n layer bytes i ≡ none
   unfolding reports mark cell
-  search-none A h s = go (tested cell) refl
+  search-none place h s = go (tested cell) refl
     where
       go : (b : Bool) → tested cell ≡ b → cond b (reported (n .variables) (familyAt bytes (2 * i + layer))) none ≡ none
       go true e =
-          reported-nothing (n .variables) (familyAt bytes (2 * i + layer))
-          (λ B m. s .before B (lt-of-lt-of-le (below-at bytes (2 * i + layer) B m) h) (pass e))
+          reported-nothing (n .variables) (familyAt bytes (2 * i + layer)) (below-at bytes (2 * i + layer))
+          (λ k l. s .before k (lt-of-lt-of-le l h) (pass e))
       go false e = refl
 
-  pub search-some : (A : ℕ) → A < most-sets → Searched n layer bytes i A → suspectIn n layer bytes i A ≡ true → reports n layer bytes i ≡ some A
+  pub search-some : (place : ℕ) → place < most-sets → Searched n layer bytes i place → suspectIn n layer bytes i (setAt place) ≡ true
+      → reports n layer bytes i ≡ some (setAt place)
   unfolding reports mark cell
-  search-some A h s here = go (tested cell) refl
+  search-some place h s here = go (tested cell) refl
     where
-      go : (b : Bool) → tested cell ≡ b → cond b (reported (n .variables) (familyAt bytes (2 * i + layer))) none ≡ some A
-      go true e = reported-first (n .variables) (familyAt bytes (2 * i + layer)) A here (λ B l. s .before B l (pass e))
+      go : (b : Bool) → tested cell ≡ b → cond b (reported (n .variables) (familyAt bytes (2 * i + layer))) none ≡ some (setAt place)
+      go true e =
+          reported-first (n .variables) (familyAt bytes (2 * i + layer)) (below-at bytes (2 * i + layer)) place h here
+          (λ k l. s .before k l (pass e))
       go false e = absurd (rw e at (s .isTested h))
 
 -- ---- all nodes

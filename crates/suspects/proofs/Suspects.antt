@@ -1,5 +1,5 @@
 -- Suspect sets by bit masks: a set holds a variable of a class if it meets the mask of the class, by induction on the variables; that mask by
--- one variable more; and what a family reports, by which of its sets are suspect. Assumes nothing.
+-- one variable more; and what a family reports, by which of its sets are suspect, in the order of report. Assumes nothing.
 use Prim.Native.Nat.{ℕ, zero, suc, min, _+_, _*_, _/_, _%_, _^_, _<_, _≤_}
 use mathlib.Core.Path.{_≡_, refl, sym, ap, _∙_, subst}
 use mathlib.Core.Bool.{Bool, true, false, not, _&&_, _||_, Bool·not-not}
@@ -14,12 +14,15 @@ use lib.Dec.{T, eqb, T-not, not-T, eqb·suc-zero}
 use lib.ListN.{length, getD, take, length-map}
 use lib.Seq.{take-suc, length-take-le}
 use Rattle.rules.specs.Lists.{digit, member}
-use Rattle.rules.specs.Records.{Class, secret, mask, public, classByte, number}
+use Rattle.rules.specs.Records.{Class, secret, mask, public, classByte, number, most-sets}
 use Rattle.rules.specs.Values.{same}
 use Rattle.rules.specs.Families.{Family, holds, suspect, reported}
 use Rattle.rules.proofs.Tests.{pass, and-left, and-right}
 use Rattle.rules.proofs.Lists.{digit-small}
-use Rattle.rules.proofs.Halves.{reported-none, reported-clear, reported-some}
+use Rattle.rules.proofs.ReportOrder.{NotLater}
+use Rattle.rules.proofs.Halves.{reported-none, reported-clear, reported-exactly}
+use Rattle.report_order.specs.Order.{setAt}
+use Rattle.report_order.proofs.Order.{place-of, set-not-later}
 use Rattle.suspects.specs.Suspects.{variablesOf}
 
 -- ---- the mask of a class
@@ -100,19 +103,6 @@ refuted true false e s t = t
 refuted false b e s t = s
 
 module _ (variables : List Class) where
-  -- the suspect set of a family that no other is below
-  reported-least : (F : Family) (A : ℕ) → T (member A F) → T (suspect variables A)
-      → ((B : ℕ) → T (member B F) → T (suspect variables B) → A ≤ B) → reported variables F ≡ some A
-  reported-least F A m s least = go (reported variables F) refl
-    where
-      go : (o : Option ℕ) → reported variables F ≡ o → o ≡ some A
-      go none e = absurd (T-not (suspect variables A) (reported-none variables F e A m) s)
-      go (some C) e =
-          let (n, t, lowest) = reported-some variables F C e in
-          let below : C ≤ A = lowest A m s in
-          let above : A ≤ C = least C n t in
-          ap some (omega arith)
-
   -- only membership counts
   pub reported-same : (F G : Family) → ((A : ℕ) → member A F ≡ member A G) → reported variables F ≡ reported variables G
   reported-same F G h = go (reported variables G) refl
@@ -120,19 +110,37 @@ module _ (variables : List Class) where
       go : (o : Option ℕ) → reported variables G ≡ o → reported variables F ≡ o
       go none e = reported-clear variables F (λ A t. reported-none variables G e A (rw h at t))
       go (some A) e =
-          let (m, s, least) = reported-some variables G A e in
-          reported-least F A (rw h m) s (λ B t u. least B (rw h at t) u)
+          let r = reported-exactly variables G A .0 e in
+          reported-exactly variables F A .1 record {
+            isSuspect = r .isSuspect;
+            inFamily = rw h (r .inFamily);
+            fewestVariables = λ B t u. r .fewestVariables B (rw h at t) u;
+            lowestNumber = λ B t u. r .lowestNumber B (rw h at t) u;
+          }
 
-  -- what an ascending search meets: nothing, or the lowest set that is suspect and in the family
-  pub reported-nothing : (F : Family) → ((A : ℕ) → T (member A F) → (suspect variables A && member A F) ≡ false)
-      → reported variables F ≡ none
-  reported-nothing F h =
-      reported-clear variables F (λ A m. not-T (suspect variables A) (λ s. refuted (suspect variables A) (member A F) (h A m) s m))
+  -- What a walk through the order of report meets, in a family of ten-bit sets: nothing, or the set that is reported.
+  module _ (F : Family) (low : (A : ℕ) → T (member A F) → A < most-sets) where
+    pub reported-nothing : ((k : ℕ) → k < most-sets → (suspect variables (setAt k) && member (setAt k) F) ≡ false)
+        → reported variables F ≡ none
+    reported-nothing passed =
+        reported-clear variables F
+        (λ A m.
+        let (k, l, e) = place-of A (low A m) in
+        not-T (suspect variables A) (λ s. refuted (suspect variables A) (member A F) (rw e at (passed k l)) s m))
 
-  pub reported-first : (F : Family) (A : ℕ) → (suspect variables A && member A F) ≡ true
-      → ((B : ℕ) → B < A → (suspect variables B && member B F) ≡ false) → reported variables F ≡ some A
-  reported-first F A here before =
-      reported-least F A (and-right (suspect variables A) (member A F) (pass here)) (and-left (suspect variables A) (member A F) (pass here))
-      (λ B m s.
-      let passed : B < A → ⊥ = λ l. refuted (suspect variables B) (member B F) (before B l) s m in
-      omega arith)
+    pub reported-first : (k : ℕ) → k < most-sets → (suspect variables (setAt k) && member (setAt k) F) ≡ true
+        → ((j : ℕ) → j < k → (suspect variables (setAt j) && member (setAt j) F) ≡ false)
+        → reported variables F ≡ some (setAt k)
+    reported-first k l here passed =
+        reported-exactly variables F (setAt k) .1 record {
+          isSuspect = and-left (suspect variables (setAt k)) (member (setAt k) F) (pass here);
+          inFamily = and-right (suspect variables (setAt k)) (member (setAt k) F) (pass here);
+          fewestVariables = λ B m s. first B m s .fewest;
+          lowestNumber = λ B m s. first B m s .lowest;
+        }
+      where
+        first : (B : ℕ) → T (member B F) → T (suspect variables B) → NotLater (setAt k) B
+        first B m s =
+            let (j, h, e) = place-of B (low B m) in
+            let not-passed : j < k → ⊥ = λ b. refuted (suspect variables B) (member B F) (rw e at (passed j b)) s m in
+            subst (NotLater (setAt k)) e (set-not-later k j (omega arith) h)

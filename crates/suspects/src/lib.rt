@@ -1,4 +1,5 @@
-// The scan of the work bytes for the lowest suspect node and its lowest-numbered suspect set, and that of one part for its set.
+// The scan of the work bytes for the lowest suspect node and the set that it reports, and that of one part for its set. Both walk through a part's
+// sets in the order of their report.
 ghost use mathlib.Core.Path.{_≡_};
 ghost use mathlib.Core.Bool.{_&&_, cond};
 ghost use mathlib.Core.List.{List};
@@ -14,6 +15,7 @@ ghost use Rattle.families.specs.Parts.{HasPart, familyAt};
 ghost use Rattle.suspects.specs.Suspects.{variablesOf, reportOf, found};
 use families::SETS;
 use netlists::Netlist;
+use report_order::set_at;
 use rules::Half;
 
 // The bit of variable `v`, or 0 where the answer is no.
@@ -47,29 +49,24 @@ fn suspect_in(work: &[u8], part: usize, secrets: usize, masks: usize, set: usize
     ensures { λ r. ⌜ ((variables : List Class) → secrets ≡ variablesOf secret variables → masks ≡ variablesOf mask variables →
         r ≡ (suspect variables set && member set (familyAt (now (work .entry)) part))) ⌝ }
 {
-    if set & secrets == 0 {
-        return false;
-    }
-    if set & masks != 0 {
-        return false;
-    }
-    families::holds(work, part, set)
+    (set & secrets != 0) & (set & masks == 0) & families::holds(work, part, set)
 }
 
-// The set that a part reports, its lowest-numbered suspect one, or `SETS` if it has none.
+// The set that a part reports, or `SETS` if it has no suspect one.
 pub fn first_suspect(work: &[u8], part: usize, secrets: usize, masks: usize) -> usize
     requires { ⌜ HasPart (now work) part ⌝ }
     ensures { λ r. ⌜ ((variables : List Class) → secrets ≡ variablesOf secret variables → masks ≡ variablesOf mask variables →
         reportOf r ≡ reported variables (familyAt (now (work .entry)) part)) ⌝ }
 {
-    let mut set = 0;
-    while set < SETS {
+    let mut place = 0;
+    while place < SETS {
+        let set = set_at(place);
         if suspect_in(work, part, secrets, masks, set) {
-            break;
+            return set;
         }
-        set += 1;
+        place += 1;
     }
-    set
+    SETS
 }
 
 // Whether nodes of this kind are tested: all but inputs are.
@@ -79,14 +76,14 @@ pub fn is_tested(kind: u8) -> bool
     kind != 2
 }
 
-// The set from which a node of this kind is scanned: of one that is not tested, none is left.
-fn first_set(kind: u8) -> usize
+// The place in the order from which a node of this kind is scanned: of one that is not tested, none is left.
+fn first_place(kind: u8) -> usize
     ensures { λ r. ⌜ ((cell : Cell) → kind ≡ kindOf cell → r ≡ cond (tested cell) 0 most-sets) ⌝ }
 {
     if is_tested(kind) { 0 } else { SETS }
 }
 
-// The lowest suspect node of a layer (settled 0, glitch 1) and its lowest-numbered suspect set.
+// The lowest suspect node of a layer (settled 0, glitch 1) and the set that it reports.
 pub fn scan(netlist: Netlist, layer: usize, work: &[u8]) -> Half
     requires { ⌜ Ready netlist (length (now work)) × (layer < 2) ⌝ }
     ensures { λ r. ⌜ ((n : Records.Netlist) → netlist ≡ flatOf n → findingOf r ≡ found n layer (now (work .entry))) ⌝ }
@@ -99,12 +96,13 @@ pub fn scan(netlist: Netlist, layer: usize, work: &[u8]) -> Half
     'nodes: while i < count {
         let node = netlist.nodes[i];
         let part = 2 * i + layer;
-        set = first_set(node.kind);
-        while set < SETS {
+        let mut place = first_place(node.kind);
+        while place < SETS {
+            set = set_at(place);
             if suspect_in(work, part, secrets, masks, set) {
                 break 'nodes;
             }
-            set += 1;
+            place += 1;
         }
         i += 1;
     }

@@ -1,5 +1,5 @@
--- `suspects::scan` meets its contract. The nodes' loop: the nodes passed report nothing. The loop in it: of the node's sets, those passed are
--- not suspect members. Each measure is what is left to pass. Assumes nothing.
+-- `suspects::scan` meets its contract. The nodes' loop: the nodes passed report nothing. The loop in it: the sets at the places passed are not
+-- suspect members of the node's family. Each measure is what is left to pass. Assumes nothing.
 use Prim.Native.Nat.{ℕ, _-_, _≤_, _<_}
 use mathlib.Core.Path.{_≡_, refl, sym, ap, _∙_}
 use mathlib.Core.Logic.{⊎-elim}
@@ -15,17 +15,19 @@ use Rattle.rules.specs.Families.{suspectAt}
 use Rattle.rules.specs.Slices.{entry}
 use Rattle.netlists.specs.Netlists.{blank, flatOf}
 use Rattle.netlists.proofs.Netlists.{flat-entry-at, few-variables, few-nodes}
+use Rattle.report_order.specs.Order.{setAt}
+use Rattle.report_order.proofs.Order.{set-low}
 use Rattle.suspects.specs.Suspects.{found}
 use Rattle.suspects.proofs.Search.{suspectIn, Searched, search-start, search-more, search-none, search-some, Passed, found-suspect, found-clear}
 use Rattle.suspects.proofs.scan.Statement.{statement}
 use Rattle.suspects.proofs.scan.Tie as tie
 
 abbrev Inv-loop : tie.InvT-loop
-Inv-loop layer work netlist secrets masks count i set₀ part set =
-    (n : Records.Netlist) → netlist ≡ flatOf n → Searched n layer work i set
+Inv-loop layer work netlist secrets masks count i set₀ part place₀ set place =
+    (n : Records.Netlist) → netlist ≡ flatOf n → Searched n layer work i place
 
 abbrev μ-loop : tie.MeasureT-loop
-μ-loop layer work netlist secrets masks count i set₀ part set = most-sets - set
+μ-loop layer work netlist secrets masks count i set₀ part place₀ set place = most-sets - place
 
 abbrev Inv-nodes : tie.InvT-nodes
 Inv-nodes layer work netlist secrets masks count i₀ set₀ i set =
@@ -36,7 +38,7 @@ abbrev μ-nodes : tie.MeasureT-nodes
 
 -- where a turn of the nodes' loop began, and where the function did
 abbrev turn : tie.After-suspect-in Inv-loop μ-loop Inv-nodes μ-nodes → tie.At-nodes Inv-loop μ-loop Inv-nodes μ-nodes
-turn c = c .before .before .before .before .before .before
+turn c = c .before .before .before .before .before .before .before
 
 abbrev start : tie.At-nodes Inv-loop μ-loop Inv-nodes μ-nodes → tie.Start Inv-loop μ-loop Inv-nodes μ-nodes
 start c = c .before .before .before .before
@@ -66,8 +68,8 @@ mul-part c = omega (arith, few (start (c .before .before)))
 add-part : tie.Need-add-part Inv-loop μ-loop Inv-nodes μ-nodes
 add-part c = omega (arith, few (start (c .before .before)))
 
-first-set-requires : tie.Need-first-set-requires Inv-loop μ-loop Inv-nodes μ-nodes
-first-set-requires c κs = search needs
+first-place-requires : tie.Need-first-place-requires Inv-loop μ-loop Inv-nodes μ-nodes
+first-place-requires c κs = search needs
 
 loop-holds : tie.Need-loop-holds Inv-loop μ-loop Inv-nodes μ-nodes
 unfolding entry flatOf
@@ -77,30 +79,34 @@ loop-holds c =
     let i = c .before .before .before .nodes .i in
     let inside : i < length (n .nodes) = rw e at (c .before .before .nodes-test .taken) in
     let kind : getD (args .t1 .nodes) i blank .kind ≡ kindOf (getD (n .nodes) i (input 0)) = rw (e, flat-entry-at n i inside) in
-    search-start n (args .layer) (now (args .work)) i (c .first-set .result) (c .first-set .ensures (getD (n .nodes) i (input 0)) kind)
+    search-start n (args .layer) (now (args .work)) i (c .first-place .result) (c .first-place .ensures (getD (n .nodes) i (input 0)) kind)
+
+set-at-requires : tie.Need-set-at-requires Inv-loop μ-loop Inv-nodes μ-nodes
+set-at-requires c κs = search needs
 
 suspect-in-requires : tie.Need-suspect-in-requires Inv-loop μ-loop Inv-nodes μ-nodes
-suspect-in-requires c κs = omega (arith, start (c .before .before .before .before .before) .pre)
+suspect-in-requires c κs = omega (arith, set-low (c .set-at .ensures) (c .before .loop-test .taken), start (c .before .before .before .before .before .before) .pre)
 
-add-set : tie.Need-add-set Inv-loop μ-loop Inv-nodes μ-nodes
-add-set c = omega arith
+add-place : tie.Need-add-place Inv-loop μ-loop Inv-nodes μ-nodes
+add-place c = omega arith
 
 loop-less : tie.Need-loop-less Inv-loop μ-loop Inv-nodes μ-nodes
 loop-less c = omega arith
 
--- what is tested is whether the set is suspect and in the family
+-- what is tested is whether the set at the place is suspect and in the family
 tested-set : (c : tie.After-suspect-in Inv-loop μ-loop Inv-nodes μ-nodes) (n : Records.Netlist) → start (turn c) .args .t1 ≡ flatOf n
     → c .suspect-in .result
-    ≡ suspectIn n (start (turn c) .args .layer) (now (start (turn c) .args .work)) (turn c .nodes .i) (c .before .before .loop .set)
+    ≡ suspectIn n (start (turn c) .args .layer) (now (start (turn c) .args .work)) (turn c .nodes .i) (setAt (c .before .before .before .loop .place))
 unfolding classByte
 tested-set c n e =
-    c .suspect-in .ensures (n .variables) (turn c .before .before .variables-of .ensures n secret e refl)
-    (turn c .before .variables-of2 .ensures n mask e refl)
+    rw (← c .before .set-at .ensures)
+    (c .suspect-in .ensures (n .variables) (turn c .before .before .variables-of .ensures n secret e refl)
+    (turn c .before .variables-of2 .ensures n mask e refl))
 
 loop-again : tie.Need-loop-again Inv-loop μ-loop Inv-nodes μ-nodes
 loop-again c =
     λ n e.
-    search-more n _ _ _ _ (c .before .before .before .loop .inv n e) (sym (tested-set (c .before) n e) ∙ c .if1 .left)
+    search-more n _ _ _ _ (c .before .before .before .before .loop .inv n e) (sym (tested-set (c .before) n e) ∙ c .if1 .left)
 
 add-i : tie.Need-add-i Inv-loop μ-loop Inv-nodes μ-nodes
 add-i c = omega (arith, few (start (c .before .before .before .before .before)))
@@ -113,40 +119,44 @@ nodes-again c = (
   omega arith,
   λ n e.
       below-more _ _ (c .before .before .before .before .before .nodes .inv .1 n e)
-      (search-none n _ _ _ (c .before .loop .set) (c .loop-test .left) (c .before .loop .inv n e)),
+      (search-none n _ _ _ (c .before .loop .place) (c .loop-test .left) (c .before .loop .inv n e)),
 )
 
 -- where a set breaks both loops off, it is what is found
 broken-off : (c : tie.After-suspect-in Inv-loop μ-loop Inv-nodes μ-nodes) → c .suspect-in .result ≡ true
     → (n : Records.Netlist) → start (turn c) .args .t1 ≡ flatOf n
-    → suspectAt (turn c .nodes .i) (c .before .before .loop .set) ≡ found n (start (turn c) .args .layer) (now (start (turn c) .args .work))
+    → suspectAt (turn c .nodes .i) (c .before .set-at .result) ≡ found n (start (turn c) .args .layer) (now (start (turn c) .args .work))
 unfolding flatOf
 broken-off c hit n e =
-    sym
-    (found-suspect n _ _ _ _ (rw e at (c .before .before .before .before .before .nodes-test .taken)) (turn c .nodes .inv .1 n e)
-    (search-some n _ _ _ _ (c .before .loop-test .taken) (c .before .before .loop .inv n e) (sym (tested-set c n e) ∙ hit)))
+    ap (λ (A : ℕ). suspectAt (turn c .nodes .i) A) (c .before .set-at .ensures)
+    ∙ sym
+    (found-suspect n _ _ _ _ (rw e at (c .before .before .before .before .before .before .nodes-test .taken)) (turn c .nodes .inv .1 n e)
+    (search-some n _ _ _ _ (c .before .before .loop-test .taken) (c .before .before .before .loop .inv n e) (sym (tested-set c n e) ∙ hit)))
 
 returns : tie.Need-returns Inv-loop μ-loop Inv-nodes μ-nodes
 returns c =
     λ n e.
     ⊎-elim (λ w. absurd (omega arith))
     (λ w.
-    ap (λ (A : ℕ). suspectAt (c .before .before .nodes .i) A) (w .7)
+    ap (λ (A : ℕ). suspectAt (c .before .before .nodes .i) A) (w .8)
     ∙ broken-off
     record {
       before = record {
         before = record {
           before = record {
-            before = record { before = record { before = c .before .before; nodes-test = w .0 }; node = w .1 };
-            first-set = w .2;
+            before = record {
+              before = record { before = record { before = c .before .before; nodes-test = w .0 }; node = w .1 };
+              first-place = w .2;
+            };
+            loop = w .3;
           };
-          loop = w .3;
+          loop-test = w .4;
         };
-        loop-test = w .4;
+        set-at = w .5;
       };
-      suspect-in = w .5;
+      suspect-in = w .6;
     }
-    (w .6 .taken) n e)
+    (w .7 .taken) n e)
     (c .before .nodes-test .came)
 
 returns-2 : tie.Need-returns-2 Inv-loop μ-loop Inv-nodes μ-nodes
@@ -177,10 +187,11 @@ scan-spec =
     element-copy-out-node
     mul-part
     add-part
-    first-set-requires
+    first-place-requires
     loop-holds
+    set-at-requires
     suspect-in-requires
-    add-set
+    add-place
     loop-less
     loop-again
     add-i

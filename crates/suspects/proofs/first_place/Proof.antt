@@ -1,10 +1,10 @@
--- `suspects::first_set` meets its contract: of what is tested the sets from 0 on are scanned, and else none is left. Assumes nothing.
+-- `suspects::first_place` meets its contract: what is tested is scanned from the first place on, and else none is left. Assumes nothing.
 use mathlib.Core.Path.{sym, ap, _∙_}
 use mathlib.Core.Bool.{Bool, cond}
 use borrow.Author.Needs.{needs}
 use Rattle.rules.specs.Records.{most-sets}
-use Rattle.suspects.proofs.first_set.Statement.{statement}
-use Rattle.suspects.proofs.first_set.Tie as tie
+use Rattle.suspects.proofs.first_place.Statement.{statement}
+use Rattle.suspects.proofs.first_place.Tie as tie
 
 is-tested-requires : tie.Need-is-tested-requires
 is-tested-requires c κs = search needs
@@ -15,5 +15,5 @@ returns c = λ cell e. ap (λ (b : Bool). cond b 0 most-sets) (sym (c .if1 .take
 returns-2 : tie.Need-returns-2
 returns-2 c = λ cell e. ap (λ (b : Bool). cond b 0 most-sets) (sym (c .if1 .left) ∙ c .before .is-tested .ensures cell e)
 
-pub first-set-spec : {M : Type 1} → statement M
-first-set-spec = tie.close (tie.spec is-tested-requires returns returns-2)
+pub first-place-spec : {M : Type 1} → statement M
+first-place-spec = tie.close (tie.spec is-tested-requires returns returns-2)
