@@ -1,17 +1,14 @@
 // The 1,024 sets in the order of their report: by number of variables, and then by number. A walk through it meets the set that is to be
 // reported before any other suspect one.
 ghost use mathlib.Core.Path.{_≡_};
-ghost use Prim.Native.Nat.{_<_};
-ghost use Rattle.rules.specs.Records.{most-sets};
-ghost use Rattle.report_order.specs.Order.{setAt};
+ghost use Rattle.report_order.specs.Order.{reportOrder};
 use families::SETS;
 
-// The set at a place of the order.
-pub fn set_at(place: usize) -> usize
-    requires { ⌜ place < most-sets ⌝ }
-    ensures { λ r. ⌜ r ≡ setAt place ⌝ }
+// All sets in that order. A table in a local of the caller: a constant that is indexed where it stands is laid out anew for each look.
+pub fn sets_in_order() -> [u16; SETS]
+    ensures { λ r. ⌜ r ≡ reportOrder ⌝ }
 {
-    ORDER[place] as usize
+    ORDER
 }
 
 const ORDER: [u16; SETS] = [

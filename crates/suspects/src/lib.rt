@@ -15,7 +15,7 @@ ghost use Rattle.families.specs.Parts.{HasPart, familyAt};
 ghost use Rattle.suspects.specs.Suspects.{variablesOf, reportOf, found};
 use families::SETS;
 use netlists::Netlist;
-use report_order::set_at;
+use report_order::sets_in_order;
 use rules::Half;
 
 // The bit of variable `v`, or 0 where the answer is no.
@@ -58,9 +58,10 @@ pub fn first_suspect(work: &[u8], part: usize, secrets: usize, masks: usize) -> 
     ensures { λ r. ⌜ ((variables : List Class) → secrets ≡ variablesOf secret variables → masks ≡ variablesOf mask variables →
         reportOf r ≡ reported variables (familyAt (now (work .entry)) part)) ⌝ }
 {
+    let order = sets_in_order();
     let mut place = 0;
     while place < SETS {
-        let set = set_at(place);
+        let set = order[place] as usize;
         if suspect_in(work, part, secrets, masks, set) {
             return set;
         }
@@ -90,6 +91,7 @@ pub fn scan(netlist: Netlist, layer: usize, work: &[u8]) -> Half
 {
     let secrets = variables_of(netlist, 0);
     let masks = variables_of(netlist, 1);
+    let order = sets_in_order();
     let count = netlist.count;
     let mut i = 0;
     let mut set = 0;
@@ -98,7 +100,7 @@ pub fn scan(netlist: Netlist, layer: usize, work: &[u8]) -> Half
         let part = 2 * i + layer;
         let mut place = first_place(node.kind);
         while place < SETS {
-            set = set_at(place);
+            set = order[place] as usize;
             if suspect_in(work, part, secrets, masks, set) {
                 break 'nodes;
             }

@@ -4,6 +4,7 @@ use Prim.Native.Nat.{ℕ, _-_, _≤_, _<_}
 use mathlib.Core.Path.{_≡_, refl, sym, ap, _∙_}
 use mathlib.Core.Logic.{⊎-elim}
 use mathlib.Core.Bool.{true}
+use mathlib.Core.List.{List}
 use denote.Ref.{now}
 use native.Mathlib.Omega.{arith}
 use borrow.Author.Count.{below-more}
@@ -23,25 +24,25 @@ use Rattle.suspects.proofs.scan.Statement.{statement}
 use Rattle.suspects.proofs.scan.Tie as tie
 
 abbrev Inv-loop : tie.InvT-loop
-Inv-loop layer work netlist secrets masks count i set₀ part place₀ set place =
+Inv-loop layer work netlist secrets masks order count i set₀ part place₀ set place =
     (n : Records.Netlist) → netlist ≡ flatOf n → Searched n layer work i place
 
 abbrev μ-loop : tie.MeasureT-loop
-μ-loop layer work netlist secrets masks count i set₀ part place₀ set place = most-sets - place
+μ-loop layer work netlist secrets masks order count i set₀ part place₀ set place = most-sets - place
 
 abbrev Inv-nodes : tie.InvT-nodes
-Inv-nodes layer work netlist secrets masks count i₀ set₀ i set =
+Inv-nodes layer work netlist secrets masks order count i₀ set₀ i set =
     (i ≤ count) × ((n : Records.Netlist) → netlist ≡ flatOf n → Passed n layer work i)
 
 abbrev μ-nodes : tie.MeasureT-nodes
-μ-nodes layer work netlist secrets masks count i₀ set₀ i set = count - i
+μ-nodes layer work netlist secrets masks order count i₀ set₀ i set = count - i
 
 -- where a turn of the nodes' loop began, and where the function did
 abbrev turn : tie.After-suspect-in Inv-loop μ-loop Inv-nodes μ-nodes → tie.At-nodes Inv-loop μ-loop Inv-nodes μ-nodes
-turn c = c .before .before .before .before .before .before .before
+turn c = c .before .before .before .before .before .before
 
 abbrev start : tie.At-nodes Inv-loop μ-loop Inv-nodes μ-nodes → tie.Start Inv-loop μ-loop Inv-nodes μ-nodes
-start c = c .before .before .before .before
+start c = c .before .before .before .before .before
 
 -- the bounds of the netlist
 few : (c : tie.Start Inv-loop μ-loop Inv-nodes μ-nodes) → (c .args .t1 .variables ≤ most-variables) × (c .args .t1 .count ≤ most-nodes)
@@ -52,6 +53,9 @@ variables-of-requires c κs = few (c .before) .0
 
 variables-of-requires-2 : tie.Need-variables-of-requires-2 Inv-loop μ-loop Inv-nodes μ-nodes
 variables-of-requires-2 c κs = few (c .before .before) .0
+
+sets-in-order-requires : tie.Need-sets-in-order-requires Inv-loop μ-loop Inv-nodes μ-nodes
+sets-in-order-requires c κs = search needs
 
 nodes-holds : tie.Need-nodes-holds Inv-loop μ-loop Inv-nodes μ-nodes
 nodes-holds c = (search needs, λ n e j l. absurd (omega arith))
@@ -81,11 +85,24 @@ loop-holds c =
     let kind : getD (args .t1 .nodes) i blank .kind ≡ kindOf (getD (n .nodes) i (input 0)) = rw (e, flat-entry-at n i inside) in
     search-start n (args .layer) (now (args .work)) i (c .first-place .result) (c .first-place .ensures (getD (n .nodes) i (input 0)) kind)
 
-set-at-requires : tie.Need-set-at-requires Inv-loop μ-loop Inv-nodes μ-nodes
-set-at-requires c κs = search needs
+-- what is read at a place is the set there
+set-there : (c : tie.In-loop Inv-loop μ-loop Inv-nodes μ-nodes)
+    → getD (c .before .before .before .before .before .before .sets-in-order .result) (c .before .loop .place) 0 ≡ setAt (c .before .loop .place)
+unfolding setAt
+set-there c =
+    ap (λ (order : List ℕ). getD order (c .before .loop .place) 0) (c .before .before .before .before .before .before .sets-in-order .ensures)
+
+mul-set : tie.Need-mul-set Inv-loop μ-loop Inv-nodes μ-nodes
+mul-set c = search needs
+
+array-read-set : tie.Need-array-read-set Inv-loop μ-loop Inv-nodes μ-nodes
+array-read-set c = search needs
+
+cast-set : tie.Need-cast-set Inv-loop μ-loop Inv-nodes μ-nodes
+cast-set c = omega (arith, set-low (set-there c) (c .loop-test .taken))
 
 suspect-in-requires : tie.Need-suspect-in-requires Inv-loop μ-loop Inv-nodes μ-nodes
-suspect-in-requires c κs = omega (arith, set-low (c .set-at .ensures) (c .before .loop-test .taken), start (c .before .before .before .before .before .before) .pre)
+suspect-in-requires c κs = omega (arith, set-low (set-there c) (c .loop-test .taken), start (c .before .before .before .before .before) .pre)
 
 add-place : tie.Need-add-place Inv-loop μ-loop Inv-nodes μ-nodes
 add-place c = omega arith
@@ -93,20 +110,20 @@ add-place c = omega arith
 loop-less : tie.Need-loop-less Inv-loop μ-loop Inv-nodes μ-nodes
 loop-less c = omega arith
 
--- what is tested is whether the set at the place is suspect and in the family
+-- what is tested is whether that set is suspect and in the family
 tested-set : (c : tie.After-suspect-in Inv-loop μ-loop Inv-nodes μ-nodes) (n : Records.Netlist) → start (turn c) .args .t1 ≡ flatOf n
     → c .suspect-in .result
-    ≡ suspectIn n (start (turn c) .args .layer) (now (start (turn c) .args .work)) (turn c .nodes .i) (setAt (c .before .before .before .loop .place))
+    ≡ suspectIn n (start (turn c) .args .layer) (now (start (turn c) .args .work)) (turn c .nodes .i) (setAt (c .before .before .loop .place))
 unfolding classByte
 tested-set c n e =
-    rw (← c .before .set-at .ensures)
-    (c .suspect-in .ensures (n .variables) (turn c .before .before .variables-of .ensures n secret e refl)
-    (turn c .before .variables-of2 .ensures n mask e refl))
+    rw (← set-there (c .before))
+    (c .suspect-in .ensures (n .variables) (turn c .before .before .before .variables-of .ensures n secret e refl)
+    (turn c .before .before .variables-of2 .ensures n mask e refl))
 
 loop-again : tie.Need-loop-again Inv-loop μ-loop Inv-nodes μ-nodes
 loop-again c =
     λ n e.
-    search-more n _ _ _ _ (c .before .before .before .before .loop .inv n e) (sym (tested-set (c .before) n e) ∙ c .if1 .left)
+    search-more n _ _ _ _ (c .before .before .before .loop .inv n e) (sym (tested-set (c .before) n e) ∙ c .if1 .left)
 
 add-i : tie.Need-add-i Inv-loop μ-loop Inv-nodes μ-nodes
 add-i c = omega (arith, few (start (c .before .before .before .before .before)))
@@ -125,38 +142,36 @@ nodes-again c = (
 -- where a set breaks both loops off, it is what is found
 broken-off : (c : tie.After-suspect-in Inv-loop μ-loop Inv-nodes μ-nodes) → c .suspect-in .result ≡ true
     → (n : Records.Netlist) → start (turn c) .args .t1 ≡ flatOf n
-    → suspectAt (turn c .nodes .i) (c .before .set-at .result) ≡ found n (start (turn c) .args .layer) (now (start (turn c) .args .work))
+    → suspectAt (turn c .nodes .i) (getD (turn c .before .sets-in-order .result) (c .before .before .loop .place) 0)
+    ≡ found n (start (turn c) .args .layer) (now (start (turn c) .args .work))
 unfolding flatOf
 broken-off c hit n e =
-    ap (λ (A : ℕ). suspectAt (turn c .nodes .i) A) (c .before .set-at .ensures)
+    ap (λ (A : ℕ). suspectAt (turn c .nodes .i) A) (set-there (c .before))
     ∙ sym
-    (found-suspect n _ _ _ _ (rw e at (c .before .before .before .before .before .before .nodes-test .taken)) (turn c .nodes .inv .1 n e)
-    (search-some n _ _ _ _ (c .before .before .loop-test .taken) (c .before .before .before .loop .inv n e) (sym (tested-set c n e) ∙ hit)))
+    (found-suspect n _ _ _ _ (rw e at (c .before .before .before .before .before .nodes-test .taken)) (turn c .nodes .inv .1 n e)
+    (search-some n _ _ _ _ (c .before .loop-test .taken) (c .before .before .loop .inv n e) (sym (tested-set c n e) ∙ hit)))
 
 returns : tie.Need-returns Inv-loop μ-loop Inv-nodes μ-nodes
 returns c =
     λ n e.
     ⊎-elim (λ w. absurd (omega arith))
     (λ w.
-    ap (λ (A : ℕ). suspectAt (c .before .before .nodes .i) A) (w .8)
+    ap (λ (A : ℕ). suspectAt (c .before .before .nodes .i) A) (w .7)
     ∙ broken-off
     record {
       before = record {
         before = record {
           before = record {
-            before = record {
-              before = record { before = record { before = c .before .before; nodes-test = w .0 }; node = w .1 };
-              first-place = w .2;
-            };
-            loop = w .3;
+            before = record { before = record { before = c .before .before; nodes-test = w .0 }; node = w .1 };
+            first-place = w .2;
           };
-          loop-test = w .4;
+          loop = w .3;
         };
-        set-at = w .5;
+        loop-test = w .4;
       };
-      suspect-in = w .6;
+      suspect-in = w .5;
     }
-    (w .7 .taken) n e)
+    (w .6 .taken) n e)
     (c .before .nodes-test .came)
 
 returns-2 : tie.Need-returns-2 Inv-loop μ-loop Inv-nodes μ-nodes
@@ -182,6 +197,7 @@ scan-spec =
     μ-nodes
     variables-of-requires
     variables-of-requires-2
+    sets-in-order-requires
     nodes-holds
     mul-node
     element-copy-out-node
@@ -189,7 +205,9 @@ scan-spec =
     add-part
     first-place-requires
     loop-holds
-    set-at-requires
+    mul-set
+    array-read-set
+    cast-set
     suspect-in-requires
     add-place
     loop-less
