@@ -49,7 +49,13 @@ fn suspect_in(work: &[u8], part: usize, secrets: usize, masks: usize, set: usize
     ensures { λ r. ⌜ ((variables : List Class) → secrets ≡ variablesOf secret variables → masks ≡ variablesOf mask variables →
         r ≡ (suspect variables set && member set (familyAt (now (work .entry)) part))) ⌝ }
 {
-    (set & secrets != 0) & (set & masks == 0) & families::holds(work, part, set)
+    if set & masks != 0 {
+        return false;
+    }
+    if set & secrets == 0 {
+        return false;
+    }
+    families::holds(work, part, set)
 }
 
 // The set that a part reports, or `SETS` if it has no suspect one.
