@@ -57,8 +57,17 @@ two-secrets =
     ∷ 0x07 ∷ 0x00 ∷ 0x07 ∷ 0x01 ∷ 0x07 ∷ 0x02 ∷ 0x07 ∷ 0x03
     ∷ 0x00 ∷ []
 
+-- variables secret, public, secret, mask, mask; inputs 11, 20, 8 and 16; 4 AND(0,1), 5 AND(2,3): their product holds sets 3, 4 and 7
+abbrev pub three-sets : List ℕ
+three-sets =
+    0x01 ∷ 0x00 ∷ 0x01 ∷ 0x02 ∷ 0x01 ∷ 0x00 ∷ 0x01 ∷ 0x01 ∷ 0x01 ∷ 0x01
+    ∷ 0x02 ∷ 0x0b ∷ 0x00 ∷ 0x02 ∷ 0x14 ∷ 0x00 ∷ 0x02 ∷ 0x08 ∷ 0x00 ∷ 0x02 ∷ 0x10 ∷ 0x00
+    ∷ 0x05 ∷ 0x00 ∷ 0x01 ∷ 0x05 ∷ 0x02 ∷ 0x03
+    ∷ 0x00 ∷ []
+
 -- Under each limit that matters: where there is a pair, below its position and at it; where there is none, below the number of pairs and at it;
--- no pair to look at; a single suspect; a refusal. Block B, which one probe does not break, falls to two.
+-- no pair to look at; a single suspect; a refusal. Block B, which one probe does not break, falls to two. Of a pair's suspect sets the one with
+-- fewest variables is reported.
 abbrev pub cases : List Case
 cases =
     record { bytes = shares; limit = 0; expected = finds clear clear 2 4 spent 0 }
@@ -67,6 +76,7 @@ cases =
     ∷ record { bytes = two-secrets; limit = 2; expected = finds clear clear 4 8 spent 2 }
     ∷ record { bytes = two-secrets; limit = 3; expected = finds clear clear 4 8 (pairAt 5 6 2) 3 }
     ∷ record { bytes = P10 .bytes; limit = 3; expected = finds clear clear 3 6 (pairAt 3 5 1) 2 }
+    ∷ record { bytes = three-sets; limit = 1; expected = finds clear clear 5 6 (pairAt 4 5 4) 1 }
     ∷ record { bytes = two-masks; limit = 0; expected = finds clear clear 3 4 spent 0 }
     ∷ record { bytes = two-masks; limit = 1; expected = finds clear clear 3 4 noPair 1 }
     ∷ record { bytes = P2 .bytes; limit = 0; expected = finds clear clear 0 0 noPair 0 }
@@ -77,7 +87,7 @@ cases =
 
 pub replies : Each Right cases
 unfolding pairsReplyTo
-replies = refl and refl and refl and refl and refl and refl and refl and refl and refl and refl and refl and refl and tt
+replies = refl and refl and refl and refl and refl and refl and refl and refl and refl and refl and refl and refl and refl and tt
 
 -- ---- counts that differ
 

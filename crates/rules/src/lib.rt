@@ -20,7 +20,8 @@ pub struct Node {
     pub set: u16,
 }
 
-// One half of the answer: clear, or the lowest suspect node and its lowest-numbered suspect set.
+// One half of the answer: clear, or the lowest suspect node and the set that it reports: of its suspect sets the one with fewest
+// variables, and of those with as many the lowest-numbered.
 pub enum Half {
     Clear,
     Suspect(usize, usize),

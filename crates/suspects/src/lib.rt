@@ -43,7 +43,7 @@ pub fn variables_of(netlist: Netlist, class: u8) -> usize
     set
 }
 
-// Whether a part of the work bytes holds a set that has a secret and no mask.
+// Whether a part of the work bytes holds a set that has a secret and no mask. Most sets have a mask, so that is looked at first.
 fn suspect_in(work: &[u8], part: usize, secrets: usize, masks: usize, set: usize) -> bool
     requires { ⌜ HasPart (now work) part × (set < most-sets) ⌝ }
     ensures { λ r. ⌜ ((variables : List Class) → secrets ≡ variablesOf secret variables → masks ≡ variablesOf mask variables →
