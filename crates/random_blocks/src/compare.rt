@@ -25,7 +25,7 @@ use tools::print_counts;
 const BLOCKS: usize = 4000;
 
 // What was seen: counts, in the order of the names that `run` prints.
-type Tally = [usize; 36];
+type Tally = [usize; 38];
 
 // The checks answered, and behind them those refused with 1 to 11.
 const CHECKS: usize = 1;
@@ -44,16 +44,21 @@ const GLITCH: usize = 18;
 
 const CLEAR: usize = 19;
 
+// Of the reported sets, those where a lower-numbered one is suspect too, and those where another one has as few variables.
+const LOWER: usize = 20;
+
+const TIES: usize = 21;
+
 // The queries answered, and behind them those refused with 1 to 9, 12 and 13.
-const QUERIES: usize = 20;
+const QUERIES: usize = 22;
 
-const VALUES: usize = 32;
+const VALUES: usize = 34;
 
-const POINTS: usize = 33;
+const POINTS: usize = 35;
 
-const MEMBERS: usize = 34;
+const MEMBERS: usize = 36;
 
-const DIFFERENCES: usize = 35;
+const DIFFERENCES: usize = 37;
 
 // The generator's state, and what was seen.
 struct State {
@@ -62,7 +67,7 @@ struct State {
 }
 
 fn count(tally: &mut Tally, at: usize, more: usize) {
-    tally[at % 36] = wrapping_add_usize(tally[at % 36], more);
+    tally[at % 38] = wrapping_add_usize(tally[at % 38], more);
 }
 
 // ---- the check
@@ -86,6 +91,20 @@ fn same_reply(
     }
 }
 
+// Counts the set that a half of the answer reports, if it names a suspect.
+fn count_reported(tally: &mut Tally, block: Block, store: &Store, layer: usize, suspect: usize) {
+    let named = suspect != second::NONE;
+    let sets = second::suspect_sets(
+        store,
+        layer % 2 * 200 + suspect / 1024 % 200,
+        0,
+        block.classes[0],
+        block.classes[1],
+    );
+    count(tally, LOWER, one_if(named & second::is_lower_suspect(sets)));
+    count(tally, TIES, one_if(named & second::is_tie(sets)));
+}
+
 // Counts an answered block: its nodes, its suspects, and the sets of its families.
 fn count_answer(tally: &mut Tally, block: Block, store: &Store) {
     let settled = second::first_suspect(block, store, 0);
@@ -94,6 +113,8 @@ fn count_answer(tally: &mut Tally, block: Block, store: &Store) {
     count(tally, SETTLED, one_if(settled != second::NONE));
     count(tally, GLITCH, one_if(glitch != second::NONE));
     count(tally, CLEAR, one_if(glitch == second::NONE));
+    count_reported(tally, block, store, 0, settled);
+    count_reported(tally, block, store, 1, glitch);
     let mut list = 0;
     while list < second::LISTS {
         let length = second::length_of(store, list);
@@ -211,8 +232,8 @@ fn ask(tally: &mut Tally, seed: u32, bytes: &[u8], block: Block, store: &Store) 
 
 // ---- the blocks
 
-// Mostly small; some with ten variables or up to 200 nodes, some with one more than there may be, and some without registers whose
-// operands are close by, so that their families grow large.
+// Mostly small; some with ten variables or up to 200 nodes, some with one more than there may be, some without registers whose
+// operands are close by, so that their families grow large, and some with one mask or none, whose families hold several suspect sets.
 fn shape_of(seed: u32, turn: usize) -> Shape {
     let second = next(seed);
     let third = next(second);
@@ -224,6 +245,7 @@ fn shape_of(seed: u32, turn: usize) -> Shape {
         mix = generator::MASKED;
     }
     let mut near = 256;
+    let mut open = 0;
     match turn % 50 {
         1 => {
             variables = 10;
@@ -247,6 +269,12 @@ fn shape_of(seed: u32, turn: usize) -> Shape {
             mix = generator::DENSE;
             near = 4 + pick(third, 9);
         }
+        6 | 7 | 8 | 9 | 10 => {
+            variables = 4 + pick(seed, 7);
+            mix = generator::EVEN;
+            near = 2;
+            open = variables - pick(fourth, 2) % 2;
+        }
         _ => {}
     }
     Shape {
@@ -256,6 +284,7 @@ fn shape_of(seed: u32, turn: usize) -> Shape {
         nodes,
         mix,
         near,
+        open,
     }
 }
 
@@ -299,7 +328,7 @@ fn one_block(state: State, turn: usize) -> State {
 
 fn print_tally(tally: Tally) {
     print_counts(
-        b"blocks\nanswered\nchecks refused with 1:\nchecks refused with 2:\nchecks refused with 3:\nchecks refused with 4:\nchecks refused with 5:\nchecks refused with 6:\nchecks refused with 7:\nchecks refused with 8:\nchecks refused with 9:\nchecks refused with 10:\nchecks refused with 11:\nnodes\nsets in their families\nlargest family\nfamilies of more than 100 sets\nsettled suspects\nglitch suspects\nclear for glitches\nqueries answered\nqueries refused with 1:\nqueries refused with 2:\nqueries refused with 3:\nqueries refused with 4:\nqueries refused with 5:\nqueries refused with 6:\nqueries refused with 7:\nqueries refused with 8:\nqueries refused with 9:\nqueries refused with 12:\nqueries refused with 13:\nvalues 1\nfeeding points asked of a node\nmemberships yes\ndifferences\n",
+        b"blocks\nanswered\nchecks refused with 1:\nchecks refused with 2:\nchecks refused with 3:\nchecks refused with 4:\nchecks refused with 5:\nchecks refused with 6:\nchecks refused with 7:\nchecks refused with 8:\nchecks refused with 9:\nchecks refused with 10:\nchecks refused with 11:\nnodes\nsets in their families\nlargest family\nfamilies of more than 100 sets\nsettled suspects\nglitch suspects\nclear for glitches\nreported sets with a lower one suspect\nreported sets with a tie\nqueries answered\nqueries refused with 1:\nqueries refused with 2:\nqueries refused with 3:\nqueries refused with 4:\nqueries refused with 5:\nqueries refused with 6:\nqueries refused with 7:\nqueries refused with 8:\nqueries refused with 9:\nqueries refused with 12:\nqueries refused with 13:\nvalues 1\nfeeding points asked of a node\nmemberships yes\ndifferences\n",
         &tally,
     );
 }
@@ -308,7 +337,7 @@ fn print_tally(tally: Tally) {
 pub(crate) fn run() {
     let mut state = State {
         seed: 1,
-        tally: [0; 36],
+        tally: [0; 38],
     };
     let mut turn = 0;
     while turn < BLOCKS {

@@ -119,6 +119,7 @@ fn try_random(state: State) -> State {
         nodes: pick(second, NODES),
         mix,
         near: 256,
+        open: 0,
     });
     let bytes = generator::bytes_of(made);
     let n = made.length % 1025;

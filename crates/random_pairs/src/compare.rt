@@ -35,7 +35,7 @@ use tools::print_counts;
 const BLOCKS: usize = 2000;
 
 // What was seen: counts, in the order of the names that are printed.
-pub(crate) type Tally = [usize; 24];
+pub(crate) type Tally = [usize; 26];
 
 // The checks answered, and behind them those refused with 1 to 11.
 const CHECKS: usize = 1;
@@ -57,7 +57,12 @@ const JUST_SHORT: usize = 21;
 
 const JUST_ALL: usize = 22;
 
-const DIFFERENCES: usize = 23;
+// Of the sets of pairs that are found, those where a lower-numbered one is suspect too, and those where another one has as few variables.
+const LOWER: usize = 23;
+
+const TIES: usize = 24;
+
+const DIFFERENCES: usize = 25;
 
 // The generator's state, and what was seen.
 pub(crate) struct State {
@@ -66,7 +71,7 @@ pub(crate) struct State {
 }
 
 pub(crate) fn count(tally: &mut Tally, at: usize, more: usize) {
-    tally[at % 24] = wrapping_add_usize(tally[at % 24], more);
+    tally[at % 26] = wrapping_add_usize(tally[at % 26], more);
 }
 
 // ---- the search over pairs
@@ -75,6 +80,7 @@ pub(crate) fn count(tally: &mut Tally, at: usize, more: usize) {
 fn same_search(search: Search, sought: Sought) -> bool {
     let found = search.found;
     let first = sought.first;
+    let choice = first.choice;
     let finds = sought.finds;
     let same = match found {
         Found::Single(node, set) => {
@@ -82,7 +88,7 @@ fn same_search(search: Search, sought: Sought) -> bool {
         }
         Found::NoPair => (finds == NO_PAIR) | (finds == NOTHING_TO_LOOK_AT),
         Found::Pair(i, j, set) => {
-            (finds == PAIR) & (i == first.i) & (j == first.j) & (set == first.set)
+            (finds == PAIR) & (i == first.i) & (j == first.j) & (set == second::reported(choice))
         }
         Found::Spent => finds == SPENT,
     };
@@ -92,6 +98,7 @@ fn same_search(search: Search, sought: Sought) -> bool {
 // Counts the search of an answered block.
 fn count_search(tally: &mut Tally, sought: Sought) {
     let first = sought.first;
+    let choice = first.choice;
     let finds = sought.finds;
     let limit = sought.limit;
     let short = (first.position <= first.pairs) & (wrapping_add_usize(limit, 1) == first.position);
@@ -107,6 +114,16 @@ fn count_search(tally: &mut Tally, sought: Sought) {
         tally,
         JUST_ALL,
         one_if((finds == NO_PAIR) & (limit == first.pairs)),
+    );
+    count(
+        tally,
+        LOWER,
+        one_if((finds == PAIR) & second::is_lower_suspect(choice)),
+    );
+    count(
+        tally,
+        TIES,
+        one_if((finds == PAIR) & second::is_tie(choice)),
     );
     if (finds == PAIR) & (first.position > tally[HIGHEST]) {
         tally[HIGHEST] = first.position;
@@ -168,7 +185,8 @@ fn compare_check(
 // ---- the blocks
 
 // Mostly two to six variables and up to 40 nodes with many registers; some with ten variables, some with one variable or one node more
-// than there may be, and some long ones, in which hardly a node is an input.
+// than there may be, some long ones, in which hardly a node is an input, and some of gates over inputs with two or three masks among them, whose
+// pairs hold several suspect sets.
 fn shape_of(seed: u32, turn: usize) -> Shape {
     let second = next(seed);
     let third = next(second);
@@ -179,6 +197,8 @@ fn shape_of(seed: u32, turn: usize) -> Shape {
     if pick(third, 2) > 0 {
         mix = generator::MASKED;
     }
+    let mut near = 256;
+    let mut open = 0;
     match turn % 50 {
         1 | 2 => variables = 10,
         3 => {
@@ -194,6 +214,13 @@ fn shape_of(seed: u32, turn: usize) -> Shape {
             nodes = 100 + pick(second, 101);
             mix = generator::LONG;
         }
+        6 | 7 | 8 | 9 | 10 | 11 => {
+            variables = 6 + pick(seed, 5);
+            nodes = 6 + pick(second, 5);
+            mix = generator::GATES;
+            near = 2;
+            open = variables - 2 - pick(third, 2) % 2;
+        }
         _ => {}
     }
     Shape {
@@ -202,7 +229,8 @@ fn shape_of(seed: u32, turn: usize) -> Shape {
         labels: variables % 16 + number_if(pick(fourth, 16) == 0, 1),
         nodes,
         mix,
-        near: 256,
+        near,
+        open,
     }
 }
 
@@ -245,7 +273,7 @@ fn one_block(state: State, turn: usize) -> State {
 
 fn print_tally(tally: Tally) {
     print_counts(
-        b"blocks\nanswered\nchecks refused with 1:\nchecks refused with 2:\nchecks refused with 3:\nchecks refused with 4:\nchecks refused with 5:\nchecks refused with 6:\nchecks refused with 7:\nchecks refused with 8:\nchecks refused with 9:\nchecks refused with 10:\nchecks refused with 11:\nsingle suspects\nno pair\npairs found\nlimit spent\nno pair to look at\npairs looked at\nhighest position\nlimit just the position\nlimit one below it\nlimit just the number of pairs\ndifferences\n",
+        b"blocks\nanswered\nchecks refused with 1:\nchecks refused with 2:\nchecks refused with 3:\nchecks refused with 4:\nchecks refused with 5:\nchecks refused with 6:\nchecks refused with 7:\nchecks refused with 8:\nchecks refused with 9:\nchecks refused with 10:\nchecks refused with 11:\nsingle suspects\nno pair\npairs found\nlimit spent\nno pair to look at\npairs looked at\nhighest position\nlimit just the position\nlimit one below it\nlimit just the number of pairs\nsets of pairs with a lower one suspect\nsets of pairs with a tie\ndifferences\n",
         &tally,
     );
 }
@@ -254,7 +282,7 @@ fn print_tally(tally: Tally) {
 pub(crate) fn run() {
     let mut state = State {
         seed: 1,
-        tally: [0; 24],
+        tally: [0; 26],
     };
     let mut turn = 0;
     while turn < BLOCKS {

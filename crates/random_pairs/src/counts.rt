@@ -73,6 +73,7 @@ fn try_random(state: State) -> State {
         nodes: 3 + pick(second, 9),
         mix,
         near: 256,
+        open: 0,
     });
     let bytes = generator::bytes_of(made);
     let n = made.length % 1025;
@@ -96,7 +97,7 @@ fn print_tally(tally: Tally) {
 pub(crate) fn run() {
     let mut state = State {
         seed: 1,
-        tally: [0; 24],
+        tally: [0; 26],
     };
     let mut turn = 0;
     while turn < BLOCKS {

@@ -3,7 +3,8 @@ ghost use Prim.Native.Nat.{_<_};
 use crate::least;
 
 // How a block is made: from which state, how many variables it declares and how many its sets may have, its nodes, the mix of their
-// kinds, and how far below a node its operands may be.
+// kinds, and how far below a node its operands may be. `open` is how many of its variables, from variable 0 on, are secret and public by
+// turns, with masks behind them; where it is 0, any variable may be of any class.
 pub struct Shape {
     pub seed: u32,
     pub variables: usize,
@@ -11,10 +12,11 @@ pub struct Shape {
     pub nodes: usize,
     pub mix: usize,
     pub near: usize,
+    pub open: usize,
 }
 
 // The mixes, as twelve octal digits, a kind each: every kind alike, more registers and XORs as in masked blocks, no registers, more
-// registers and inputs, and mostly registers and XORs. In all but the first and the third, inputs are masked.
+// registers and inputs, mostly registers and XORs, and gates of two operands alone. In all but the first and the third, inputs are masked.
 pub const EVEN: usize = 0o765432765432;
 
 pub const MASKED: usize = 0o777765444322;
@@ -24,6 +26,8 @@ pub const DENSE: usize = 0o665544444322;
 pub const REGISTERED: usize = 0o777776543222;
 
 pub const LONG: usize = 0o777777444432;
+
+pub const GATES: usize = 0o665544654654;
 
 // Classes of variables, as eight octal digits: mostly masks.
 const CLASSES: usize = 0o11111120;
@@ -54,6 +58,17 @@ pub fn pick(seed: u32, n: usize) -> usize
     ((seed / 65536) as usize) % n
 }
 
+// The class of a variable.
+fn class_of(open: usize, v: usize, seed: u32) -> u8 {
+    if v < open {
+        return (v % 2 * 2) as u8;
+    }
+    if open > 0 {
+        return 1;
+    }
+    ((CLASSES >> (pick(seed, 8) % 8 * 3)) % 8) as u8
+}
+
 // The variables of a block; variable 0 is secret.
 fn variables(shape: Shape) -> Made {
     let mut made = Made {
@@ -65,14 +80,15 @@ fn variables(shape: Shape) -> Made {
     while v < shape.variables {
         made.seed = next(made.seed);
         made.bytes[v % 512 * 2] = 1;
-        made.bytes[v % 512 * 2 + 1] = ((CLASSES >> (pick(made.seed, 8) % 8 * 3)) % 8) as u8;
+        made.bytes[v % 512 * 2 + 1] = class_of(shape.open, v, made.seed);
         v += 1;
     }
     made.bytes[1] = 0;
     made
 }
 
-// The two bytes behind the kind of node i, low first. A masked input has a variable other than variable 0, where there is one.
+// The two bytes behind the kind of node i, low first. A masked input has a variable other than variable 0, where there is one, and in an open
+// block one of its masks, which for two inputs side by side are mostly not the same. There a gate takes the two nodes before it.
 fn body_of(shape: Shape, kind: usize, i: usize, seed: u32) -> usize {
     let other = next(seed);
     let labels = shape.labels % 16;
@@ -80,6 +96,9 @@ fn body_of(shape: Shape, kind: usize, i: usize, seed: u32) -> usize {
     if kind != 2 {
         let above = i % 256;
         let low = above - least(shape.near, above);
+        if shape.open > 0 {
+            return low + 256 * (low + 1);
+        }
         return low + pick(seed, above - low) + 256 * (low + pick(other, above - low));
     }
     if (shape.mix == EVEN) | (shape.mix == DENSE) {
@@ -88,16 +107,22 @@ fn body_of(shape: Shape, kind: usize, i: usize, seed: u32) -> usize {
     if labels < 2 {
         return any;
     }
+    if shape.open > 0 {
+        let open = least(shape.open, labels - 1);
+        let masks = labels - open;
+        let mask = open + (i % 3 + pick(other, masks - 1)) % masks % 16;
+        return pick(seed, 1usize << open) | (1usize << (mask % 16));
+    }
     any | (1usize << ((1 + pick(other, labels - 1)) % 16))
 }
 
-// The block with node i; the first two are inputs.
+// The block with node i; the first two are inputs, and in an open block two of three.
 fn with_node(made: Made, shape: Shape, i: usize) -> Made {
     let mut next_made = made;
     let seed = next(made.seed);
     let at = made.length % 1000;
     let mut kind = (shape.mix >> (pick(seed, 12) % 12 * 3)) % 8;
-    if i < 2 {
+    if (i < 2) | ((shape.open > 0) & (i % 3 < 2)) {
         kind = 2;
     }
     let body = body_of(shape, kind, i, next(seed));

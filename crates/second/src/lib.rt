@@ -37,6 +37,9 @@ pub type Store = [u16; 427024];
 // No suspect: the number behind those of all pairs of node and set.
 pub const NONE: usize = 204800;
 
+// No suspect set: the number behind those of all pairs of a number of variables and a set.
+const NO_SET: usize = 11264;
+
 // How many bytes follow a kind byte: octal digits, from kind 0 on the right.
 const BODIES: usize = 0o12221210;
 
@@ -270,19 +273,56 @@ fn add_family(store: &mut Store, node: Node, layer: usize, i: usize) {
 
 // ---- suspects
 
-// The lowest of the symmetric differences of one set with all sets of a list that has a secret and no mask, or 1,024.
-fn suspect_set(store: &Store, list: usize, with: usize, secrets: usize, masks: usize) -> usize {
+// What suspect sets some sets hold: of those with fewest variables the lowest as 1,024 × variables + set, or `NO_SET`; the highest of them as
+// 1,024 × variables + 1,023 - set; and the lowest of all.
+pub struct Choice {
+    pub first: usize,
+    pub last: usize,
+    pub lowest: usize,
+}
+
+// The set to report, one with fewest variables; whether a lower one is suspect; and whether another one has as few variables.
+pub fn reported(choice: Choice) -> usize {
+    choice.first % LONGEST
+}
+
+pub fn is_lower_suspect(choice: Choice) -> bool {
+    choice.lowest != choice.first % LONGEST
+}
+
+pub fn is_tie(choice: Choice) -> bool {
+    choice.last % LONGEST + choice.first % LONGEST != 1023
+}
+
+// The suspect ones, with a secret and no mask, among the symmetric differences of one set with all sets of a list. The variables of a set are
+// counted by spreading its bits, one to a hexadecimal digit, and casting out fifteens.
+pub fn suspect_sets(
+    store: &Store,
+    list: usize,
+    with: usize,
+    secrets: usize,
+    masks: usize,
+) -> Choice {
     let many = length_of(store, list);
+    let mut first = NO_SET;
+    let mut last = NO_SET;
     let mut lowest = LONGEST;
     let mut k = 0;
     while k < many {
-        let set = set_at(store, list, k) ^ with;
+        let set = (set_at(store, list, k) ^ with) % LONGEST;
         if (set & secrets != 0) & (set & masks == 0) {
+            let variables = ((set * 0x200040008001) & 0x111111111111111) % 15;
+            first = least(variables * LONGEST + set, first);
+            last = least(variables * LONGEST + 1023 - set, last);
             lowest = least(set, lowest);
         }
         k += 1;
     }
-    lowest
+    Choice {
+        first,
+        last,
+        lowest,
+    }
 }
 
 // The first suspect of a layer as 1,024 × node + set, or `NONE`: the last one found from the last node down.
@@ -292,15 +332,15 @@ pub fn first_suspect(block: Block, store: &Store, layer: usize) -> usize {
     while 0 < i {
         i -= 1;
         let node = block.nodes[i % 200];
-        let set = suspect_set(
+        let choice = suspect_sets(
             store,
             layer % 2 * 200 + i % 200,
             0,
             block.classes[0],
             block.classes[1],
         );
-        if (node.kind != 2) & (set < LONGEST) {
-            found = i % 200 * LONGEST + set % LONGEST;
+        if (node.kind != 2) & (choice.first < NO_SET) {
+            found = i % 200 * LONGEST + choice.first % LONGEST;
         }
     }
     found
@@ -308,30 +348,36 @@ pub fn first_suspect(block: Block, store: &Store, layer: usize) -> usize {
 
 // ---- pairs of tested nodes
 
-// How many pairs there are, and the first suspect one, i below j: its position, counted from 1, and its set. Where no pair is suspect
+// How many pairs there are, and the first suspect one, i below j: its position, counted from 1, and its sets. Where no pair is suspect
 // the position is that behind the last pair.
 pub struct FirstPair {
     pub pairs: usize,
     pub position: usize,
     pub i: usize,
     pub j: usize,
-    pub set: usize,
+    pub choice: Choice,
 }
 
-// The lowest suspect set among the symmetric differences of a set of one node's glitch family with a set of another's, or 1,024.
-fn pair_set(store: &Store, i: usize, j: usize, secrets: usize, masks: usize) -> usize {
+// The suspect sets among the symmetric differences of a set of one node's glitch family with a set of another's.
+fn pair_sets(store: &Store, i: usize, j: usize, secrets: usize, masks: usize) -> Choice {
     let many = length_of(store, 200 + i % 200);
-    let mut lowest = LONGEST;
+    let mut choice = Choice {
+        first: NO_SET,
+        last: NO_SET,
+        lowest: LONGEST,
+    };
     let mut k = 0;
     while k < many {
         let with = set_at(store, 200 + i % 200, k);
-        lowest = least(
-            suspect_set(store, 200 + j % 200, with, secrets, masks),
-            lowest,
-        );
+        let more = suspect_sets(store, 200 + j % 200, with, secrets, masks);
+        choice = Choice {
+            first: least(more.first, choice.first),
+            last: least(more.last, choice.last),
+            lowest: least(more.lowest, choice.lowest),
+        };
         k += 1;
     }
-    lowest
+    choice
 }
 
 // The tested nodes of a block, from the lowest on.
@@ -382,7 +428,11 @@ pub fn first_pair(block: Block, store: &Store) -> FirstPair {
         position: pairs + 1,
         i: 0,
         j: 0,
-        set: 0,
+        choice: Choice {
+            first: NO_SET,
+            last: NO_SET,
+            lowest: LONGEST,
+        },
     };
     let mut k = tested.count % 256 * 200;
     while 0 < k {
@@ -392,14 +442,14 @@ pub fn first_pair(block: Block, store: &Store) -> FirstPair {
         if a < b {
             let i = tested.nodes[a];
             let j = tested.nodes[b];
-            let set = pair_set(store, i, j, secrets, masks);
-            if set < LONGEST {
+            let choice = pair_sets(store, i, j, secrets, masks);
+            if choice.first < NO_SET {
                 found = FirstPair {
                     pairs,
                     position: position_of(a, b),
                     i,
                     j,
-                    set,
+                    choice,
                 };
             }
         }

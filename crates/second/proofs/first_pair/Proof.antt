@@ -45,8 +45,8 @@ mul-j c = search needs
 element-copy-out-j : tie.Need-element-copy-out-j Inv-loop μ-loop
 element-copy-out-j c = search needs
 
-pair-set-requires : tie.Need-pair-set-requires Inv-loop μ-loop
-pair-set-requires c κs = search needs
+pair-sets-requires : tie.Need-pair-sets-requires Inv-loop μ-loop
+pair-sets-requires c κs = search needs
 
 position-of-requires : tie.Need-position-of-requires Inv-loop μ-loop
 position-of-requires c κs = search needs
@@ -90,7 +90,7 @@ first-pair-spec =
     element-copy-out-i
     mul-j
     element-copy-out-j
-    pair-set-requires
+    pair-sets-requires
     position-of-requires
     loop-less
     loop-again

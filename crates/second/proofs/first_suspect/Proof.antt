@@ -21,20 +21,20 @@ mul-node c = search needs
 element-copy-out-node : tie.Need-element-copy-out-node Inv-loop μ-loop
 element-copy-out-node c = search needs
 
-mul-suspect-set : tie.Need-mul-suspect-set Inv-loop μ-loop
-mul-suspect-set c = search needs
+mul-suspect-sets : tie.Need-mul-suspect-sets Inv-loop μ-loop
+mul-suspect-sets c = search needs
 
-add-suspect-set : tie.Need-add-suspect-set Inv-loop μ-loop
-add-suspect-set c = search needs
+add-suspect-sets : tie.Need-add-suspect-sets Inv-loop μ-loop
+add-suspect-sets c = search needs
 
-element-copy-out-suspect-set : tie.Need-element-copy-out-suspect-set Inv-loop μ-loop
-element-copy-out-suspect-set c = search needs
+element-copy-out-suspect-sets : tie.Need-element-copy-out-suspect-sets Inv-loop μ-loop
+element-copy-out-suspect-sets c = search needs
 
-element-copy-out-suspect-set-2 : tie.Need-element-copy-out-suspect-set-2 Inv-loop μ-loop
-element-copy-out-suspect-set-2 c = search needs
+element-copy-out-suspect-sets-2 : tie.Need-element-copy-out-suspect-sets-2 Inv-loop μ-loop
+element-copy-out-suspect-sets-2 c = search needs
 
-suspect-set-requires : tie.Need-suspect-set-requires Inv-loop μ-loop
-suspect-set-requires c κs = search needs
+suspect-sets-requires : tie.Need-suspect-sets-requires Inv-loop μ-loop
+suspect-sets-requires c κs = search needs
 
 mul-found : tie.Need-mul-found Inv-loop μ-loop
 mul-found c = search needs
@@ -67,11 +67,11 @@ first-suspect-spec =
     sub-i
     mul-node
     element-copy-out-node
-    mul-suspect-set
-    add-suspect-set
-    element-copy-out-suspect-set
-    element-copy-out-suspect-set-2
-    suspect-set-requires
+    mul-suspect-sets
+    add-suspect-sets
+    element-copy-out-suspect-sets
+    element-copy-out-suspect-sets-2
+    suspect-sets-requires
     mul-found
     add-found
     loop-less

@@ -37,6 +37,12 @@ one-if-requires-3 c κs = search needs
 count-requires-4 : tie.Need-count-requires-4 Inv-loop μ-loop
 count-requires-4 c κs = search needs
 
+count-reported-requires : tie.Need-count-reported-requires Inv-loop μ-loop
+count-reported-requires c κs = search needs
+
+count-reported-requires-2 : tie.Need-count-reported-requires-2 Inv-loop μ-loop
+count-reported-requires-2 c κs = search needs
+
 loop-holds : tie.Need-loop-holds Inv-loop μ-loop
 loop-holds c = search needs
 
@@ -85,6 +91,8 @@ count-answer-spec =
     count-requires-3
     one-if-requires-3
     count-requires-4
+    count-reported-requires
+    count-reported-requires-2
     loop-holds
     length-of-requires
     count-requires-5

@@ -25,20 +25,11 @@ mul-made c = search needs
 element-write-made : tie.Need-element-write-made Inv-loop μ-loop
 element-write-made c = search needs
 
-pick-requires : tie.Need-pick-requires Inv-loop μ-loop
-pick-requires c κs = search needs
+class-of-requires : tie.Need-class-of-requires Inv-loop μ-loop
+class-of-requires c κs = search needs
 
 mul-made-2 : tie.Need-mul-made-2 Inv-loop μ-loop
 mul-made-2 c = search needs
-
-shr-made : tie.Need-shr-made Inv-loop μ-loop
-shr-made c = search needs
-
-cast-made : tie.Need-cast-made Inv-loop μ-loop
-cast-made c = search needs
-
-mul-made-3 : tie.Need-mul-made-3 Inv-loop μ-loop
-mul-made-3 c = search needs
 
 add-made : tie.Need-add-made Inv-loop μ-loop
 add-made c = search needs
@@ -72,11 +63,8 @@ variables-spec =
     next-requires
     mul-made
     element-write-made
-    pick-requires
+    class-of-requires
     mul-made-2
-    shr-made
-    cast-made
-    mul-made-3
     add-made
     element-write-made-2
     add-v

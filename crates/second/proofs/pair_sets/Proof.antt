@@ -1,14 +1,14 @@
--- `second::pair_set` is safe and ends: each turn leaves fewer sets. Assumes nothing.
+-- `second::pair_sets` is safe and ends: each turn leaves fewer sets. Assumes nothing.
 use borrow.Author.Needs.{needs}
 use Prim.Native.Nat.{_-_}
-use Rattle.second.proofs.pair_set.Statement.{statement}
-use Rattle.second.proofs.pair_set.Tie as tie
+use Rattle.second.proofs.pair_sets.Statement.{statement}
+use Rattle.second.proofs.pair_sets.Tie as tie
 
 abbrev Inv-loop : tie.InvT-loop
-Inv-loop store i j secrets masks many lowest₀ k₀ lowest k = Unit
+Inv-loop store i j secrets masks many choice₀ k₀ choice k = Unit
 
 abbrev μ-loop : tie.MeasureT-loop
-μ-loop store i j secrets masks many lowest₀ k₀ lowest k = many - k
+μ-loop store i j secrets masks many choice₀ k₀ choice k = many - k
 
 add-length-of : tie.Need-add-length-of Inv-loop μ-loop
 add-length-of c = search needs
@@ -25,14 +25,20 @@ add-set-at c = search needs
 set-at-requires : tie.Need-set-at-requires Inv-loop μ-loop
 set-at-requires c κs = search needs
 
-add-suspect-set : tie.Need-add-suspect-set Inv-loop μ-loop
-add-suspect-set c = search needs
+add-suspect-sets : tie.Need-add-suspect-sets Inv-loop μ-loop
+add-suspect-sets c = search needs
 
-suspect-set-requires : tie.Need-suspect-set-requires Inv-loop μ-loop
-suspect-set-requires c κs = search needs
+suspect-sets-requires : tie.Need-suspect-sets-requires Inv-loop μ-loop
+suspect-sets-requires c κs = search needs
 
 least-requires : tie.Need-least-requires Inv-loop μ-loop
 least-requires c κs = search needs
+
+least-requires-2 : tie.Need-least-requires-2 Inv-loop μ-loop
+least-requires-2 c κs = search needs
+
+least-requires-3 : tie.Need-least-requires-3 Inv-loop μ-loop
+least-requires-3 c κs = search needs
 
 add-k : tie.Need-add-k Inv-loop μ-loop
 add-k c = search needs
@@ -46,8 +52,8 @@ loop-again c = search needs
 returns : tie.Need-returns Inv-loop μ-loop
 returns c = search needs
 
-pub pair-set-spec : {M : Type 1} → statement M
-pair-set-spec =
+pub pair-sets-spec : {M : Type 1} → statement M
+pair-sets-spec =
     tie.close
     (tie.spec
     Inv-loop
@@ -57,9 +63,11 @@ pair-set-spec =
     loop-holds
     add-set-at
     set-at-requires
-    add-suspect-set
-    suspect-set-requires
+    add-suspect-sets
+    suspect-sets-requires
     least-requires
+    least-requires-2
+    least-requires-3
     add-k
     loop-less
     loop-again
