@@ -286,6 +286,36 @@ pub fn late(nodes: usize, variables: usize, random: &mut Random) -> Vec<u8> {
     records.end()
 }
 
+/// Gates over two inputs each. The last variables are masks, so many, and the others secrets and
+/// publics; of a gate's two inputs each has a mask, where there is one, and not the same, where
+/// there are two. With two or three masks most gates are clear, and a pair has several suspect sets;
+/// with none or one, a gate has.
+pub fn open(gates: usize, variables: usize, masks: usize, random: &mut Random) -> Vec<u8> {
+    let mut records = Records::default();
+    let others = variables - masks;
+    for v in 0..variables {
+        let class = if v < others {
+            random.one_of(&[0, 2])
+        } else {
+            1
+        };
+        records.variable(class);
+    }
+    for _ in 0..gates {
+        let turn = random.below(masks.max(1));
+        let [first, second] = [turn, turn + 1].map(|turn| {
+            let mask = if masks > 0 {
+                1 << (others + turn % masks)
+            } else {
+                0
+            };
+            records.input(random.below(1 << others) + mask)
+        });
+        records.binary(random.one_of(&[XOR, AND, OR]), first, second);
+    }
+    records.end()
+}
+
 /// Any classes, kinds, sets and operands.
 pub fn any(nodes: usize, variables: usize, random: &mut Random) -> Vec<u8> {
     let mut records = Records::default();

@@ -14,6 +14,10 @@ pub struct Tally {
     /// Those read, by their glitch half.
     clear: usize,
     suspect: usize,
+    /// Of the suspect ones, those whose node has a suspect set of a lower number than the one that
+    /// it reports; and the searches that find such a pair.
+    lower: usize,
+    lower_pairs: usize,
     /// Those refused, by number.
     refused: [usize; 10],
     /// Searches over pairs, by what they find.
@@ -29,6 +33,8 @@ impl Tally {
             blocks: 0,
             clear: 0,
             suspect: 0,
+            lower: 0,
+            lower_pairs: 0,
             refused: [0; 10],
             searches: ["refused", "single", "no pair", "pair", "spent"].map(|name| (name, 0)),
         }
@@ -64,7 +70,10 @@ impl Tally {
         match refused {
             Some(number) => self.refused[number.parse::<usize>().unwrap()] += 1,
             None if text.ends_with("glitch clear\n") => self.clear += 1,
-            None => self.suspect += 1,
+            None => {
+                self.suspect += 1;
+                self.lower += usize::from(has_lower(bytes));
+            }
         }
         self.compare_pairs(bytes);
         text
@@ -95,7 +104,10 @@ impl Tally {
                 Found::Refused(..) => 0,
                 Found::Single(..) => 1,
                 Found::NoPair => 2,
-                Found::Pair(..) => 3,
+                Found::Pair(i, j, _) => {
+                    self.lower_pairs += usize::from(plain[1].has_lower(i, j));
+                    3
+                }
                 Found::Spent => 4,
             };
             self.searches[case].1 += 1;
@@ -105,8 +117,9 @@ impl Tally {
     pub fn print(&self) {
         println!("{} blocks compared, no difference.", self.blocks);
         println!(
-            "Glitch half clear: {}. Glitch half with a suspect: {}.",
-            self.clear, self.suspect
+            "Glitch half clear: {}. Glitch half with a suspect: {}, of these with a lower-numbered \
+             suspect set: {}.",
+            self.clear, self.suspect, self.lower
         );
         let refused: Vec<_> = (1..=9)
             .map(|number| format!("{number}: {}", self.refused[number]))
@@ -118,7 +131,20 @@ impl Tally {
             .map(|(name, count)| format!("{name}: {count}"));
         println!("{all} searches over pairs compared, no difference.");
         println!("By what they find: {}.", cases.join(", "));
+        println!(
+            "Pairs with a lower-numbered suspect set: {}.",
+            self.lower_pairs
+        );
     }
+}
+
+/// Whether the first suspect node of a block for glitching signals has a suspect set of a lower
+/// number than the one that it reports.
+fn has_lower(bytes: &[u8]) -> bool {
+    let netlist = plain::read(bytes).unwrap_or_default();
+    let families = plain::families(&netlist.nodes, plain::by_words);
+    let first = plain::first_suspect(&netlist, families.iter().map(|both| &both.glitch));
+    first.is_some_and(|(_, sets)| sets.has_lower())
 }
 
 /// Reports a difference and ends the program.
@@ -148,7 +174,8 @@ pub fn document(tally: &mut Tally) {
 }
 
 /// The edges of the limits; block A with every change of one byte, and cut at every byte; blocks
-/// with any nodes; damaged ones; blocks with many registers, in which pairs are suspect or clear.
+/// with any nodes; damaged ones; blocks with many registers, in which pairs are suspect or clear;
+/// blocks with several suspect sets at a node or a pair.
 pub fn many(tally: &mut Tally) {
     let mut random = Random(1);
     for variables in [MOST_VARIABLES, MOST_VARIABLES + 1] {
@@ -200,5 +227,9 @@ pub fn many(tally: &mut Tally) {
             20 + random.below(100)
         };
         tally.compare(&blocks::late(nodes, 7 + random.below(4), &mut random));
+    }
+    for at in 0..2000 {
+        let (gates, variables) = (1 + random.below(6), 4 + random.below(7));
+        tally.compare(&blocks::open(gates, variables, at % 4, &mut random));
     }
 }

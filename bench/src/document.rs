@@ -1,4 +1,4 @@
-//! The blocks of document 01 and what it says of them.
+//! The blocks of document 01, and of change request A2, and what these say of them.
 
 /// Name, bytes and text: the whole listing, or where it starts with `..` its last lines.
 pub const BLOCKS: &[(&str, &[u8], &str)] = &[
@@ -58,6 +58,11 @@ pub const BLOCKS: &[(&str, &[u8], &str)] = &[
         "refused 2 3\n",
     ),
     ("an AND cut short", &[5, 0], "refused 4 0\n"),
+    (
+        "A2's example",
+        &[1, 0, 1, 2, 1, 0, 2, 3, 0, 2, 4, 0, 5, 0, 1, 0],
+        "..settled 2 4\nglitch 2 4\n",
+    ),
 ];
 
 /// Variables secret, mask, mask; inputs 3, 2 and 4; 3 the XOR of 0 and 2; 4 the XOR of 3 and 1.

@@ -2,6 +2,7 @@
 //! It compares every answer, then measures time and memory. See docs/BENCH.md.
 
 mod blocks;
+mod clock;
 mod compare;
 mod document;
 mod memory;

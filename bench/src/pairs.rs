@@ -50,14 +50,11 @@ impl Block {
                 return block;
             }
         };
-        let suspect = netlist.suspect();
-        for set in (0..1024).filter(|set| suspect(*set)) {
-            block.suspects.insert(set);
-        }
+        block.suspects = netlist.suspects();
         let families = plain::families(&netlist.nodes, product);
         let glitch = families.iter().map(|both| &both.glitch);
         block.before = plain::first_suspect(&netlist, glitch.clone())
-            .map(|(node, set)| Found::Single(node, usize::from(set)));
+            .and_then(|(node, sets)| Some(Found::Single(node, usize::from(sets.reported()?))));
         let numbered = netlist.nodes.iter().zip(glitch).enumerate();
         block.tested = numbered
             .filter(|(_, (node, _))| node.tested())
@@ -80,6 +77,17 @@ impl Block {
         self.tested.iter().map(|(_, family)| family.len()).sum()
     }
 
+    /// The suspect sets of a pair's product.
+    fn suspects_of(&self, first: &Family, second: &Family) -> Family {
+        (self.product)(first, second).common(&self.suspects)
+    }
+
+    /// Whether a pair has a suspect set of a lower number than the one that it reports.
+    pub fn has_lower(&self, i: usize, j: usize) -> bool {
+        let family = |node| &self.tested.iter().find(|(k, _)| *k == node).unwrap().1;
+        self.suspects_of(family(i), family(j)).has_lower()
+    }
+
     /// Looks at the pairs in their order, at most as many as the limit allows.
     pub fn search(&self, limit: usize) -> Search {
         let mut looked = 0;
@@ -90,8 +98,7 @@ impl Block {
                         return Found::Spent;
                     }
                     looked += 1;
-                    let product = (self.product)(first, second);
-                    if let Some(set) = product.first_in(&self.suspects) {
+                    if let Some(set) = self.suspects_of(first, second).reported() {
                         return Found::Pair(*i, *j, usize::from(set));
                     }
                 }

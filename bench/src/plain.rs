@@ -36,13 +36,19 @@ impl Netlist {
         all.filter(|(_, c)| **c == class).map(|(v, _)| 1 << v).sum()
     }
 
-    /// Whether a set is suspect: it has a secret and no mask.
-    pub fn suspect(&self) -> impl Fn(u16) -> bool {
+    /// All suspect sets: those with a secret and no mask.
+    pub fn suspects(&self) -> Family {
         let (secrets, masks) = (
             self.variables_of(Class::Secret),
             self.variables_of(Class::Mask),
         );
-        move |set| set & secrets != 0 && set & masks == 0
+        let mut suspects = Family::default();
+        for set in 0..1 << MOST_VARIABLES {
+            if set & secrets != 0 && set & masks == 0 {
+                suspects.insert(set);
+            }
+        }
+        suspects
     }
 }
 
@@ -159,11 +165,23 @@ impl Family {
         self
     }
 
-    /// The lowest-numbered set that both families hold.
-    pub fn first_in(&self, other: &Family) -> Option<u16> {
-        let words = self.0.iter().zip(other.0).map(|(word, more)| word & more);
-        let (at, word) = (0u16..).zip(words).find(|(_, word)| *word != 0)?;
-        Some(64 * at + word.trailing_zeros() as u16)
+    /// The sets that both families hold.
+    pub fn common(mut self, other: &Family) -> Family {
+        for (word, more) in self.0.iter_mut().zip(other.0) {
+            *word &= more;
+        }
+        self
+    }
+
+    /// Of a family of suspect sets the one to report: of those with fewest variables the
+    /// lowest-numbered.
+    pub fn reported(&self) -> Option<u16> {
+        self.sets().min_by_key(|set| (set.count_ones(), *set))
+    }
+
+    /// Whether a lower-numbered set would be reported by its number alone.
+    pub fn has_lower(&self) -> bool {
+        self.sets().next() != self.reported()
     }
 
     /// The sets, from the lowest-numbered up.
@@ -268,19 +286,20 @@ pub fn families(nodes: &[Node], product: Product) -> Vec<Families> {
     all
 }
 
-/// The lowest tested node with a suspect set, and its lowest-numbered one.
+/// The lowest tested node with a suspect set, and all its suspect sets.
 pub fn first_suspect<'a>(
     netlist: &Netlist,
     layer: impl Iterator<Item = &'a Family>,
-) -> Option<(usize, u16)> {
-    let suspect = netlist.suspect();
+) -> Option<(usize, Family)> {
+    let suspects = netlist.suspects();
     netlist
         .nodes
         .iter()
         .zip(layer)
         .enumerate()
         .filter(|(_, (node, _))| node.tested())
-        .find_map(|(i, (_, family))| Some((i, family.sets().find(|set| suspect(*set))?)))
+        .map(|(i, (_, family))| (i, family.common(&suspects)))
+        .find(|(_, found)| found.len() != 0)
 }
 
 /// The listing's text for these netlist bytes.
@@ -323,7 +342,10 @@ pub fn listing(bytes: &[u8], product: Product) -> String {
     for (half, found) in halves {
         match found {
             None => writeln!(text, "{half} clear").unwrap(),
-            Some((node, set)) => writeln!(text, "{half} {node} {set}").unwrap(),
+            Some((node, sets)) => {
+                let set = sets.reported().expect("a suspect node has a suspect set");
+                writeln!(text, "{half} {node} {set}").unwrap()
+            }
         }
     }
     text
