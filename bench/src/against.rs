@@ -1,6 +1,6 @@
 //! The listing and the search over pairs of this checkout beside those of another one, whose
 //! functions are linked under names of their own. Only time is compared: the answers may differ.
-//! See docs/BENCH.md.
+//! Prints a line a row: its name, and what both take. See docs/BENCH.md.
 
 #![allow(dead_code)]
 
@@ -10,7 +10,10 @@ mod clock;
 use std::hint::black_box;
 
 use blocks::{block, Kind, Random};
-use clock::{figure, round, ROUNDS};
+use clock::{round, ROUNDS};
+
+// Moves all functions behind it: where a loop comes to lie within 64 bytes changes its time.
+core::arch::global_asm!(".text", concat!(".skip ", env!("SKIP")));
 
 /// How many bytes have room for every listing.
 const MOST_TEXT: usize = 3654;
@@ -38,17 +41,10 @@ fn row(name: &str, scale: f64, blocks: &[Vec<u8>], check: impl Fn(usize, &[u8]))
         }
     }
     let [this, other] = times;
-    let figures = [this, other, this / other].map(figure);
-    println!("| {name} | {} |", figures.join(" | "));
-}
-
-fn head(title: &str, unit: &str) {
-    println!("\n{title}\n\n| block | this, {unit} | other, {unit} | this / other |");
-    println!("|---|---:|---:|---:|");
+    println!("{name}\t{this}\t{other}");
 }
 
 fn main() {
-    head("Listings", "µs");
     for kind in [Kind::Sparse, Kind::Between, Kind::Dense] {
         for (nodes, variables) in [(25, 10), (100, 2), (100, 4), (100, 6), (100, 10), (200, 10)] {
             let mut random = Random((1000 * nodes + variables) as u64);
@@ -56,7 +52,7 @@ fn main() {
             let blocks: Vec<_> = (0..count)
                 .map(|_| block(kind, nodes, variables, &mut random))
                 .collect();
-            let name = format!("{kind}, {nodes} nodes, {variables} variables");
+            let name = format!("{kind}, {nodes} nodes, {variables} variables, µs");
             row(&name, 1e6, &blocks, |way, bytes| {
                 let mut text = [0; MOST_TEXT];
                 // SAFETY: both pointers are valid for their lengths.
@@ -66,13 +62,12 @@ fn main() {
             });
         }
     }
-    head("Searches over all pairs, 10 variables", "ms");
     for kind in [Kind::Sparse, Kind::Wide] {
         for nodes in [50, 100, 200] {
             let mut random = Random(nodes as u64);
             let blocks = [(); 2].map(|()| block(kind, nodes, 10, &mut random));
             row(
-                &format!("{kind}, {nodes} nodes"),
+                &format!("pairs of {kind}, {nodes} nodes, ms"),
                 1e3,
                 &blocks,
                 |way, bytes| {
