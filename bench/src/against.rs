@@ -9,7 +9,7 @@ mod clock;
 
 use std::hint::black_box;
 
-use blocks::{block, Kind, Random};
+use blocks::{block, few_masks, Kind, Random};
 use clock::{round, ROUNDS};
 
 // Moves all functions behind it: where a loop comes to lie within 64 bytes changes its time.
@@ -44,6 +44,29 @@ fn row(name: &str, scale: f64, blocks: &[Vec<u8>], check: impl Fn(usize, &[u8]))
     println!("{name}\t{this}\t{other}");
 }
 
+/// The row of the listings of these blocks, and that of the searches over all their pairs.
+fn listings(name: &str, blocks: &[Vec<u8>]) {
+    row(&format!("{name}, µs"), 1e6, blocks, |way, bytes| {
+        let mut text = [0; MOST_TEXT];
+        // SAFETY: both pointers are valid for their lengths.
+        black_box(unsafe {
+            LISTINGS[way](bytes.as_ptr(), bytes.len(), text.as_mut_ptr(), text.len())
+        });
+    });
+}
+
+fn searches(name: &str, blocks: &[Vec<u8>]) {
+    row(
+        &format!("pairs of {name}, ms"),
+        1e3,
+        blocks,
+        |way, bytes| {
+            // SAFETY: the pointer is valid for the length.
+            black_box(unsafe { SEARCHES[way](bytes.as_ptr(), bytes.len(), usize::MAX) });
+        },
+    );
+}
+
 fn main() {
     for kind in [Kind::Sparse, Kind::Between, Kind::Dense] {
         for (nodes, variables) in [(25, 10), (100, 2), (100, 4), (100, 6), (100, 10), (200, 10)] {
@@ -52,29 +75,23 @@ fn main() {
             let blocks: Vec<_> = (0..count)
                 .map(|_| block(kind, nodes, variables, &mut random))
                 .collect();
-            let name = format!("{kind}, {nodes} nodes, {variables} variables, µs");
-            row(&name, 1e6, &blocks, |way, bytes| {
-                let mut text = [0; MOST_TEXT];
-                // SAFETY: both pointers are valid for their lengths.
-                black_box(unsafe {
-                    LISTINGS[way](bytes.as_ptr(), bytes.len(), text.as_mut_ptr(), text.len())
-                });
-            });
+            listings(
+                &format!("{kind}, {nodes} nodes, {variables} variables"),
+                &blocks,
+            );
         }
     }
     for kind in [Kind::Sparse, Kind::Wide] {
         for nodes in [50, 100, 200] {
             let mut random = Random(nodes as u64);
             let blocks = [(); 2].map(|()| block(kind, nodes, 10, &mut random));
-            row(
-                &format!("pairs of {kind}, {nodes} nodes, ms"),
-                1e3,
-                &blocks,
-                |way, bytes| {
-                    // SAFETY: the pointer is valid for the length.
-                    black_box(unsafe { SEARCHES[way](bytes.as_ptr(), bytes.len(), usize::MAX) });
-                },
-            );
+            searches(&format!("{kind}, {nodes} nodes"), &blocks);
         }
+    }
+    for masks in [1, 2, 3, 5] {
+        let blocks = [few_masks(100, masks)];
+        let name = format!("registers, {masks} of 10 variables masks");
+        listings(&name, &blocks);
+        searches(&name, &blocks);
     }
 }

@@ -286,6 +286,23 @@ pub fn late(nodes: usize, variables: usize, random: &mut Random) -> Vec<u8> {
     records.end()
 }
 
+/// Registers one behind the other over a mask, with one secret, so many masks and otherwise publics.
+pub fn few_masks(nodes: usize, masks: usize) -> Vec<u8> {
+    let mut records = Records::default();
+    for v in 0..MOST_VARIABLES {
+        records.variable(match v {
+            0 => 0,
+            v if v <= masks => 1,
+            _ => 2,
+        });
+    }
+    let mut last = records.input(2);
+    while records.nodes < nodes {
+        last = records.unary(REGISTER, last);
+    }
+    records.end()
+}
+
 /// Gates over two inputs each. The last variables are masks, so many, and the others secrets and
 /// publics; of a gate's two inputs each has a mask, where there is one, and not the same, where
 /// there are two. With two or three masks most gates are clear, and a pair has several suspect sets;

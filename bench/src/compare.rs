@@ -228,6 +228,9 @@ pub fn many(tally: &mut Tally) {
         };
         tally.compare(&blocks::late(nodes, 7 + random.below(4), &mut random));
     }
+    for masks in 1..MOST_VARIABLES {
+        tally.compare(&blocks::few_masks(40, masks));
+    }
     for at in 0..2000 {
         let (gates, variables) = (1 + random.below(6), 4 + random.below(7));
         tally.compare(&blocks::open(gates, variables, at % 4, &mut random));

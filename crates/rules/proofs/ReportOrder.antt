@@ -13,11 +13,11 @@ use Rattle.rules.proofs.Tests.{or-left, or-right, or-cases, and-left, a
 
 -- ---- set A is earlier than set B
 
-pub earlier-fewer : (A B : ℕ) → variableCount A < variableCount B → T (earlier A B)
+earlier-fewer : (A B : ℕ) → variableCount A < variableCount B → T (earlier A B)
 unfolding earlier
 earlier-fewer A B h = or-left (ltb (variableCount A) (variableCount B)) _ (lt→ltb (variableCount A) (variableCount B) h)
 
-pub earlier-lower : (A B : ℕ) → variableCount A ≡ variableCount B → A < B → T (earlier A B)
+earlier-lower : (A B : ℕ) → variableCount A ≡ variableCount B → A < B → T (earlier A B)
 unfolding earlier
 earlier-lower A B e h =
     rw (eq-eqb (variableCount A) (variableCount B) e) (or-right (ltb (variableCount A) (variableCount B)) (ltb A B) (lt→ltb A B h))

@@ -161,7 +161,7 @@ unfoldable pub bits : (k number : ℕ) → List Bool
 bits zero s = []
 bits (suc k) s = odd s ∷ bits k (s / 2)
 
--- the number of variables of a set, of whatever class they are
+-- the number of variables of a set: how many of the ten it holds, of whatever class they are
 unfoldable pub variableCount : (set : ℕ) → ℕ
 variableCount s = count (λ b. b) (bits most-variables s)
 

@@ -10,7 +10,7 @@ use native.Mathlib.Numerals.{add-one}
 use native.Mathlib.Omega.{arith}
 use borrow.Author.Tests.{ne-eqb}
 use lib.Bits.{bitAnd, and-step, and-zero-r}
-use lib.Dec.{T, eqb, T-not, not-T, eqb·suc-zero}
+use lib.Dec.{T, eqb, not-T, eqb·suc-zero}
 use lib.ListN.{length, getD, take, length-map}
 use lib.Seq.{take-suc, length-take-le}
 use Rattle.rules.specs.Lists.{digit, member}
