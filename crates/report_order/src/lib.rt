@@ -4,7 +4,7 @@ ghost use mathlib.Core.Path.{_≡_};
 ghost use Rattle.report_order.specs.Order.{reportOrder};
 use families::SETS;
 
-// All sets in that order. A table in a local of the caller: a constant that is indexed where it stands is laid out anew for each look.
+// All sets in that order, by value: a caller keeps them in a local, because a constant that is indexed where it stands is laid out anew at each look.
 pub fn sets_in_order() -> [u16; SETS]
     ensures { λ r. ⌜ r ≡ reportOrder ⌝ }
 {
