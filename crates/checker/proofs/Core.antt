@@ -4,9 +4,10 @@ use mathlib.Core.Path.{_≡_, refl, sym, ap, subst, _∙_}
 use mathlib.Core.Logic.{_↔_}
 use mathlib.Core.List.{List, _++_}
 use Prim.Native.Nat.{ℕ, _*_, _<_, _≤_}
+use native.Mathlib.Omega.{arith}
 use lib.ListN.{length, drop}
 use borrow.Author.Tests.{lt-ltb, le-ltb}
-use Rattle.rules.specs.Records.{Netlist, empty}
+use Rattle.rules.specs.Records.{Netlist, empty, WellFormed}
 use Rattle.rules.specs.Families.{families, findings}
 use Rattle.rules.specs.Slices.{workBytes, filled, workAfter, reply}
 use Rattle.rules.specs.Checks.{answered, refused, andThen, judged, read, slicesFit, admitted}
@@ -24,31 +25,42 @@ use Rattle.netlists.proofs.Netlists.{value-variables, value-count, well-formed}
 use Rattle.suspects.specs.Suspects.{found}
 use Rattle.suspects.proofs.Search.{found-half}
 use Rattle.checker.specs.declared.Examined.{Examined}
-use Rattle.checker.specs.Work.{Examines}
+use Rattle.checker.specs.Work.{Examines, Looks}
 
 -- a refusal, with nothing kept and nothing written
-refusal : (r : Refusal) (k p : ℕ) (examined : Examined) (work : List ℕ) → numberOf r ≡ k → placeOf r ≡ p
+pub refusal : (r : Refusal) (k p : ℕ) (examined : Examined) (work : List ℕ) → numberOf r ≡ k → placeOf r ≡ p
     → examined .reply ≡ Refused r → examined .netlist ≡ flatOf empty → Examines (refused k p) examined work work
 unfolding andThen kept filled
 refusal r k p examined work n w e t =
     record { reply = subst (λ x. replyOf x ≡ refused k p) (sym e) (rw (n, w)); netlist = t; work = refl }
 
--- the answer of a netlist whose families stand in the work slice
-pub answers : (value : Value.Netlist) (work : ℕ) → Ready value work → (n : Netlist) → value ≡ flatOf n → (settled glitch : Half) (before : List ℕ) {after : List ℕ}
-    → after ≡ workBytes (families n) ++ drop (length (workBytes (families n))) before → findingOf settled ≡ found n 0 after → findingOf glitch ≡ found n 1 after
-    → Examines (answered n) (record {
+-- what the scans of both layers find is the answer
+pub looks : (value : Value.Netlist) (work : List ℕ) (settled glitch : Half)
+    → ((n : Netlist) → value ≡ flatOf n → findingOf settled ≡ found n 0 work) → ((n : Netlist) → value ≡ flatOf n → findingOf glitch ≡ found n 1 work)
+    → Looks value work (record {
       reply = Answered (record { variables = value .variables; nodes = value .count; settled = settled; glitch = glitch });
       netlist = value;
-    }) before after
-unfolding andThen findings kept filled
-answers value work ready n e settled glitch before w s g =
-    let formed = well-formed (ready .formed) n e in
-    let halves = found-half n formed (drop (length (workBytes (families n))) before) in
-    let first = s ∙ ap (found n 0) w ∙ halves .0 in
-    let second = g ∙ ap (found n 1) w ∙ halves .1 in
-    let variables = value-variables n e in
-    let nodes = value-count n e in
-    record { reply = rw (first, second, variables, nodes); netlist = e; work = w }
+    })
+unfolding findings
+looks value work settled glitch s g =
+    record { netlist = refl; stands = λ k p e. let z : _≡_ {A = ℕ} 0 1 = cc in omega arith; finds = answer }
+  where
+    answer : (n : Netlist) → WellFormed n → value ≡ flatOf n → (rest : List ℕ) → work ≡ workBytes (families n) ++ rest
+        → answered (record { variables = value .variables; nodes = value .count; settled = findingOf settled; glitch = findingOf glitch }) ≡ answered (findings n)
+    answer n formed e rest w =
+        let halves = found-half n formed rest in
+        let first = s n e ∙ ap (found n 0) w ∙ halves .0 in
+        let second = g n e ∙ ap (found n 1) w ∙ halves .1 in
+        let variables = value-variables n e in
+        let nodes = value-count n e in
+        rw (first, second, variables, nodes)
+
+-- the answer of a netlist whose families stand in the work slice
+pub answers : (value : Value.Netlist) {work : ℕ} → Ready value work → (n : Netlist) → value ≡ flatOf n → (examined : Examined) (before : List ℕ) {after : List ℕ}
+    → after ≡ workBytes (families n) ++ drop (length (workBytes (families n))) before → Looks value after examined → Examines (answered n) examined before after
+unfolding andThen kept filled
+answers value ready n e examined before w l =
+    record { reply = l .finds n (well-formed (ready .formed) n e) e _ w; netlist = l .netlist ∙ e; work = w }
 
 -- the slices are too short, or hold a netlist of so many nodes
 module _ (entries count : ℕ) (n : Netlist) (examined : Examined) (before : List ℕ) (same : count ≡ length (n .nodes)) where

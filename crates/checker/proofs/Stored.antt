@@ -31,14 +31,14 @@ module _ (records before : List Node) where
   stored-length zero = refl
   stored-length (suc k) = length-set (stored records before k) k (getD records k blank) ∙ stored-length k
 
-  stored-front : (k : ℕ) → k ≤ length records → k ≤ length before → stored records before k ≡ take k records ++ drop k before
+  pub stored-front : (k : ℕ) → k ≤ length records → k ≤ length before → stored records before k ≡ take k records ++ drop k before
   unfolding stored
   stored-front zero h h′ = refl
   stored-front (suc k) h h′ =
       rw (stored-front k (omega arith) (omega arith)) (simp zero-add at (paste-suc before 0 records k blank (omega arith) (omega arith)))
 
 -- all records of a netlist by value
-flat-stored : (n : Netlist) (before : List Node) → length (n .nodes) ≤ length before
+pub flat-stored : (n : Netlist) (before : List Node) → length (n .nodes) ≤ length before
     → stored (flatOf n .nodes) before (flatOf n .count) ≡ map entry (n .nodes) ++ drop (length (map entry (n .nodes))) before
 unfolding flatOf padded
 flat-stored n before enough =

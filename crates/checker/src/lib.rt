@@ -10,8 +10,8 @@ ghost use Rattle.rules.specs.Slices.{nodesAfter, workAfter, reply};
 ghost use Rattle.rules.specs.Checks.{answered, slicesFit, admitted};
 ghost use Rattle.rules.specs.Demands.{GlitchClear, NothingSuspect, OneProbe};
 ghost use Rattle.rules.specs.Paper.{replyOf};
-ghost use Rattle.netlists.specs.Netlists.{blank, flatOf, Formed, Ready, kept};
-ghost use Rattle.checker.specs.Work.{Examines, stored};
+ghost use Rattle.netlists.specs.Netlists.{blank, flatOf, Formed, Ready, Sized, kept};
+ghost use Rattle.checker.specs.Work.{Examines, Looks, stored};
 use netlists::Netlist;
 use rules::Answer;
 use rules::Node;
@@ -26,7 +26,7 @@ pub struct Examined {
 }
 
 // A refusal, with nothing kept.
-fn refused(refusal: Refusal) -> Examined
+pub fn refused(refusal: Refusal) -> Examined
     ensures { λ r. ⌜ (r .reply ≡ Reply.Refused refusal) × (r .netlist ≡ flatOf Records.empty) ⌝ }
 {
     Examined {
@@ -35,13 +35,11 @@ fn refused(refusal: Refusal) -> Examined
     }
 }
 
-// The answer for a netlist that both slices have room for.
-fn answer(netlist: Netlist, work: &mut [u8]) -> Examined
-    requires { ⌜ Ready netlist (length (now work)) ⌝ }
-    ensures { λ r. ⌜ ((n : Records.Netlist) → netlist ≡ flatOf n →
-        Examines (answered n) r (now (work .entry)) (now (work .exit))) ⌝ }
+// The answer for a netlist whose families stand in the work bytes.
+pub fn look(netlist: Netlist, work: &[u8]) -> Examined
+    requires { ⌜ Sized netlist (length (now work)) ⌝ }
+    ensures { λ r. ⌜ Looks netlist (now (work .entry)) r ⌝ }
 {
-    nodes::all_families(netlist, work);
     let settled = suspects::scan(netlist, 0, work);
     let glitch = suspects::scan(netlist, 1, work);
     let answer = Answer {
@@ -54,6 +52,16 @@ fn answer(netlist: Netlist, work: &mut [u8]) -> Examined
         reply: Reply::Answered(answer),
         netlist,
     }
+}
+
+// The answer for a netlist that both slices have room for.
+fn answer(netlist: Netlist, work: &mut [u8]) -> Examined
+    requires { ⌜ Ready netlist (length (now work)) ⌝ }
+    ensures { λ r. ⌜ ((n : Records.Netlist) → netlist ≡ flatOf n →
+        Examines (answered n) r (now (work .entry)) (now (work .exit))) ⌝ }
+{
+    nodes::all_families(netlist, work);
+    look(netlist, work)
 }
 
 // The answer for a netlist that was read, or the refusal of slices that are too short for it.

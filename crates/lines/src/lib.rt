@@ -65,8 +65,8 @@ pub fn put_refusal(text: &mut [u8], refusal: Refusal) -> usize
         (line (word "refused" ∷ decimal (numberOf refusal) ∷ decimal (placeOf refusal) ∷ [])) ⌝ }
 {
     let number = put_word(text, 0, b"refused");
-    let place = put_field(text, number, rules::number_of(refusal));
-    let end = put_field(text, place, rules::place_of(refusal));
+    let place = put_field(text, number, refusals::number_of(refusal));
+    let end = put_field(text, place, refusals::place_of(refusal));
     put_byte(text, end, 10)
 }
 

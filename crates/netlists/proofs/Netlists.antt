@@ -1,6 +1,6 @@
 -- Netlists by value: a store behind the entries is one entry more, each entry stands in the flat form, and no two netlists have the same one. By laws
--- of padded lists of any length, so that no array is unfolded. And what follows of a file that was read where it is answered, and where it is
--- refused. Assumes nothing.
+-- of padded lists of any length, so that no array is unfolded. And what follows of one record that was found, and of a file that was read, where
+-- it is answered and where it is refused. Assumes nothing.
 use Prim.Native.Nat.{ℕ, zero, suc, _-_, _≤_, _<_}
 use mathlib.Core.Path.{_≡_, refl, sym, ap, subst, _∙_}
 use mathlib.Core.List.{List, [], _∷_, _++_, map, map-append}
@@ -11,13 +11,14 @@ use lib.Seq.{append-snoc, set-append-seam, take-at}
 use Rattle.rules.specs.declared.Node.{Node}
 use Rattle.rules.specs.declared.Refusal.{Refusal}
 use Rattle.rules.specs.declared.QueryOutcome.the-variants as Query
-use Rattle.rules.specs.Records.{public, Cell, input, NOT, XOR, AND, OR, register, Netlist, WellFormed, classOf, classByte, kindOf, operands, setOf, most-variables, most-nodes}
+use Rattle.rules.specs.Records.{public, Cell, input, NOT, XOR, AND, OR, register, Record, node, Netlist, WellFormed, said, classOf, classByte, kindOf, operands, setOf, most-variables, most-nodes}
 use Rattle.rules.specs.Slices.{entry}
-use Rattle.rules.specs.Checks.{Outcome, answered, refused, andThen, read}
+use Rattle.rules.specs.Checks.{Outcome, answered, refused, andThen, judgedRecord, read}
 use Rattle.rules.specs.Paper.{numberOf, placeOf, queryOf}
 use Rattle.rules.proofs.Members.{all-at}
-use Rattle.rules.proofs.Records.{class-of-byte}
+use Rattle.rules.proofs.Records.{answer, class-of-byte}
 use Rattle.rules.proofs.Reading.{read-well-formed}
+use Rattle.records.specs.Found.{RecordBytes, foundIf}
 use Rattle.netlists.specs.declared.Netlist.{Netlist as Flat}
 use Rattle.netlists.specs.declared.ReadFile.{ReadFile}
 use Rattle.netlists.specs.Netlists.{padded, blank, flatOf, Formed, kept, Reads}
@@ -172,6 +173,34 @@ module _ {value : Flat} (f : Formed value) where
 
       below : (k : ℕ) → getD own k 0 < most-nodes
       below = all-at (λ a. a < most-nodes) own 0 (λ a t. omega (arith, f .obeys .lower i here a t, few-nodes)) (omega arith)
+
+-- ---- one record of a file
+
+-- a kind from 2 to 7 says a node
+pub says-node : (k b c : ℕ) → 2 ≤ k → k ≤ 7 → (cell : Cell) × (said k b c ≡ node cell)
+unfolding said
+says-node zero b c p q = absurd (omega arith)
+says-node (suc zero) b c p q = absurd (omega arith)
+says-node (suc (suc zero)) b c p q = (_, refl)
+says-node (suc (suc (suc zero))) b c p q = (_, refl)
+says-node (suc (suc (suc (suc zero)))) b c p q = (_, refl)
+says-node (suc (suc (suc (suc (suc zero))))) b c p q = (_, refl)
+says-node (suc (suc (suc (suc (suc (suc zero)))))) b c p q = (_, refl)
+says-node (suc (suc (suc (suc (suc (suc (suc zero))))))) b c p q = (_, refl)
+says-node (suc (suc (suc (suc (suc (suc (suc (suc k)))))))) b c p q = absurd (omega arith)
+
+-- where a record is found, the rules accept one, and the bytes found are those that they judge
+pub found-record : (total v n here k b c : ℕ) (found : RecordBytes) (o : Outcome Record) → judgedRecord total v n here k b c ≡ o
+    → answered found ≡ foundIf o k b c → (o ≡ answered (said k b c)) × (found ≡ record { kind = k; first = b; second = c })
+unfolding foundIf andThen judgedRecord
+found-record total v n here k b c found (answered r) e f = (ap answered (sym (answer _ _ _ e)), cc)
+found-record total v n here k b c found (refused number place) e f = (cc, cc)
+
+-- where a refusal is found, it is theirs
+pub found-refusal : (o : Outcome Record) (k b c number place : ℕ) → refused number place ≡ foundIf o k b c → refused number place ≡ o
+unfolding foundIf andThen
+found-refusal (answered r) k b c number place e = cc
+found-refusal (refused i p) k b c number place e = cc
 
 -- ---- a file that was read
 

@@ -43,6 +43,12 @@ pub record Ready (value : Netlist) (work : ℕ) : Type 0 where
   pub formed : Formed value
   pub room : 256 * value .count ≤ work
 
+-- a netlist by value, whatever it is of, has no more variables and nodes than there may be, and so many work bytes have room for its nodes
+pub record Sized (value : Netlist) (work : ℕ) : Type 0 where
+  pub variables : value .variables ≤ most-variables
+  pub nodes : value .count ≤ most-nodes
+  pub room : 256 * value .count ≤ work
+
 -- the netlist that is kept of an outcome: the empty one on a refusal
 unfoldable pub kept : Outcome R.Netlist → R.Netlist
 kept (answered n) = n

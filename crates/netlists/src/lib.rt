@@ -1,6 +1,6 @@
 // Netlists by value, and the walk over a file, which takes record by record and gives its netlist or the refusal.
 ghost use mathlib.Core.Path.{_≡_};
-ghost use Prim.Native.Nat.{ℕ, _<_, _≤_};
+ghost use Prim.Native.Nat.{ℕ, _+_, _<_, _≤_};
 ghost use Rattle.rules.specs.Records.{Cell, Class, said, size, node, classByte, empty, withVariable, withNode, most-variables, most-nodes, last-kind, most-record};
 ghost use Rattle.rules.specs.Records as Records;
 ghost use Rattle.rules.specs.Slices.{entry};
@@ -71,10 +71,11 @@ fn with_variable(netlist: Netlist, class: u8) -> Netlist
 }
 
 // The netlist with one node more.
-fn with_node(netlist: Netlist, last: Node) -> Netlist
+pub fn with_node(netlist: Netlist, last: Node) -> Netlist
     requires { ⌜ netlist .count < most-nodes ⌝ }
     ensures { λ r. ⌜ ((n : Records.Netlist) (cell : Cell) → netlist ≡ flatOf n → last ≡ entry cell →
         r ≡ flatOf (withNode n cell)) ⌝ }
+    ensures more { λ r. ⌜ (r .variables ≡ netlist .variables) × (r .count ≡ netlist .count + 1) ⌝ }
 {
     let mut longer = netlist;
     let at = longer.count;
@@ -84,7 +85,7 @@ fn with_node(netlist: Netlist, last: Node) -> Netlist
 }
 
 // The node record of a node of kind `k` with the body `b`, `c`.
-fn entry_of(k: u8, b: u8, c: u8) -> Node
+pub fn entry_of(k: u8, b: u8, c: u8) -> Node
     ensures { λ r. ⌜ ((cell : Cell) → said k b c ≡ node cell → r ≡ entry cell) ⌝ }
 {
     if k == 2 {
@@ -120,7 +121,7 @@ fn entry_of(k: u8, b: u8, c: u8) -> Node
 }
 
 // How many bytes a variable or a node of kind `k` takes.
-fn size_of(k: u8) -> usize
+pub fn size_of(k: u8) -> usize
     ensures { λ r. ⌜ ((b c : ℕ) → 0 < k → k ≤ last-kind → r ≡ size (said k b c)) ⌝ }
     ensures few { λ r. ⌜ r ≤ most-record ⌝ }
 {

@@ -73,7 +73,7 @@ fn glitch_family(work: &mut [u8], i: usize, node: Node)
 }
 
 // Both families of node `i`.
-fn node_families(work: &mut [u8], i: usize, node: Node)
+pub fn node_families(work: &mut [u8], i: usize, node: Node)
     requires { ⌜ (256 * i + 256 ≤ length (now work)) × Placed i node ⌝ }
     ensures { λ _. ⌜ ((cell : Cell) → node ≡ entry cell →
         now (work .exit) ≡ withFamilies (now (work .entry)) i (familiesRule (soFar (now (work .entry)) i) cell)) ⌝ }

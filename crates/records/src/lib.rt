@@ -25,7 +25,7 @@ pub struct Reader<'a> {
 // ---- one record
 
 // The byte `k` places behind `here`, and 0 where the file has none there.
-fn byte_behind(bytes: &[u8], here: usize, k: usize) -> u8
+pub fn byte_behind(bytes: &[u8], here: usize, k: usize) -> u8
     ensures { λ r. ⌜ r ≡ getD (now (bytes .entry)) (here + k) 0 ⌝ }
 {
     if bytes.len() <= here {
@@ -149,7 +149,15 @@ fn judge_binary(
 }
 
 // The record of kind `k` with the body `b`, `c` whose kind byte stands at `here`, in a file of `total` bytes.
-fn judge(total: usize, variables: usize, nodes: usize, here: usize, k: u8, b: u8, c: u8) -> Found
+pub fn judge(
+    total: usize,
+    variables: usize,
+    nodes: usize,
+    here: usize,
+    k: u8,
+    b: u8,
+    c: u8,
+) -> Found
     ensures { λ r. ⌜ foundOf r ≡ foundIf (judgedRecord total variables nodes here k b c) k b c ⌝ }
 {
     if total <= here {

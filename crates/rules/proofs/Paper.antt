@@ -8,7 +8,7 @@ use lib.ListN.{getD}
 use Rattle.rules.specs.declared.Half.{Half}
 use Rattle.rules.specs.declared.Half.the-variants.{Clear, Suspect}
 use Rattle.rules.specs.declared.Refusal.{Refusal}
-use Rattle.rules.specs.declared.Refusal.the-variants.{UnknownKind, LateVariable, OverLimit, CutShort, UnknownClass, UndeclaredSet, BadOperand, NoEnd, BytesAfterEnd, FewEntries, ShortWork, NoSuchNode, UndeclaredBit}
+use Rattle.rules.specs.declared.Refusal.the-variants.{UnknownKind, LateVariable, OverLimit, CutShort, UnknownClass, UndeclaredSet, BadOperand, NoEnd, BytesAfterEnd, FewEntries, ShortWork, NoSuchNode, UndeclaredBit, StillNamed}
 use Rattle.rules.specs.declared.Reply.{Reply}
 use Rattle.rules.specs.declared.Reply.the-variants.{Refused, Answered}
 use Rattle.rules.specs.declared.QueryOutcome.{QueryOutcome}
@@ -37,6 +37,7 @@ refusalOf k p =
     ∷ ShortWork p
     ∷ NoSuchNode p
     ∷ UndeclaredBit p
+    ∷ StillNamed p
     ∷ [])
     (pred k)
     (UnknownKind p)
@@ -56,9 +57,10 @@ told (FewEntries p) = refl
 told (ShortWork p) = refl
 told (NoSuchNode p) = refl
 told (UndeclaredBit p) = refl
+told (StillNamed p) = refl
 
--- there are 13 refusals
-pub number-most : (r : Refusal) → numberOf r ≤ 13
+-- there are 14 refusals
+pub number-most : (r : Refusal) → numberOf r ≤ 14
 number-most (UnknownKind p) = omega arith
 number-most (LateVariable p) = omega arith
 number-most (OverLimit p) = omega arith
@@ -72,6 +74,7 @@ number-most (FewEntries p) = omega arith
 number-most (ShortWork p) = omega arith
 number-most (NoSuchNode p) = omega arith
 number-most (UndeclaredBit p) = omega arith
+number-most (StillNamed p) = omega arith
 
 -- a half by what it says
 halfOf : Finding → Half

@@ -16,16 +16,16 @@ use Rattle.rules.specs.Lists.{member}
 use Rattle.rules.specs.Records.{Class, Cell, input, Record, end, variable, node, Netlist, WellFormed, withVariable, withNode, most-variables, most-nodes, operands, setOf, recordBytes, size, variablesOut, nodesOut, writtenOut, most-record, most-bytes}
 use Rattle.rules.specs.Checks.{Outcome, answered, refused, overLimit, undeclared, undeclaredSet, notBelow, badOperand, recordAt, Progress, reading, finished, taken, step, after, most-records, outcomeOf, read}
 use Rattle.rules.specs.Listing.{most-input}
-use Rattle.rules.proofs.Records.{Accepted, accepted, size-most, total-unseen, Bytes, next-bytes}
+use Rattle.rules.proofs.Records.{Allowed, Accepted, accepted, size-most, total-unseen, Bytes, next-bytes}
 
 -- ---- what one more record keeps
 
-neither : (a b : Bool) → (a || b) ≡ false → (a ≡ false) × (b ≡ false)
+pub neither : (a b : Bool) → (a || b) ≡ false → (a ≡ false) × (b ≡ false)
 neither true b e = (e, cc)
 neither false b e = (refl, e)
 
 -- where no operand fails the check, each is below the node
-operands-below : (own : ℕ) (l : List ℕ) → notBelow own l ≡ false → (a : ℕ) → T (member a l) → a < own
+pub operands-below : (own : ℕ) (l : List ℕ) → notBelow own l ≡ false → (a : ℕ) → T (member a l) → a < own
 unfolding notBelow member
 operands-below own [] e a t = absurd t
 operands-below own (x ∷ l) e a t =
@@ -43,6 +43,22 @@ snoc d P [] a old new zero h = new
 snoc d P [] a old new (suc i) h = absurd (omega arith)
 snoc d P (x ∷ l) a old new zero h = old 0 (omega arith)
 snoc d P (x ∷ l) a old new (suc i) h = snoc d (λ j. P (suc j)) l a (λ j q. old (suc j) (omega arith)) new i (omega arith)
+
+-- a netlist with one node more, which the checks allow behind it, obeys the record rules
+pub node-formed : (n : Netlist) (c : Cell) → WellFormed n → Allowed n (node c) → WellFormed (withNode n c)
+unfolding overLimit undeclaredSet undeclared badOperand
+node-formed n c formed a =
+    let room : length (n .nodes) < most-nodes = leb-false _ _ (a .room) in
+    record {
+      few-variables = formed .few-variables;
+      few-nodes = omega (arith, length-append (n .nodes) (c ∷ []));
+      lower =
+          snoc (input 0) (λ i cell. (a : ℕ) → T (member a (operands cell)) → a < i) (n .nodes) c
+          (formed .lower) (operands-below _ (operands c) (a .below));
+      declared =
+          snoc (input 0) (λ i cell. setOf cell < 2 ^ length (n .variables)) (n .nodes) c (formed .declared)
+          (leb-false _ _ (a .declared));
+    }
 
 -- a netlist written out, without the end
 abbrev pub out : Netlist → List ℕ
@@ -100,22 +116,11 @@ module _ (bytes : List ℕ) (k : ℕ) (n : Netlist) (here : ℕ) (r : Reached by
       }
 
   next-node : (c : Cell) → Accepted bytes n here (node c) → Reached bytes (suc k) (withNode n c) (here + size (node c))
-  unfolding overLimit undeclaredSet undeclared badOperand
   next-node c a =
-      let room : length (n .nodes) < most-nodes = leb-false _ _ (a .allowed .room) in
       let one-more = length-append (n .nodes) (c ∷ []) in
       record {
         counted = omega (arith, r .counted);
-        formed = record {
-          few-variables = r .formed .few-variables;
-          few-nodes = omega arith;
-          lower =
-              snoc (input 0) (λ i cell. (a : ℕ) → T (member a (operands cell)) → a < i) (n .nodes) c
-              (r .formed .lower) (operands-below _ (operands c) (a .allowed .below));
-          declared =
-              snoc (input 0) (λ i cell. setOf cell < 2 ^ length (n .variables)) (n .nodes) c (r .formed .declared)
-              (leb-false _ _ (a .allowed .declared));
-        };
+        formed = node-formed n c (r .formed) (a .allowed);
         short = omega (arith, size-most (node c));
         written = λ low. rw (out-node n c, ← r .written low) (next-bytes bytes n here (node c) low a);
       }

@@ -19,12 +19,12 @@ pub record Room (entries work : ℕ) (n : Netlist) : Type 0 where
   pub enough-entries : length (n .nodes) ≤ entries
   pub enough-work : 256 * length (n .nodes) ≤ work
 
-has-room : (entries work : ℕ) (m n : Netlist) → slicesFit entries work m ≡ answered n → (m ≡ n) × Room entries work m
+pub has-room : (entries work : ℕ) (m n : Netlist) → slicesFit entries work m ≡ answered n → (m ≡ n) × Room entries work m
 unfolding slicesFit
 has-room entries work m n e =
     (answer _ m n e, record { enough-entries = ltb-false _ _ (passes _ m n e 0); enough-work = ltb-false _ _ (passes _ m n e 1) })
 
-fits : (entries work : ℕ) (n : Netlist) → Room entries work n → slicesFit entries work n ≡ answered n
+pub fits : (entries work : ℕ) (n : Netlist) → Room entries work n → slicesFit entries work n ≡ answered n
 unfolding slicesFit judged
 fits entries work n room = rw (le-ltb _ _ (room .enough-entries), le-ltb _ _ (room .enough-work))
 

@@ -1,7 +1,5 @@
 // The types of the checker's and the queries' answers, and the limits. `specs/Paper.antt` gives each of their cases document
 // 01's number and values; the rules themselves are in the other files of `specs/`, and what is proved of them in `proofs/`.
-ghost use mathlib.Core.Path.{_≡_};
-ghost use Rattle.rules.specs.Paper.{numberOf, placeOf};
 
 // At most 10 variables and 200 nodes.
 pub const MOST_VARIABLES: usize = 10;
@@ -36,7 +34,7 @@ pub struct Answer {
     pub glitch: Half,
 }
 
-// The refusals, in the order of their numbers from 1 to 13, each with its place.
+// The refusals, in the order of their numbers from 1 to 14, each with its place.
 pub enum Refusal {
     // A kind above 7.
     UnknownKind(usize),
@@ -64,6 +62,8 @@ pub enum Refusal {
     NoSuchNode(usize),
     // An assignment or set with a bit of an undeclared variable.
     UndeclaredBit(usize),
+    // A node to be given up that another node names.
+    StillNamed(usize),
 }
 
 // What the checker replies.
@@ -93,46 +93,4 @@ pub struct MembershipReply {
     pub outcome: QueryOutcome,
     pub settled: bool,
     pub glitch: bool,
-}
-
-// A refusal's number.
-pub fn number_of(refusal: Refusal) -> usize
-    ensures { λ r. ⌜ r ≡ numberOf refusal ⌝ }
-{
-    match refusal {
-        Refusal::UnknownKind(_) => 1,
-        Refusal::LateVariable(_) => 2,
-        Refusal::OverLimit(_) => 3,
-        Refusal::CutShort(_) => 4,
-        Refusal::UnknownClass(_) => 5,
-        Refusal::UndeclaredSet(_) => 6,
-        Refusal::BadOperand(_) => 7,
-        Refusal::NoEnd(_) => 8,
-        Refusal::BytesAfterEnd(_) => 9,
-        Refusal::FewEntries(_) => 10,
-        Refusal::ShortWork(_) => 11,
-        Refusal::NoSuchNode(_) => 12,
-        Refusal::UndeclaredBit(_) => 13,
-    }
-}
-
-// A refusal's place.
-pub fn place_of(refusal: Refusal) -> usize
-    ensures { λ r. ⌜ r ≡ placeOf refusal ⌝ }
-{
-    match refusal {
-        Refusal::UnknownKind(place) => place,
-        Refusal::LateVariable(place) => place,
-        Refusal::OverLimit(place) => place,
-        Refusal::CutShort(place) => place,
-        Refusal::UnknownClass(place) => place,
-        Refusal::UndeclaredSet(place) => place,
-        Refusal::BadOperand(place) => place,
-        Refusal::NoEnd(place) => place,
-        Refusal::BytesAfterEnd(place) => place,
-        Refusal::FewEntries(place) => place,
-        Refusal::ShortWork(place) => place,
-        Refusal::NoSuchNode(place) => place,
-        Refusal::UndeclaredBit(place) => place,
-    }
 }

@@ -10,7 +10,7 @@ ghost use Rattle.rules.specs.Records as Records;
 ghost use Rattle.rules.specs.Records.{Class, secret, mask, Cell, kindOf, classByte, most-variables, most-sets};
 ghost use Rattle.rules.specs.Families.{suspect, tested, reported};
 ghost use Rattle.rules.specs.Paper.{findingOf};
-ghost use Rattle.netlists.specs.Netlists.{flatOf, Ready};
+ghost use Rattle.netlists.specs.Netlists.{flatOf, Sized};
 ghost use Rattle.families.specs.Parts.{HasPart, familyAt};
 ghost use Rattle.suspects.specs.Suspects.{variablesOf, reportOf, found};
 use families::SETS;
@@ -92,7 +92,7 @@ fn first_place(kind: u8) -> usize
 
 // The lowest suspect node of a layer (settled 0, glitch 1) and the set that it reports.
 pub fn scan(netlist: Netlist, layer: usize, work: &[u8]) -> Half
-    requires { ⌜ Ready netlist (length (now work)) × (layer < 2) ⌝ }
+    requires { ⌜ Sized netlist (length (now work)) × (layer < 2) ⌝ }
     ensures { λ r. ⌜ ((n : Records.Netlist) → netlist ≡ flatOf n → findingOf r ≡ found n layer (now (work .entry))) ⌝ }
 {
     let secrets = variables_of(netlist, 0);

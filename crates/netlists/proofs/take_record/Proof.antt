@@ -9,30 +9,17 @@ use borrow.Author.Needs.{needs}
 use borrow.Author.Tests.{leb-false, ltb-false}
 use Rattle.rules.specs.Records.{Record, Netlist, last-kind, said}
 use Rattle.rules.specs.Checks as C
-use Rattle.rules.specs.Checks.{Outcome, answered, refused, andThen, judgedRecord, judgedAt, recordAt, reading, finished, taken, step}
-use Rattle.rules.proofs.Records.{passes, answer}
+use Rattle.rules.specs.Checks.{Outcome, answered, judgedRecord, judgedAt, recordAt, reading, finished, taken, step}
+use Rattle.rules.proofs.Records.{passes}
 use Rattle.records.specs.declared.Found.the-variants as Found
-use Rattle.records.specs.Found.{RecordBytes, foundOf, foundIf, foundAt}
+use Rattle.records.specs.Found.{RecordBytes, foundOf, foundAt}
 use Rattle.netlists.specs.declared.Progress.{Progress}
 use Rattle.netlists.specs.Netlists.{flatOf, RoomFor, Reached}
-use Rattle.netlists.proofs.Netlists.{read-value}
+use Rattle.netlists.proofs.Netlists.{found-record, found-refusal, read-value}
 use Rattle.netlists.proofs.take_record.Statement.{statement}
 use Rattle.netlists.proofs.take_record.Tie as tie
 
--- where a record is found, the rules accept one, and the bytes found are those that they judge
-found-record : (total v n here k b c : ℕ) (found : RecordBytes) (o : Outcome Record) → judgedRecord total v n here k b c ≡ o
-    → answered found ≡ foundIf o k b c → (o ≡ answered (said k b c)) × (found ≡ record { kind = k; first = b; second = c })
-unfolding foundIf andThen judgedRecord
-found-record total v n here k b c found (answered r) e f = (ap answered (sym (answer _ _ _ e)), cc)
-found-record total v n here k b c found (refused number place) e f = (cc, cc)
-
--- where a refusal is found, it is theirs
-found-refusal : (o : Outcome Record) (k b c number place : ℕ) → refused number place ≡ foundIf o k b c → refused number place ≡ o
-unfolding foundIf andThen
-found-refusal (answered r) k b c number place e = cc
-found-refusal (refused i p) k b c number place e = cc
-
--- a record that they accept has a kind, a class and room
+-- a record that the rules accept has a kind, a class and room
 judged-room : (total : ℕ) (s : Progress) (k b c : ℕ) → total < 2 ^ 63
     → judgedRecord total (s .file .netlist .variables) (s .file .netlist .count) (s .here) k b c ≡ answered (said k b c) → RoomFor s k b c
 unfolding judgedRecord said

@@ -1,28 +1,14 @@
 -- `netlists::with_record` meets its contract: by the tests on the kind, each with what the record then says. Assumes nothing.
-use Prim.Native.Nat.{ℕ, zero, suc, _≤_}
-use mathlib.Core.Path.{_≡_, refl, sym}
+use mathlib.Core.Path.{refl, sym}
 use native.Mathlib.Omega.{arith}
 use borrow.Author.Needs.{needs}
 use borrow.Author.Tests.{leb-false}
-use Rattle.rules.specs.Records.{Cell, node, said, classOf}
+use Rattle.rules.specs.Records.{said, classOf}
 use Rattle.rules.specs.Checks.{overLimit, taken}
 use Rattle.rules.proofs.Records.{byte-of-class}
-use Rattle.netlists.proofs.Netlists.{read-value}
+use Rattle.netlists.proofs.Netlists.{says-node, read-value}
 use Rattle.netlists.proofs.with_record.Statement.{statement}
 use Rattle.netlists.proofs.with_record.Tie as tie
-
--- a kind from 2 to 7 says a node
-says-node : (k b c : ℕ) → 2 ≤ k → k ≤ 7 → (cell : Cell) × (said k b c ≡ node cell)
-unfolding said
-says-node zero b c p q = absurd (omega arith)
-says-node (suc zero) b c p q = absurd (omega arith)
-says-node (suc (suc zero)) b c p q = (_, refl)
-says-node (suc (suc (suc zero))) b c p q = (_, refl)
-says-node (suc (suc (suc (suc zero)))) b c p q = (_, refl)
-says-node (suc (suc (suc (suc (suc zero))))) b c p q = (_, refl)
-says-node (suc (suc (suc (suc (suc (suc zero)))))) b c p q = (_, refl)
-says-node (suc (suc (suc (suc (suc (suc (suc zero))))))) b c p q = (_, refl)
-says-node (suc (suc (suc (suc (suc (suc (suc (suc k)))))))) b c p q = absurd (omega arith)
 
 returns : tie.Need-returns
 unfolding said taken
@@ -70,7 +56,7 @@ returns-3 c n here e =
     let start = c .before .before .before .before .before .before .before .before .before in
     let (cell, says) = says-node (start .args .k) (start .args .b) (start .args .c) (omega arith) (start .pre .kind) in
     let sized = c .before .before .before .before .before .before .size-of .ensures .0 (start .args .b) (start .args .c) (omega arith) (start .pre .kind) in
-    let longer = c .before .with-node .ensures n cell (read-value n (e .file)) (c .before .before .entry-of .ensures cell says) in
+    let longer = c .before .with-node .ensures .0 n cell (read-value n (e .file)) (c .before .before .entry-of .ensures cell says) in
     rw says (record { over = refl; here = rw (e .here, sized, says); file = c .answered2 .ensures _ longer })
 
 pub with-record-spec : {M : Type 1} → statement M

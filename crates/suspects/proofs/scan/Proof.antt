@@ -15,7 +15,7 @@ use Rattle.rules.specs.Records.{secret, mask, input, kindOf, classByte, most-va
 use Rattle.rules.specs.Families.{suspectAt}
 use Rattle.rules.specs.Slices.{entry}
 use Rattle.netlists.specs.Netlists.{blank, flatOf}
-use Rattle.netlists.proofs.Netlists.{flat-entry-at, few-variables, few-nodes}
+use Rattle.netlists.proofs.Netlists.{flat-entry-at}
 use Rattle.report_order.specs.Order.{setAt}
 use Rattle.report_order.proofs.Order.{set-low}
 use Rattle.suspects.specs.Suspects.{found}
@@ -46,7 +46,7 @@ start c = c .before .before .before .before .before
 
 -- the bounds of the netlist
 few : (c : tie.Start Inv-loop μ-loop Inv-nodes μ-nodes) → (c .args .t1 .variables ≤ most-variables) × (c .args .t1 .count ≤ most-nodes)
-few c = (few-variables (c .pre .0 .formed), few-nodes (c .pre .0 .formed))
+few c = (c .pre .0 .variables, c .pre .0 .nodes)
 
 variables-of-requires : tie.Need-variables-of-requires Inv-loop μ-loop Inv-nodes μ-nodes
 variables-of-requires c κs = few (c .before) .0
