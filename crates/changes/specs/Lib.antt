@@ -1,0 +1,2 @@
+-- What an edit of a block by value comes to.
+pub mod Changes

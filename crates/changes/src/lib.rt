@@ -1,0 +1,103 @@
+// An edit of an open block by value, over its work bytes: a new node at the end, or a node given up. An addition works out the families
+// of the new node and of no other; a removal moves those behind the node down and works out none; then the answer is looked for.
+ghost use Prim.Native.Nat.{_<_};
+ghost use lib.ListN.{length};
+ghost use Rattle.rules.specs.Records.{most-nodes};
+ghost use Rattle.netlists.specs.Netlists.{Sized};
+ghost use Rattle.nodes.specs.Work.{Placed};
+ghost use Rattle.open_blocks.specs.Edits as Edits;
+ghost use Rattle.open_blocks.specs.Meaning.{editOf};
+ghost use Rattle.changes.specs.Changes.{Limited, Adds, GivesUp, Changes};
+use checker::Examined;
+use netlists::Netlist;
+use open_blocks::Edit;
+use open_blocks::Offer;
+use rules::MOST_NODES;
+use rules::MOST_VARIABLES;
+use rules::Node;
+use rules::Refusal;
+
+// ---- a new node
+
+// The answer for a block with a node more, which can stand at its number, or the refusal of slices that are too short for it.
+fn add_offered(block: Netlist, node: Node, entries: usize, work: &mut [u8]) -> Examined
+    requires { ⌜ Limited block × (block .count < most-nodes) × Placed (block .count) node ⌝ }
+    ensures { λ r. ⌜ Adds block node entries r (now (work .entry)) (now (work .exit)) ⌝ }
+{
+    let count = block.count;
+    let needed = count + 1;
+    let bytes = 256 * needed;
+    if entries < needed {
+        return checker::refused(Refusal::FewEntries(needed));
+    }
+    if work.len() < bytes {
+        return checker::refused(Refusal::ShortWork(bytes));
+    }
+    nodes::node_families(work, count, node);
+    checker::look(netlists::with_node(block, node), work)
+}
+
+// A new node at the end of a block: its record is judged before both slices.
+fn add_node(block: Netlist, bytes: &[u8], entries: usize, work: &mut [u8]) -> Examined
+    requires { ⌜ Limited block ⌝ }
+    ensures { λ r. ⌜ Changes block (Edits.add (now (bytes .entry))) entries r (now (work .entry)) (now (work .exit)) ⌝ }
+{
+    match open_blocks::offered(bytes, block.variables, block.count) {
+        Offer::Refused(refusal) => checker::refused(refusal),
+        Offer::Node(node) => add_offered(block, node, entries, work),
+    }
+}
+
+// ---- a node given up
+
+// The answer for a block without one of its nodes, or the refusal where another node names it.
+fn give_up(block: Netlist, gone: usize, work: &mut [u8]) -> Examined
+    requires { ⌜ Sized block (length (now work)) × (gone < block .count) ⌝ }
+    ensures { λ r. ⌜ GivesUp block gone r (now (work .entry)) (now (work .exit)) ⌝ }
+{
+    let count = block.count;
+    let by = open_blocks::naming(block, gone);
+    if by < count {
+        return checker::refused(Refusal::StillNamed(by));
+    }
+    open_blocks::move_down(work, gone, count);
+    checker::look(open_blocks::without_node(block, gone), work)
+}
+
+// A node given up: 12, then both slices for the nodes that the block has, then 14.
+fn remove_node(block: Netlist, gone: usize, entries: usize, work: &mut [u8]) -> Examined
+    requires { ⌜ Limited block ⌝ }
+    ensures { λ r. ⌜ Changes block (Edits.remove gone) entries r (now (work .entry)) (now (work .exit)) ⌝ }
+{
+    let count = block.count;
+    let bytes = 256 * count;
+    if count <= gone {
+        return checker::refused(Refusal::NoSuchNode(gone));
+    }
+    if entries < count {
+        return checker::refused(Refusal::FewEntries(count));
+    }
+    if work.len() < bytes {
+        return checker::refused(Refusal::ShortWork(bytes));
+    }
+    give_up(block, gone, work)
+}
+
+// ---- an edit
+
+// An edit of a block by value, in slices of so many entries and of these work bytes. No block has more variables or nodes than there
+// may be: a state that says so is nobody's, and is refused.
+pub fn change(block: Netlist, edit: Edit, bytes: &[u8], entries: usize, work: &mut [u8]) -> Examined
+    ensures { λ r. ⌜ Changes block (editOf edit (now (bytes .entry))) entries r (now (work .entry)) (now (work .exit)) ⌝ }
+{
+    if MOST_VARIABLES < block.variables {
+        return checker::refused(Refusal::OverLimit(block.count));
+    }
+    if MOST_NODES < block.count {
+        return checker::refused(Refusal::OverLimit(block.count));
+    }
+    match edit {
+        Edit::Add => add_node(block, bytes, entries, work),
+        Edit::Remove(node) => remove_node(block, node, entries, work),
+    }
+}

@@ -1,0 +1,7 @@
+-- What is proved of edits: a block that is loaded by value, what an edit keeps, what it promises, and any run of edits.
+pub mod Loaded
+pub mod Kept
+pub mod Promises
+pub mod Runs
+-- A mutable slice that is lent as a shared one for the length of a call.
+pub mod Shared

@@ -1,0 +1,412 @@
+-- Taking out a node that no node names leaves every other entry, renumbered. The law is said once, of any table (`Tables`): over the step, the
+-- entries' type, and a relation between an entry before and the entry after. It is by recursion over the nodes: those before the one that is gone,
+-- that one, those behind it. Families and settled values follow at equality, feeding points at "each point renumbered". Assumes nothing.
+use Prim.Native.Nat.{ℕ, zero, suc, _+_, _-_, _≤_, _<_, _^_}
+use mathlib.Core.Path.{_≡_, refl, sym, ap, ap₂, _∙_, subst}
+use mathlib.Core.Bool.{Bool, true, false, cond, _||_}
+use mathlib.Core.List.{List, [], _∷_, _++_, map}
+use native.Mathlib.Decide.{decLe, ℕ-discrete}
+use native.Mathlib.Omega.{arith}
+use lib.Dec.{T, eqb}
+use lib.ListN.{length, getD, length-append, length-map, List·getD-append, List·getD-eq-default, List·getD-map}
+use lib.Seq.{getD-at, ext-getD}
+use borrow.Author.Tests.{lt-ltb, le-ltb, eq-eqb, ne-eqb}
+use Rattle.rules.specs.Lists.{member, insert, union}
+use Rattle.rules.specs.Tables.{table}
+use Rattle.rules.specs.Records.{Cell, input, NOT, XOR, AND, OR, register, Netlist, WellFormed, operands, setOf}
+use Rattle.rules.specs.Values.{Assignment, valueRule, values, feedingRule, feedings, feeding}
+use Rattle.rules.specs.Families.{Families, constant, settledRule, glitchRule, familiesRule, families}
+use Rattle.rules.proofs.Lists.{member-head, member-tail}
+use Rattle.rules.proofs.Members.{All, all-none, all-front, all-single, all-union}
+use Rattle.open_blocks.specs.Edits.{lowered, renumbered, without, withoutNode, names, naming}
+
+-- ---- numbers that follow where node `gone` is
+
+-- another node than the one that is gone
+abbrev pub Other : (gone a : ℕ) → Type 0
+Other gone a = a ≡ gone → ⊥
+
+module _ (gone : ℕ) where
+  pub lowered-low : (a : ℕ) → a ≤ gone → lowered gone a ≡ a
+  unfolding lowered
+  lowered-low a h = rw (le-ltb gone a h)
+
+  pub lowered-high : (a : ℕ) → gone < a → lowered gone a ≡ a - 1
+  unfolding lowered
+  lowered-high a h = rw (lt-ltb gone a h)
+
+  -- each number is that of another node than the one that is gone
+  pub record Raised (a : ℕ) : Type 0 where
+    pub before : ℕ
+    pub other : Other gone before
+    pub follows : lowered gone before ≡ a
+
+  pub raise : (a : ℕ) → Raised a
+  raise a = go (decLe gone a)
+    where
+      go : Dec (gone ≤ a) → Raised a
+      go (yes h) = record { before = suc a; other = λ e. omega arith; follows = omega (arith, lowered-high (suc a) (omega arith)) }
+      go (no h) = record { before = a; other = λ e. omega arith; follows = lowered-low a (omega arith) }
+
+  -- the order is kept, so no two numbers become the same
+  pub lowered-less : (a b : ℕ) → Other gone a → Other gone b → a < b → lowered gone a < lowered gone b
+  lowered-less a b p q h = go (decLe a gone) (decLe b gone)
+    where
+      go : Dec (a ≤ gone) → Dec (b ≤ gone) → lowered gone a < lowered gone b
+      go (yes l) (yes m) = rw (lowered-low a l, lowered-low b m) h
+      go (yes l) (no m) = rw (lowered-low a l, lowered-high b (omega arith)) (omega arith)
+      go (no l) (yes m) = absurd (omega arith)
+      go (no l) (no m) = rw (lowered-high a (omega arith), lowered-high b (omega arith)) (omega arith)
+
+  pub lowered-same : (a b : ℕ) → Other gone a → Other gone b → lowered gone a ≡ lowered gone b → a ≡ b
+  lowered-same a b p q e = go (ℕ-discrete a b)
+    where
+      go : Dec (a ≡ b) → a ≡ b
+      go (yes h) = h
+      go (no h) = absurd (apart (decLe a b))
+        where
+          apart : Dec (a ≤ b) → ⊥
+          apart (yes l) = omega (arith, lowered-less a b p q (omega arith))
+          apart (no l) = omega (arith, lowered-less b a q p (omega arith))
+
+  pub lowered-back : (a b : ℕ) → lowered gone a < lowered gone b → a < b
+  lowered-back a b h = go (decLe a gone) (decLe b gone)
+    where
+      go : Dec (a ≤ gone) → Dec (b ≤ gone) → a < b
+      go (yes l) (yes m) = rw (lowered-low a l, lowered-low b m) at h
+      go (yes l) (no m) = omega arith
+      go (no l) (yes m) = omega (arith, lowered-high a (omega arith), lowered-low b m)
+      go (no l) (no m) = omega (arith, lowered-high a (omega arith), lowered-high b (omega arith))
+
+  pub lowered-most : (a : ℕ) → lowered gone a ≤ a
+  lowered-most a = go (decLe a gone)
+    where
+      go : Dec (a ≤ gone) → lowered gone a ≤ a
+      go (yes h) = omega (arith, lowered-low a h)
+      go (no h) = omega (arith, lowered-high a (omega arith))
+
+  lowered-next : (a : ℕ) → Other gone a → lowered gone (a + 1) ≡ lowered gone a + 1
+  lowered-next a p = go (decLe a gone)
+    where
+      go : Dec (a ≤ gone) → lowered gone (a + 1) ≡ lowered gone a + 1
+      go (yes h) = let l : a < gone = omega arith in omega (arith, lowered-low a h, lowered-low (a + 1) (omega arith))
+      go (no h) = omega (arith, lowered-high a (omega arith), lowered-high (a + 1) (omega arith))
+
+lowered-suc : (gone a : ℕ) → lowered (suc gone) (suc a) ≡ suc (lowered gone a)
+lowered-suc gone a = go (decLe a gone)
+  where
+    go : Dec (a ≤ gone) → lowered (suc gone) (suc a) ≡ suc (lowered gone a)
+    go (yes h) = omega (arith, lowered-low gone a h, lowered-low (suc gone) (suc a) (omega arith))
+    go (no h) = omega (arith, lowered-high gone a (omega arith), lowered-high (suc gone) (suc a) (omega arith))
+
+-- ---- a node that is not named
+
+-- no node of the list names node `gone`
+abbrev pub Unnamed : ℕ → List Cell → Type 0
+Unnamed gone cells = length cells ≤ naming gone cells
+
+module _ (gone : ℕ) where
+  pub unnamed-first : (cell : Cell) (cells : List Cell) → Unnamed gone (cell ∷ cells) → names gone cell ≡ false
+  unfolding naming
+  unnamed-first cell cells h = go (names gone cell) refl
+    where
+      go : (b : Bool) → names gone cell ≡ b → names gone cell ≡ false
+      go true e = absurd (omega (arith, rw e at h))
+      go false e = e
+
+  pub unnamed-rest : (cell : Cell) (cells : List Cell) → Unnamed gone (cell ∷ cells) → Unnamed gone cells
+  unfolding naming
+  unnamed-rest cell cells h = omega (arith, rw (unnamed-first cell cells h) at h)
+
+  pub unnamed-at : (cells : List Cell) → Unnamed gone cells → (i : ℕ) → names gone (getD cells i (input 0)) ≡ false
+  unfolding names operands member
+  unnamed-at [] h i = refl
+  unnamed-at (cell ∷ cells) h zero = unnamed-first cell cells h
+  unnamed-at (cell ∷ cells) h (suc i) = unnamed-at cells (unnamed-rest cell cells h) i
+
+  -- so each operand is another node
+  pub others : (cell : Cell) → names gone cell ≡ false → All (Other gone) (operands cell)
+  unfolding names
+  others cell e a t same = subst T (subst (λ (k : ℕ). member k (operands cell) ≡ false) (sym same) e) t
+
+-- ---- two lists, before and after
+
+module _ {A : Type 0} (d : A) (R : A → A → Type 0) (gone : ℕ) where
+  -- the new list has as many entries but for the one that is gone, and each of the others stands in R to the one that it became
+  pub record Moved (old new : List A) : Type 0 where
+    pub many : length new ≡ lowered gone (length old)
+    pub each : (a : ℕ) → Other gone a → R (getD old a d) (getD new (lowered gone a) d)
+
+  moved-none : R d d → Moved [] []
+  moved-none r = record { many = sym (lowered-low gone 0 (omega arith)); each = λ a o. r }
+
+  append-other : (xs : List A) (x : A) (a : ℕ) → (a ≡ length xs → ⊥) → getD (xs ++ (x ∷ [])) a d ≡ getD xs a d
+  append-other xs x a o = go (decLe (length xs) a)
+    where
+      go : Dec (length xs ≤ a) → getD (xs ++ (x ∷ [])) a d ≡ getD xs a d
+      go (yes h) =
+          let beyond : length (xs ++ (x ∷ [])) ≤ a = omega (arith, length-append xs (x ∷ [])) in
+          List·getD-eq-default (xs ++ (x ∷ [])) d beyond ∙ sym (List·getD-eq-default xs d h)
+      go (no h) = List·getD-append xs (x ∷ []) d a (omega arith)
+
+  -- one entry more on both sides
+  moved-more : (old new : List A) (x y : A) → Moved old new → Other gone (length old) → R x y → Moved (old ++ (x ∷ [])) (new ++ (y ∷ []))
+  moved-more old new x y m o r = record { many = count; each = entries }
+    where
+      count : length (new ++ (y ∷ [])) ≡ lowered gone (length (old ++ (x ∷ [])))
+      count = simp length-append (ap (λ k. k + 1) (m .many) ∙ sym (lowered-next gone (length old) o))
+
+      entries : (a : ℕ) → Other gone a → R (getD (old ++ (x ∷ [])) a d) (getD (new ++ (y ∷ [])) (lowered gone a) d)
+      entries a p = go (ℕ-discrete a (length old))
+        where
+          go : Dec (a ≡ length old) → R (getD (old ++ (x ∷ [])) a d) (getD (new ++ (y ∷ [])) (lowered gone a) d)
+          go (yes e) = rw (getD-at old x [] d a (sym e), getD-at new y [] d (lowered gone a) (m .many ∙ ap (lowered gone) (sym e))) r
+          go (no h) =
+              rw (append-other old x a h, append-other new y (lowered gone a) (λ e. h (lowered-same gone a (length old) p o (e ∙ m .many)))) (m .each a p)
+
+  -- the entry that is gone has none on the other side
+  moved-gone : (old new : List A) (x : A) → Moved old new → length old ≡ gone → Moved (old ++ (x ∷ [])) new
+  moved-gone old new x m e = record { many = count; each = λ a o. rw (append-other old x a (λ same. o (same ∙ e))) (m .each a o) }
+    where
+      count : length new ≡ lowered gone (length (old ++ (x ∷ [])))
+      count =
+          let more = length-append old (x ∷ []) in
+          omega (arith, m .many, lowered-low gone (length old) (omega arith), lowered-high gone (length (old ++ (x ∷ []))) (omega arith))
+
+  -- ---- the law
+
+  -- the step gives entries in R, from lists that are so moved and for a node, not the one that is gone, that does not name that one
+  abbrev pub Follows : (List A → Cell → A) → Type 0
+  Follows step =
+      (old new : List A) → Moved old new → Other gone (length old) → (cell : Cell) → All (Other gone) (operands cell)
+      → R (step old cell) (step new (renumbered gone cell))
+
+  module _ (step : List A → Cell → A) (follows : Follows step) where
+    -- a node before the one that is gone, or behind it
+    next : (old new : List A) → Moved old new → Other gone (length old) → (cell : Cell) (cells : List Cell) → Unnamed gone (cell ∷ cells)
+        → Moved (old ++ (step old cell ∷ [])) (new ++ (step new (renumbered gone cell) ∷ []))
+    next old new m o cell cells u = moved-more old new _ _ m o (follows old new m o cell (others gone cell (unnamed-first gone cell cells u)))
+
+    longer : (old : List A) (cell : Cell) → length (old ++ (step old cell ∷ [])) ≡ length old + 1
+    longer old cell = length-append old (step old cell ∷ [])
+
+    behind : (old new : List A) → Moved old new → gone < length old → (cells : List Cell) → Unnamed gone cells
+        → Moved (table step old cells) (table step new (map (renumbered gone) cells))
+    unfolding table
+    behind old new m l [] u = m
+    behind old new m l (cell ∷ cells) u =
+        behind _ _ (next old new m (λ e. omega arith) cell cells u) (omega (arith, longer old cell)) cells (unnamed-rest gone cell cells u)
+
+    from : (k : ℕ) (old new : List A) → Moved old new → length old + k ≡ gone → (cells : List Cell) → Unnamed gone cells
+        → Moved (table step old cells) (table step new (map (renumbered gone) (without k cells)))
+    unfolding table without
+    from zero old new m l [] u = m
+    from (suc k) old new m l [] u = m
+    from zero old new m l (cell ∷ cells) u =
+        behind _ new (moved-gone old new _ m (omega arith)) (omega (arith, longer old cell)) cells (unnamed-rest gone cell cells u)
+    from (suc k) old new m l (cell ∷ cells) u =
+        from k _ _ (next old new m (λ e. omega arith) cell cells u) (omega (arith, longer old cell)) cells (unnamed-rest gone cell cells u)
+
+    -- Taking out a node that nobody names leaves every other entry of the table, renumbered.
+    pub table-moved : R d d → (cells : List Cell) → Unnamed gone cells
+        → Moved (table step [] cells) (table step [] (map (renumbered gone) (without gone cells)))
+    table-moved r cells u = from gone [] [] (moved-none r) (omega arith) cells u
+
+-- ---- at equality: the new list is the old one without its entry
+
+pub without-length : {A : Type 0} (i : ℕ) (xs : List A) → length (without i xs) ≡ lowered i (length xs)
+unfolding without
+without-length zero [] = sym (lowered-low 0 0 (omega arith))
+without-length (suc i) [] = sym (lowered-low (suc i) 0 (omega arith))
+without-length zero (x ∷ xs) = omega (arith, lowered-high 0 (suc (length xs)) (omega arith))
+without-length (suc i) (x ∷ xs) = ap suc (without-length i xs) ∙ sym (lowered-suc i (length xs))
+
+pub without-at : {A : Type 0} (d : A) (i : ℕ) (xs : List A) (a : ℕ) → Other i a → getD xs a d ≡ getD (without i xs) (lowered i a) d
+unfolding without
+without-at d zero [] a o = refl
+without-at d (suc i) [] a o = refl
+without-at d zero (x ∷ xs) zero o = absurd (o refl)
+without-at d zero (x ∷ xs) (suc a) o = let e : lowered 0 (suc a) ≡ a = omega (arith, lowered-high 0 (suc a) (omega arith)) in rw e
+without-at d (suc i) (x ∷ xs) zero o = rw (lowered-low (suc i) 0 (omega arith))
+without-at d (suc i) (x ∷ xs) (suc a) o = rw (lowered-suc i a) (without-at d i xs a (λ e. o (ap suc e)))
+
+moved-without : {A : Type 0} (d : A) (gone : ℕ) (old new : List A) → Moved d _≡_ gone old new → new ≡ without gone old
+moved-without d gone old new m = ext-getD d new (without gone old) (m .many ∙ sym (without-length gone old)) same
+  where
+    same : (i : ℕ) → i < length new → getD new i d ≡ getD (without gone old) i d
+    same i h =
+        let r = raise gone i in
+        rw (← (r .follows)) (sym (m .each (r .before) (r .other)) ∙ without-at d gone old (r .before) (r .other))
+
+-- ---- what the operands' entries are
+
+pub first-of : (P : ℕ → Type 0) (a : ℕ) (rest : List ℕ) → All P (a ∷ rest) → P a
+first-of P a rest all = all a (member-head a rest)
+
+pub second-of : (P : ℕ → Type 0) (a b : ℕ) (rest : List ℕ) → All P (a ∷ b ∷ rest) → P b
+second-of P a b rest all = all b (member-tail b a (b ∷ rest) (member-head b rest))
+
+module _ {A : Type 0} {d : A} {R : A → A → Type 0} {gone : ℕ} {old new : List A} (m : Moved d R gone old new) where
+  abbrev Entry : ℕ → Type 0
+  Entry a = R (getD old a d) (getD new (lowered gone a) d)
+
+  one : (a : ℕ) → All (Other gone) (a ∷ []) → Entry a
+  one a o = m .each a (first-of (Other gone) a [] o)
+
+  two : (a b : ℕ) → All (Other gone) (a ∷ b ∷ []) → Entry a × Entry b
+  two a b o = (m .each a (first-of (Other gone) a (b ∷ []) o), m .each b (second-of (Other gone) a b [] o))
+
+-- ---- families
+
+families-follow : (gone : ℕ) → Follows constant _≡_ gone familiesRule
+unfolding familiesRule settledRule glitchRule renumbered operands
+families-follow gone old new m p (input s) o = refl
+families-follow gone old new m p (NOT a) o = ap (λ (F : Families). familiesRule (F ∷ []) (NOT 0)) (one m a o)
+families-follow gone old new m p (XOR a b) o = let (e, f) = two m a b o in ap₂ (λ (F G : Families). familiesRule (F ∷ G ∷ []) (XOR 0 1)) e f
+families-follow gone old new m p (AND a b) o = let (e, f) = two m a b o in ap₂ (λ (F G : Families). familiesRule (F ∷ G ∷ []) (AND 0 1)) e f
+families-follow gone old new m p (OR a b) o = let (e, f) = two m a b o in ap₂ (λ (F G : Families). familiesRule (F ∷ G ∷ []) (OR 0 1)) e f
+families-follow gone old new m p (register a) o = ap (λ (F : Families). familiesRule (F ∷ []) (register 0)) (one m a o)
+
+-- ---- settled values
+
+values-follow : (x : Assignment) (gone : ℕ) → Follows false _≡_ gone (valueRule x)
+unfolding valueRule renumbered operands
+values-follow x gone old new m p (input s) o = refl
+values-follow x gone old new m p (NOT a) o = rw (one m a o)
+values-follow x gone old new m p (XOR a b) o = let (e, f) = two m a b o in rw (e, f)
+values-follow x gone old new m p (AND a b) o = let (e, f) = two m a b o in rw (e, f)
+values-follow x gone old new m p (OR a b) o = let (e, f) = two m a b o in rw (e, f)
+values-follow x gone old new m p (register a) o = one m a o
+
+-- ---- feeding points
+
+-- no two of them become the same, so the points of two operands are joined as before
+module _ (gone : ℕ) where
+  abbrev Points : List ℕ → Type 0
+  Points = All (Other gone)
+
+  eqb-lowered : (x y : ℕ) → Other gone x → Other gone y → eqb (lowered gone x) (lowered gone y) ≡ eqb x y
+  eqb-lowered x y p q = go (ℕ-discrete x y)
+    where
+      go : Dec (x ≡ y) → eqb (lowered gone x) (lowered gone y) ≡ eqb x y
+      go (yes e) = eq-eqb _ _ (ap (lowered gone) e) ∙ sym (eq-eqb x y e)
+      go (no h) = ne-eqb _ _ (λ e. h (lowered-same gone x y p q e)) ∙ sym (ne-eqb x y h)
+
+  pub member-lowered : (x : ℕ) (ys : List ℕ) → Other gone x → Points ys → member (lowered gone x) (map (lowered gone) ys) ≡ member x ys
+  unfolding member
+  member-lowered x [] p q = refl
+  member-lowered x (y ∷ ys) p q =
+      ap₂ _||_ (eqb-lowered x y p (first-of (Other gone) y ys q)) (member-lowered x ys p (λ z t. q z (member-tail z y ys t)))
+
+  insert-lowered : (x : ℕ) (ys : List ℕ) → Other gone x → Points ys → insert (lowered gone x) (map (lowered gone) ys) ≡ map (lowered gone) (insert x ys)
+  unfolding insert
+  insert-lowered x ys p q = rw (member-lowered x ys p q) (go (member x ys))
+    where
+      go : (b : Bool) → cond b (map (lowered gone) ys) (lowered gone x ∷ map (lowered gone) ys) ≡ map (lowered gone) (cond b ys (x ∷ ys))
+      go true = refl
+      go false = refl
+
+  union-lowered : (xs ys : List ℕ) → Points xs → Points ys → union (map (lowered gone) xs) (map (lowered gone) ys) ≡ map (lowered gone) (union xs ys)
+  unfolding union
+  union-lowered [] ys p q = refl
+  union-lowered (x ∷ xs) ys p q =
+      let rest : Points xs = λ z t. p z (member-tail z x xs t) in
+      rw (union-lowered xs ys rest q) (insert-lowered x (union xs ys) (first-of (Other gone) x xs p) (all-union (Other gone) xs ys rest q))
+
+  -- the points after are those before, renumbered, and the one that is gone is none of them
+  pub record Renumbered (before after : List ℕ) : Type 0 where
+    pub points : after ≡ map (lowered gone) before
+    pub lacks : Points before
+
+  joined : (xs ys xs′ ys′ : List ℕ) → Renumbered xs xs′ → Renumbered ys ys′ → Renumbered (union xs ys) (union xs′ ys′)
+  joined xs ys xs′ ys′ p q = record {
+    points = ap₂ union (p .points) (q .points) ∙ union-lowered xs ys (p .lacks) (q .lacks);
+    lacks = all-union (Other gone) xs ys (p .lacks) (q .lacks);
+  }
+
+  feedings-follow : Follows [] Renumbered gone feedingRule
+  unfolding feedingRule renumbered operands
+  feedings-follow old new m p (input s) o = record { points = ap (λ k. k ∷ []) (m .many); lacks = all-single (Other gone) (length old) p }
+  feedings-follow old new m p (NOT a) o = one m a o
+  feedings-follow old new m p (XOR a b) o = let (e, f) = two m a b o in joined _ _ _ _ e f
+  feedings-follow old new m p (AND a b) o = let (e, f) = two m a b o in joined _ _ _ _ e f
+  feedings-follow old new m p (OR a b) o = let (e, f) = two m a b o in joined _ _ _ _ e f
+  feedings-follow old new m p (register a) o = record { points = ap (λ k. k ∷ []) (m .many); lacks = all-single (Other gone) (length old) p }
+
+-- ---- a netlist without a node that no node names
+
+module _ (n : Netlist) (gone : ℕ) (unnamed : Unnamed gone (n .nodes)) where
+  pub families-removed : families (withoutNode n gone) ≡ without gone (families n)
+  unfolding families withoutNode
+  families-removed = moved-without constant gone _ _ (table-moved constant _≡_ gone familiesRule (families-follow gone) refl (n .nodes) unnamed)
+
+  pub values-removed : (x : Assignment) → values (withoutNode n gone) x ≡ without gone (values n x)
+  unfolding values withoutNode
+  values-removed x = moved-without false gone _ _ (table-moved false _≡_ gone (valueRule x) (values-follow x gone) refl (n .nodes) unnamed)
+
+  pub feedings-removed : (i : ℕ) → Other gone i → Renumbered gone (feeding n i) (feeding (withoutNode n gone) (lowered gone i))
+  unfolding feeding feedings withoutNode
+  feedings-removed =
+      table-moved [] (Renumbered gone) gone feedingRule (feedings-follow gone) (record { points = refl; lacks = all-none (Other gone) }) (n .nodes) unnamed .each
+
+-- ---- the record rules
+
+pub operands-renumbered : (gone : ℕ) (cell : Cell) → operands (renumbered gone cell) ≡ map (lowered gone) (operands cell)
+unfolding operands renumbered
+operands-renumbered gone (input s) = refl
+operands-renumbered gone (NOT a) = refl
+operands-renumbered gone (XOR a b) = refl
+operands-renumbered gone (AND a b) = refl
+operands-renumbered gone (OR a b) = refl
+operands-renumbered gone (register a) = refl
+
+pub set-renumbered : (gone : ℕ) (cell : Cell) → setOf (renumbered gone cell) ≡ setOf cell
+unfolding setOf renumbered
+set-renumbered gone (input s) = refl
+set-renumbered gone (NOT a) = refl
+set-renumbered gone (XOR a b) = refl
+set-renumbered gone (AND a b) = refl
+set-renumbered gone (OR a b) = refl
+set-renumbered gone (register a) = refl
+
+all-map : (P : ℕ → Type 0) (f : ℕ → ℕ) (xs : List ℕ) → All (λ x. P (f x)) xs → All P (map f xs)
+all-map P f [] h = all-none P
+all-map P f (x ∷ xs) h = all-front P (f x) (map f xs) (h x (member-head x xs)) (all-map P f xs (λ y t. h y (member-tail y x xs t)))
+
+module _ (n : Netlist) (gone : ℕ) where
+  pub removed-length : length (withoutNode n gone .nodes) ≡ lowered gone (length (n .nodes))
+  unfolding withoutNode
+  removed-length = length-map (without gone (n .nodes)) (renumbered gone) ∙ without-length gone (n .nodes)
+
+  -- each other node, renumbered
+  pub removed-node : (i : ℕ) → Other gone i → getD (withoutNode n gone .nodes) (lowered gone i) (input 0) ≡ renumbered gone (getD (n .nodes) i (input 0))
+  unfolding withoutNode renumbered
+  removed-node i o =
+      List·getD-map (renumbered gone) (without gone (n .nodes)) (lowered gone i) (input 0)
+      ∙ ap (renumbered gone) (sym (without-at (input 0) gone (n .nodes) i o))
+
+  pub removed-well-formed : WellFormed n → Unnamed gone (n .nodes) → WellFormed (withoutNode n gone)
+  removed-well-formed formed unnamed = record {
+    few-variables = unfold withoutNode in formed .few-variables;
+    few-nodes = omega (arith, formed .few-nodes, removed-length, lowered-most gone (length (n .nodes)));
+    lower = λ i h. let r = raise gone i in subst Lower (r .follows) (lower (r .before) (r .other) (before i h r));
+    declared = λ i h. let r = raise gone i in subst Declared (r .follows) (declared (r .before) (r .other) (before i h r));
+  }
+    where
+      Lower : ℕ → Type 0
+      Lower i = (a : ℕ) → T (member a (operands (getD (withoutNode n gone .nodes) i (input 0)))) → a < i
+
+      Declared : ℕ → Type 0
+      Declared i = setOf (getD (withoutNode n gone .nodes) i (input 0)) < 2 ^ length (withoutNode n gone .variables)
+
+      before : (i : ℕ) → i < length (withoutNode n gone .nodes) → (r : Raised gone i) → r .before < length (n .nodes)
+      before i h r = lowered-back gone (r .before) (length (n .nodes)) (rw (r .follows, ← removed-length) h)
+
+      lower : (i : ℕ) → Other gone i → i < length (n .nodes) → Lower (lowered gone i)
+      lower i o h = rw (removed-node i o, operands-renumbered) (all-map (λ a. a < lowered gone i) (lowered gone) _ each)
+        where
+          each : (a : ℕ) → T (member a (operands (getD (n .nodes) i (input 0)))) → lowered gone a < lowered gone i
+          each a t = lowered-less gone a i (others gone _ (unnamed-at gone (n .nodes) unnamed i) a t) o (formed .lower i h a t)
+
+      declared : (i : ℕ) → Other gone i → i < length (n .nodes) → Declared (lowered gone i)
+      declared i o h = rw (removed-node i o, set-renumbered) (unfold withoutNode in formed .declared i h)
