@@ -10,10 +10,13 @@
 //     points NODE : BLOCK                   the points that feed a node alone
 //     list BYTES : BLOCK : NAME             the listing, its length, and from where on the text is as it was
 //     node NODE : BLOCK : NAME              the reply, the node's record and its two families, set by set
+//     edits ENTRIES BYTES : BLOCK : EDITS : NAME    the block is opened in slices that hold every block, then each edit is made in slices
+//                                           of these lengths; of the opening and of each edit the reply, how many variables and nodes the
+//                                           state then has, and from where to where entries and work bytes change
 //
 // A block is written in hexadecimal digits, with a blank before each record; `200*020000` is a record 200 times. A number is
 // decimal: at most 200 ENTRIES, 51200 BYTES of work and 3654 of text, and any usize elsewhere. A line that starts with `=` is
-// printed without that sign and the blank behind it. Empty lines, and lines that start with `#`, are for the reader. What the
+// printed without that sign and the blank behind it. An edit is `+` and a record in hexadecimal digits, or `-` and a node. Empty lines, and lines that start with `#`, are for the reader. What the
 // program does not understand it prints, as `not understood: ` and the line or the word.
 ghost use Prim.Native.Nat.{_+_, _*_, _≤_, _<_};
 ghost use lib.ListN.{length};
@@ -21,13 +24,17 @@ ghost use Rattle.rules.specs.Records.{most-nodes};
 ghost use Rattle.rules.specs.Listing.{most-text};
 ghost use Rattle.families.specs.Parts.{HasPart};
 use check::same;
+use edit_trial::SeenEdit;
 use families::SETS;
 use libc::STDIN_FILENO;
+use open_blocks::Edit;
+use open_blocks::State;
 use pair_search::Found;
 use pair_search::Search;
 use pairs::PairsReply;
 use report::MOST_TEXT;
 use rules::MOST_NODES;
+use rules::MOST_VARIABLES;
 use rules::MOST_WORK;
 use rules::Node;
 use rules::QueryOutcome;
@@ -403,6 +410,162 @@ fn node(bytes: &[u8], i: usize)
     print_families(&work, i);
 }
 
+// ---- edits of an open block
+
+// A block that is open: its state, and what both slices hold.
+struct Desk {
+    state: State,
+    nodes: [Node; MOST_NODES],
+    work: [u8; MOST_WORK],
+}
+
+// From where to where something changes: nowhere where both are 0.
+struct Span {
+    from: usize,
+    to: usize,
+}
+
+// The span with what stands at `k`, if that changes.
+fn with_place(span: Span, k: usize, changes: bool) -> Span
+    requires { ⌜ k < 65536 ⌝ }
+{
+    if !changes {
+        return span;
+    }
+    let to = k + 1;
+    if span.to == 0 {
+        return Span { from: k, to };
+    }
+    Span {
+        from: span.from,
+        to,
+    }
+}
+
+fn entries_span(before: [Node; MOST_NODES], after: [Node; MOST_NODES]) -> Span {
+    let mut span = Span { from: 0, to: 0 };
+    let mut i = 0;
+    while i < MOST_NODES {
+        let a = before[i];
+        let b = after[i];
+        let kept = (a.kind == b.kind)
+            & (a.first == b.first)
+            & (a.second == b.second)
+            & (a.set == b.set);
+        span = with_place(span, i, !kept);
+        i += 1;
+    }
+    span
+}
+
+fn bytes_span(before: [u8; MOST_WORK], after: [u8; MOST_WORK]) -> Span {
+    let mut span = Span { from: 0, to: 0 };
+    let mut k = 0;
+    while k < MOST_WORK {
+        span = with_place(span, k, before[k] != after[k]);
+        k += 1;
+    }
+    span
+}
+
+// What a call gave, and what it changed. Gives the block after it.
+fn print_edited(before: Desk, seen: SeenEdit, work: [u8; MOST_WORK]) -> Desk {
+    let edited = seen.edited;
+    let reply = edited.reply;
+    let state = edited.state;
+    let nodes = seen.nodes;
+    let old_nodes = before.nodes;
+    let old_work = before.work;
+    let entries = entries_span(old_nodes, nodes);
+    let bytes = bytes_span(old_work, work);
+    print_byte(b':');
+    print_reply(reply);
+    print_counts(
+        b", state##, changed## and##",
+        &[
+            state.variables,
+            state.count,
+            entries.from,
+            entries.to,
+            bytes.from,
+            bytes.to,
+        ],
+    );
+    Desk { state, nodes, work }
+}
+
+// The block of the first `digits` digits, opened in slices that hold every block.
+fn open_desk(bytes: [u8; MOST_BLOCK], digits: usize) -> Desk {
+    let mut work = [0u8; MOST_WORK];
+    trial::fill(&mut work);
+    let nodes = [trial::entry_before(); MOST_NODES];
+    let none = State {
+        variables: 0,
+        classes: [0u8; MOST_VARIABLES],
+        count: 0,
+    };
+    let before = Desk {
+        state: none,
+        nodes,
+        work,
+    };
+    let length = least(digits / 2, MOST_BLOCK);
+    let seen = edit_trial::open_over(&bytes[0..length], MOST_NODES, nodes, &mut work);
+    print_edited(before, seen, work)
+}
+
+// One edit of an open block, with the first `digits` digits as its record, in slices of these lengths.
+fn one_edit(
+    desk: Desk,
+    edit: Edit,
+    bytes: [u8; MOST_BLOCK],
+    digits: usize,
+    entries: usize,
+    room: usize,
+) -> Desk
+    requires { ⌜ room ≤ 256 * most-nodes ⌝ }
+{
+    let state = desk.state;
+    let nodes = desk.nodes;
+    let mut work = desk.work;
+    let length = least(digits / 2, MOST_BLOCK);
+    let seen = edit_trial::edit_over(
+        state,
+        edit,
+        &bytes[0..length],
+        entries,
+        nodes,
+        &mut work[0..room],
+    );
+    print_edited(desk, seen, work)
+}
+
+// The edits of a block, with a blank before each: what the sign of a word says, with the digits behind it.
+fn edits(bytes: [u8; MOST_BLOCK], digits: usize, words: &[u8], entries: usize, room: usize)
+    requires { ⌜ room ≤ 256 * most-nodes ⌝ }
+{
+    let mut desk = open_desk(bytes, digits);
+    let mut at = 0;
+    while at < words.len() {
+        let from = at + 1;
+        at = find(words, from, b' ');
+        if from < at {
+            let behind = from + 1;
+            let mut edit = Edit::Add;
+            let mut record = [0u8; MOST_BLOCK];
+            let mut length = 0;
+            if words[from] == b'-' {
+                edit = Edit::Remove(decimal(&words[behind..at]));
+            } else {
+                length = put_digits(&mut record, 0, &words[behind..at]);
+            }
+            print_byte(b'\n');
+            print(&words[from..at]);
+            desk = one_edit(desk, edit, record, length, entries, room);
+        }
+    }
+}
+
 // ---- lines
 
 // Runs a command of three numbers; answers whether there is such a command, and the numbers are within its limits.
@@ -485,6 +648,39 @@ fn run_command(command: &[u8], numbers: Numbers, bytes: [u8; MOST_BLOCK], digits
     }
 }
 
+// Runs a case of edits, whose command ends at a colon; answers whether it is understood.
+fn run_edits(line: &[u8], numbers: Numbers, colon: usize) -> bool
+    requires { ⌜ colon < length (now line) ⌝ }
+{
+    let from = colon + 1;
+    let next = find(line, from, b':');
+    if next == line.len() {
+        return false;
+    }
+    let words = next + 1;
+    let last = find(line, words, b':');
+    let mut bytes = [0u8; MOST_BLOCK];
+    let digits = put_block(&mut bytes, &line[from..next]);
+    if digits > MOST_DIGITS {
+        return false;
+    }
+    if numbers.first > MOST_NODES {
+        return false;
+    }
+    if numbers.last > MOST_WORK {
+        return false;
+    }
+    print_behind(line, last);
+    edits(
+        bytes,
+        digits,
+        &line[words..last],
+        numbers.first,
+        numbers.last,
+    );
+    true
+}
+
 // Runs a case; answers whether it is understood.
 fn run_case(line: &[u8]) -> bool {
     let end = find(line, 0, b' ');
@@ -496,6 +692,9 @@ fn run_case(line: &[u8]) -> bool {
     let next = find(line, from, b':');
     let mut bytes = [0u8; MOST_BLOCK];
     let numbers = numbers_of(&line[end..colon]);
+    if same(&line[0..end], b"edits") {
+        return run_edits(line, numbers, colon);
+    }
     let digits = put_block(&mut bytes, &line[from..next]);
     print_behind(line, next);
     run_command(&line[0..end], numbers, bytes, digits)

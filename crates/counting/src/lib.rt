@@ -1,8 +1,8 @@
 // Mask settings counted by force, over blocks of few variables and nodes: whether the number of those that give a pattern differs
 // between settings of the secrets. For test programs.
+use generator::least;
 use second::Block;
 use second::Store;
-use second::least;
 use second::number_if;
 use std::num::wrapping_add_usize;
 

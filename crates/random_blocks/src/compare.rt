@@ -1,23 +1,22 @@
 // Compares the checker and the queries with the second checker over random blocks, valid and damaged, in slices of many
 // lengths: replies with number and place, node records, families, what lies beyond them, and the three queries. Prints what it
 // saw, and how often a reply, a slice or a query differs.
+use expected::Expected;
+use expected::Lent;
+use expected::Work;
+use expected::expected_check;
+use expected::families_differ;
+use expected::lengths_for;
+use expected::same_answer;
+use expected::same_entries;
+use generator::Shape;
+use generator::next;
+use generator::pick;
 use rules::QueryOutcome;
 use rules::Reply;
 use second::Block;
 use second::Store;
-use second::generator;
-use second::generator::Shape;
-use second::generator::next;
-use second::generator::pick;
 use second::number_if;
-use second::outcome::Expected;
-use second::outcome::Lent;
-use second::outcome::Work;
-use second::outcome::expected_check;
-use second::outcome::families_differ;
-use second::outcome::lengths_for;
-use second::outcome::same_answer;
-use second::outcome::same_entries;
 use std::num::wrapping_add_usize;
 use tools::one_if;
 use tools::print_counts;
@@ -82,8 +81,8 @@ fn same_reply(
 ) -> bool {
     match reply {
         Reply::Refused(refusal) => {
-            (rules::number_of(refusal) == expected.number)
-                & (rules::place_of(refusal) == expected.place)
+            (refusals::number_of(refusal) == expected.number)
+                & (refusals::place_of(refusal) == expected.place)
         }
         Reply::Answered(answer) => {
             (expected.number == 0) & same_answer(answer, block, settled, glitch)
@@ -181,7 +180,8 @@ fn count_query(tally: &mut Tally, outcome: QueryOutcome, expected: Expected, sam
     let as_expected = match outcome {
         QueryOutcome::Answered => number == 0,
         QueryOutcome::Refused(refusal) => {
-            (rules::number_of(refusal) == number) & (rules::place_of(refusal) == expected.place)
+            (refusals::number_of(refusal) == number)
+                & (refusals::place_of(refusal) == expected.place)
         }
     };
     count(tally, QUERIES + number - number / 12 * 2, 1);

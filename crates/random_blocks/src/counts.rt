@@ -3,12 +3,11 @@
 // settings that give a pattern must be the same for all settings of the secrets, at every tested node; where the counts of a node
 // differ, the checker must have named a suspect at that node or a lower one.
 use counting::NODES;
+use generator::Shape;
+use generator::next;
+use generator::pick;
 use rules::Half;
 use rules::Reply;
-use second::generator;
-use second::generator::Shape;
-use second::generator::next;
-use second::generator::pick;
 use second::number_if;
 use std::num::wrapping_add_usize;
 use tools::one_if;

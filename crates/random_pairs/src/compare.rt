@@ -1,33 +1,32 @@
 // Compares the checker with two probes with the second checker over random blocks, valid and damaged, in slices of many lengths and
 // under many limits: replies with number and place, the answer for one probe, what the search over pairs finds and how many it
 // looks at, node records, families, and what lies beyond them. Prints what it saw, and how often a reply or a slice differs.
+use expected::Expected;
+use expected::Lent;
+use expected::NO_PAIR;
+use expected::NOTHING_TO_LOOK_AT;
+use expected::PAIR;
+use expected::SINGLE;
+use expected::SPENT;
+use expected::Sought;
+use expected::Work;
+use expected::expected_check;
+use expected::families_differ;
+use expected::half_number;
+use expected::lengths_for;
+use expected::same_answer;
+use expected::same_entries;
+use expected::seek;
+use generator::Shape;
+use generator::next;
+use generator::pick;
 use pair_search::Found;
 use pair_search::Search;
 use pairs::PairsReply;
 use rules::Half;
 use second::Block;
 use second::Store;
-use second::generator;
-use second::generator::Shape;
-use second::generator::next;
-use second::generator::pick;
 use second::number_if;
-use second::outcome::Expected;
-use second::outcome::Lent;
-use second::outcome::NO_PAIR;
-use second::outcome::NOTHING_TO_LOOK_AT;
-use second::outcome::PAIR;
-use second::outcome::SINGLE;
-use second::outcome::SPENT;
-use second::outcome::Sought;
-use second::outcome::Work;
-use second::outcome::expected_check;
-use second::outcome::families_differ;
-use second::outcome::half_number;
-use second::outcome::lengths_for;
-use second::outcome::same_answer;
-use second::outcome::same_entries;
-use second::outcome::seek;
 use std::num::wrapping_add_usize;
 use tools::one_if;
 use tools::print_counts;
@@ -142,8 +141,8 @@ fn same_reply(
 ) -> bool {
     match reply {
         PairsReply::Refused(refusal) => {
-            (rules::number_of(refusal) == expected.number)
-                & (rules::place_of(refusal) == expected.place)
+            (refusals::number_of(refusal) == expected.number)
+                & (refusals::place_of(refusal) == expected.place)
         }
         PairsReply::Answered(both) => {
             let answer = both.answer;

@@ -6,12 +6,11 @@ use crate::compare::State;
 use crate::compare::Tally;
 use crate::compare::count;
 use counting::NONE;
+use generator::Shape;
+use generator::next;
+use generator::pick;
 use pair_search::Found;
 use pairs::PairsReply;
-use second::generator;
-use second::generator::Shape;
-use second::generator::next;
-use second::generator::pick;
 use tools::one_if;
 use tools::print_counts;
 

@@ -4,14 +4,10 @@
 // pair back, no product is made of a pair and its position is a formula, settled values are truth tables over all assignments
 // at once, and feeding points are rows of bits.
 //
-// It is tested and not proved right: what is proved of it is that it is safe and ends. Beside it stands the generator of the blocks
-// that both are given. For test programs.
-ghost use mathlib.Core.Path.{_≡_};
-ghost use Prim.Native.Nat.{_<_, _≤_, min};
+// It is tested and not proved right: what is proved of it is that it is safe and ends. For test programs.
+ghost use Prim.Native.Nat.{_<_, _≤_};
+use generator::least;
 use rules::Node;
-
-pub mod generator;
-pub mod outcome;
 
 // All that is worked out of a block is in one array of numbers. First the lists of sets: list i is the settled family of node i, and list
 // 200 + i its glitch family; then their lengths; then for each set the last list that it went to.
@@ -41,7 +37,7 @@ pub const NONE: usize = 204800;
 const NO_SET: usize = 11264;
 
 // How many bytes follow a kind byte: octal digits, from kind 0 on the right.
-const BODIES: usize = 0o12221210;
+pub const BODIES: usize = 0o12221210;
 
 // The first four variables in a word of a truth table, from variable 0 on the right.
 const PATTERNS: usize = 0xFF00F0F0CCCCAAAA;
@@ -68,12 +64,6 @@ pub fn number_if(yes: bool, number: usize) -> usize
     ensures { λ r. ⌜ r ≤ number ⌝ }
 {
     if yes { number } else { 0 }
-}
-
-pub fn least(a: usize, b: usize) -> usize
-    ensures { λ r. ⌜ r ≡ min a b ⌝ }
-{
-    if a < b { a } else { b }
 }
 
 // ---- reading, byte by byte

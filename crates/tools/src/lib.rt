@@ -73,8 +73,8 @@ fn print_letter(letter: u8, counts: &[usize], k: usize) -> usize {
 // The words of a reply, with a blank before each.
 pub fn print_refusal(refusal: Refusal) {
     print(b" refused");
-    print_number(rules::number_of(refusal));
-    print_number(rules::place_of(refusal));
+    print_number(refusals::number_of(refusal));
+    print_number(refusals::place_of(refusal));
 }
 
 fn print_half(name: &[u8], half: Half) {

@@ -99,7 +99,7 @@ pub struct SeenPairs {
 }
 
 // How many of 200 entries are lent.
-fn at_most(entries: usize) -> usize
+pub fn at_most(entries: usize) -> usize
     ensures { λ r. ⌜ r ≡ min entries most-nodes ⌝ }
 {
     if entries < MOST_NODES {
@@ -143,6 +143,8 @@ pub fn check_pairs_over(
     let reply = pairs::check_pairs(bytes, &mut nodes[..lent], work, limit);
     SeenPairs { reply, nodes }
 }
+
+// ---- one record
 
 // The record at one of the entries that a check leaves, read through a lent slice.
 pub fn entry_at(nodes: [Node; MOST_NODES], i: usize) -> Node

@@ -1,0 +1,66 @@
+// A block opened and edited over node records by value, of which a part is lent. For test programs.
+ghost use mathlib.Core.Path.{_≡_};
+ghost use mathlib.Core.List.{_++_};
+ghost use Prim.Native.Nat.{min};
+ghost use lib.ListN.{length, take, drop};
+ghost use Rattle.rules.specs.Records as Records;
+ghost use Rattle.rules.specs.Records.{most-nodes};
+ghost use Rattle.rules.specs.Slices.{nodesAfter, workAfter, reply};
+ghost use Rattle.rules.specs.Paper.{replyOf};
+ghost use Rattle.open_blocks.specs.Edits.{replyAfter};
+ghost use Rattle.open_blocks.specs.Meaning.{editOf, IsOpen};
+use edits::Edited;
+use open_blocks::Edit;
+use open_blocks::State;
+use rules::MOST_NODES;
+use rules::Node;
+
+// What opening a block or an edit of it leaves: what the call gives, and all entries.
+pub struct SeenEdit {
+    pub edited: Edited,
+    pub nodes: [Node; MOST_NODES],
+}
+
+// Opens a block over the first `entries` of 200 entries (or over all where there are not so many), which hold `nodes`.
+pub fn open_over(
+    bytes: &[u8],
+    entries: usize,
+    nodes: [Node; MOST_NODES],
+    work: &mut [u8],
+) -> SeenEdit
+    ensures reply { λ r. ⌜ replyOf (r .edited .reply) ≡ reply (now (bytes .entry)) (min entries most-nodes) (length (now (work .entry))) ⌝ }
+    ensures nodes { λ r. ⌜ r .nodes ≡
+        nodesAfter (now (bytes .entry)) (take (min entries most-nodes) nodes) (length (now (work .entry)))
+        ++ drop (min entries most-nodes) nodes ⌝ }
+    ensures work { λ _. ⌜ now (work .exit) ≡ workAfter (now (bytes .entry)) (min entries most-nodes) (now (work .entry)) ⌝ }
+{
+    let lent = trial::at_most(entries);
+    let mut kept = nodes;
+    let edited = edits::open(bytes, &mut kept[..lent], work);
+    SeenEdit {
+        edited,
+        nodes: kept,
+    }
+}
+
+// Edits an open block over the same.
+pub fn edit_over(
+    state: State,
+    edit: Edit,
+    bytes: &[u8],
+    entries: usize,
+    nodes: [Node; MOST_NODES],
+    work: &mut [u8],
+) -> SeenEdit
+    ensures { λ r. ⌜ ((n : Records.Netlist) → IsOpen n state (take (min entries most-nodes) nodes) (now (work .entry)) →
+        replyOf (r .edited .reply) ≡
+        replyAfter n (editOf edit (now (bytes .entry))) (min entries most-nodes) (length (now (work .entry)))) ⌝ }
+{
+    let lent = trial::at_most(entries);
+    let mut kept = nodes;
+    let edited = edits::edit(state, edit, bytes, &mut kept[..lent], work);
+    SeenEdit {
+        edited,
+        nodes: kept,
+    }
+}
