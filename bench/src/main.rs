@@ -5,6 +5,7 @@ mod blocks;
 mod clock;
 mod compare;
 mod document;
+mod edits;
 mod memory;
 mod pairs;
 mod plain;
@@ -70,5 +71,6 @@ fn main() {
     );
     measure_pairs(&mut pairs_cells);
     print_pairs("The search over all pairs: 10 variables", &pairs_cells);
+    edits::print();
     memory::print();
 }

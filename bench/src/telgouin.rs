@@ -1,4 +1,4 @@
-//! The exported functions of the checker and of the crate `bench_pairs`. A slice passes as pointer and length.
+//! The exported functions of the checker and of the crates `bench_pairs` and `bench_edits`. A slice passes as pointer and length.
 
 use crate::pairs::{Found, Search};
 
@@ -14,6 +14,15 @@ extern "C" {
     ) -> usize;
 
     fn telgouin_pairs(bytes: *const u8, bytes_len: usize, limit: usize) -> usize;
+
+    fn telgouin_edits(
+        bytes: *const u8,
+        bytes_len: usize,
+        added: *const u8,
+        added_len: usize,
+        node: usize,
+        times: usize,
+    ) -> usize;
 }
 
 /// Writes the listing to the front of `text`, and returns how many bytes it has; a slice that is
@@ -39,5 +48,21 @@ pub fn pairs(bytes: &[u8], limit: usize) -> Search {
     Search {
         found,
         looked: packed >> 40,
+    }
+}
+
+/// Opens a block, and so many times gives up a node and takes a record's node at the end: how many
+/// of these edits are answered. No times: it is a fresh check.
+pub fn edits(bytes: &[u8], added: &[u8], node: usize, times: usize) -> usize {
+    // SAFETY: both pointers are valid for their lengths, and the function requires nothing more.
+    unsafe {
+        telgouin_edits(
+            bytes.as_ptr(),
+            bytes.len(),
+            added.as_ptr(),
+            added.len(),
+            node,
+            times,
+        )
     }
 }

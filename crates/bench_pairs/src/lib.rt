@@ -28,7 +28,13 @@ pub extern "C" fn telgouin_pairs(bytes: &[u8], limit: usize) -> usize
     let reply = examined.reply;
     match reply {
         PairsReply::Refused(refusal) => {
-            packed(0, 0, rules::number_of(refusal), rules::place_of(refusal), 0)
+            packed(
+                0,
+                0,
+                refusals::number_of(refusal),
+                refusals::place_of(refusal),
+                0,
+            )
         }
         PairsReply::Answered(answer) => {
             let search = answer.search;

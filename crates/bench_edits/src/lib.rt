@@ -1,0 +1,67 @@
+// Edits of an open block for the benchmark, which is written in Rust: how many of them are answered.
+ghost use Prim.Native.Nat.{_≤_};
+use open_blocks::Edit;
+use rules::MOST_NODES;
+use rules::MOST_WORK;
+use rules::Reply;
+
+// The most turns of one call.
+const MOST_TURNS: usize = 65536;
+
+fn least(a: usize, b: usize) -> usize
+    ensures { λ r. ⌜ (r ≤ a) × (r ≤ b) ⌝ }
+{
+    if a < b { a } else { b }
+}
+
+// 1 for an answer and 0 for a refusal.
+fn one_if_answered(reply: Reply) -> usize
+    ensures { λ r. ⌜ r ≤ 1 ⌝ }
+{
+    match reply {
+        Reply::Refused(_) => 0,
+        Reply::Answered(_) => 1,
+    }
+}
+
+// Opens a block, and then, so many times, gives up one of its nodes and takes a new one at the end. No times: it is a fresh check alone.
+#[no_mangle]
+pub extern "C" fn telgouin_edits(bytes: &[u8], added: &[u8], node: usize, times: usize) -> usize
+    ensures { λ r. ⌜ r ≤ 131072 ⌝ }
+{
+    let turns = least(times, MOST_TURNS);
+    let mut work = [0u8; MOST_WORK];
+    let opened = edit_trial::open_over(
+        bytes,
+        MOST_NODES,
+        [trial::entry_before(); MOST_NODES],
+        &mut work,
+    );
+    let first = opened.edited;
+    let mut state = first.state;
+    let mut nodes = opened.nodes;
+    let mut answered = 0;
+    let mut turn = 0;
+    while turn < turns {
+        let less = edit_trial::edit_over(
+            state,
+            Edit::Remove(node),
+            added,
+            MOST_NODES,
+            nodes,
+            &mut work,
+        );
+        let removed = less.edited;
+        let shorter = less.nodes;
+        let reply = removed.reply;
+        let between = removed.state;
+        let more = edit_trial::edit_over(between, Edit::Add, added, MOST_NODES, shorter, &mut work);
+        let longer = more.edited;
+        let last = longer.reply;
+        state = longer.state;
+        nodes = more.nodes;
+        answered += one_if_answered(reply) + one_if_answered(last);
+        turn += 1;
+    }
+    answered
+}
