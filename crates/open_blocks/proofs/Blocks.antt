@@ -15,13 +15,10 @@ use Rattle.rules.specs.Checks.{Outcome, answered, refused, andThen, judged, ove
 use Rattle.rules.specs.Demands.{OneProbe}
 use Rattle.rules.proofs.Each.{Each}
 use Rattle.rules.proofs.Blocks.{replyTo, _and_}
-use Rattle.rules.proofs.BlockCounts.{all-zero}
+use Rattle.rules.proofs.BlockCounts.{all-zero, p9}
 use Rattle.open_blocks.specs.Edits.{Edit, add, remove, judgedNode, lowered, renumbered, without, withoutNode, names, naming, givenUp, fits, edited, otherwise, netlistAfter, replyAfter}
 
--- block A, and block A before its last gate
-abbrev pub block-a : Netlist
-block-a = record { variables = secret ∷ mask ∷ mask ∷ []; nodes = input 3 ∷ input 2 ∷ input 4 ∷ XOR 0 2 ∷ XOR 3 1 ∷ [] }
-
+-- block A before its last gate
 abbrev pub before-a : Netlist
 before-a = record { variables = secret ∷ mask ∷ mask ∷ []; nodes = input 3 ∷ input 2 ∷ input 4 ∷ XOR 0 2 ∷ [] }
 
@@ -67,38 +64,38 @@ shared cells = record { variables = secret ∷ mask ∷ []; nodes = cells }
 -- Additions: each refusal of a record, in their order, and then those of the slices; each place is the number that the node would have.
 abbrev pub additions : List Case
 additions =
-    roomy before-a (add (4 ∷ 3 ∷ 1 ∷ [])) (answered block-a)
-    ∷ roomy block-a (add (2 ∷ 7 ∷ 0 ∷ [])) (answered (masked (input 3 ∷ input 2 ∷ input 4 ∷ XOR 0 2 ∷ XOR 3 1 ∷ input 7 ∷ [])))
-    ∷ roomy block-a (add []) (refused 8 5)
-    ∷ roomy block-a (add (0 ∷ [])) (refused 1 5)
-    ∷ roomy block-a (add (1 ∷ 0 ∷ [])) (refused 1 5)
-    ∷ roomy block-a (add (1 ∷ 9 ∷ 0 ∷ 0 ∷ [])) (refused 1 5)
-    ∷ roomy block-a (add (8 ∷ 0 ∷ 0 ∷ 0 ∷ 0 ∷ [])) (refused 1 5)
-    ∷ roomy block-a (add (4 ∷ 9 ∷ [])) (refused 4 5)
-    ∷ roomy block-a (add (2 ∷ 8 ∷ 0 ∷ 0 ∷ [])) (refused 6 5)
-    ∷ roomy block-a (add (3 ∷ 5 ∷ 0 ∷ [])) (refused 7 5)
-    ∷ short block-a (add (7 ∷ 4 ∷ 0 ∷ [])) 0 0 (refused 9 5)
-    ∷ short block-a (add (7 ∷ 4 ∷ [])) 5 0 (refused 10 6)
-    ∷ short block-a (add (7 ∷ 4 ∷ [])) 6 1535 (refused 11 1536)
-    ∷ short before-a (add (4 ∷ 3 ∷ 1 ∷ [])) 5 1280 (answered block-a)
+    roomy before-a (add (4 ∷ 3 ∷ 1 ∷ [])) (answered p9)
+    ∷ roomy p9 (add (2 ∷ 7 ∷ 0 ∷ [])) (answered (masked (input 3 ∷ input 2 ∷ input 4 ∷ XOR 0 2 ∷ XOR 3 1 ∷ input 7 ∷ [])))
+    ∷ roomy p9 (add []) (refused 8 5)
+    ∷ roomy p9 (add (0 ∷ [])) (refused 1 5)
+    ∷ roomy p9 (add (1 ∷ 0 ∷ [])) (refused 1 5)
+    ∷ roomy p9 (add (1 ∷ 9 ∷ 0 ∷ 0 ∷ [])) (refused 1 5)
+    ∷ roomy p9 (add (8 ∷ 0 ∷ 0 ∷ 0 ∷ 0 ∷ [])) (refused 1 5)
+    ∷ roomy p9 (add (4 ∷ 9 ∷ [])) (refused 4 5)
+    ∷ roomy p9 (add (2 ∷ 8 ∷ 0 ∷ 0 ∷ [])) (refused 6 5)
+    ∷ roomy p9 (add (3 ∷ 5 ∷ 0 ∷ [])) (refused 7 5)
+    ∷ short p9 (add (7 ∷ 4 ∷ 0 ∷ [])) 0 0 (refused 9 5)
+    ∷ short p9 (add (7 ∷ 4 ∷ [])) 5 0 (refused 10 6)
+    ∷ short p9 (add (7 ∷ 4 ∷ [])) 6 1535 (refused 11 1536)
+    ∷ short before-a (add (4 ∷ 3 ∷ 1 ∷ [])) 5 1280 (answered p9)
     ∷ []
 
 -- Removals: 12, then the slices for the nodes that the block has, then 14. Of the gates, node 4 is named by none; operands above it are lowered,
 -- and those below it are not.
 abbrev pub removals : List Case
 removals =
-    roomy block-a (remove 4) (answered before-a)
-    ∷ roomy block-a (remove 3) (refused 14 4)
-    ∷ roomy block-a (remove 0) (refused 14 3)
+    roomy p9 (remove 4) (answered before-a)
+    ∷ roomy p9 (remove 3) (refused 14 4)
+    ∷ roomy p9 (remove 0) (refused 14 3)
     ∷ roomy gates (remove 3) (refused 14 5)
     ∷ roomy gates (remove 4)
     (answered (shared (input 3 ∷ input 2 ∷ NOT 0 ∷ XOR 0 1 ∷ OR 3 2 ∷ AND 3 3 ∷ register 4 ∷ NOT 6 ∷ [])))
     ∷ roomy (shared (input 1 ∷ input 2 ∷ NOT 1 ∷ [])) (remove 0) (answered (shared (input 2 ∷ NOT 0 ∷ [])))
     ∷ roomy (shared (input 1 ∷ [])) (remove 0) (answered (shared []))
-    ∷ short block-a (remove 5) 0 0 (refused 12 5)
-    ∷ short block-a (remove 3) 4 0 (refused 10 5)
-    ∷ short block-a (remove 3) 5 1279 (refused 11 1280)
-    ∷ short block-a (remove 4) 5 1280 (answered before-a)
+    ∷ short p9 (remove 5) 0 0 (refused 12 5)
+    ∷ short p9 (remove 3) 4 0 (refused 10 5)
+    ∷ short p9 (remove 3) 5 1279 (refused 11 1280)
+    ∷ short p9 (remove 4) 5 1280 (answered before-a)
     ∷ []
 
 pub additions-right : Each Right additions
@@ -116,18 +113,18 @@ abbrev found : (nodes : ℕ) (settled glitch : Finding) → Outcome Findings
 found nodes settled glitch = answered (record { variables = 3; nodes = nodes; settled = settled; glitch = glitch })
 
 pub answers : (replyAfter before-a (add (4 ∷ 3 ∷ 1 ∷ [])) most-nodes most-work ≡ found 5 clear (suspectAt 4 1))
-    × (replyAfter block-a (remove 4) most-nodes most-work ≡ found 4 clear clear)
+    × (replyAfter p9 (remove 4) most-nodes most-work ≡ found 4 clear clear)
 unfolding replyTo editedTo replyAfter
 answers = (refl, refl)
 
 -- ---- counts that differ after an edit
 
-pub a-read : read (writtenOut block-a) ≡ answered block-a
+pub a-read : read (writtenOut p9) ≡ answered p9
 unfolding replyTo variablesOut nodesOut writtenOut recordBytes body kindOf classByte
 a-read = refl
 
 -- On the feeding points of node 4, beside secret 0 one mask setting gives the pattern of zeros, and beside secret 1 none does.
-pub counts-differ : (giving block-a (feeding block-a 4) all-zero [] (false ∷ []) ≡ 1) × (giving block-a (feeding block-a 4) all-zero [] (true ∷ []) ≡ 0)
+pub counts-differ : (giving p9 (feeding p9 4) all-zero [] (false ∷ []) ≡ 1) × (giving p9 (feeding p9 4) all-zero [] (true ∷ []) ≡ 0)
 unfolding member insert union count table xor exclusiveOr valueRule values feedingRule feedings feeding same howMany settings next others make matches giving
 counts-differ = (refl, refl)
 
@@ -136,7 +133,7 @@ pub added-probe : ¬ OneProbe (writtenOut (netlistAfter before-a (add (4 ∷ 3 �
 unfolding editedTo otherwise netlistAfter tested OneProbe CountsAgree
 added-probe probe =
     let (one, none) = counts-differ in
-    let same-count = probe block-a a-read 4 (record { there = omega arith; isTested = tt }) [] (false ∷ []) (true ∷ []) all-zero in
+    let same-count = probe p9 a-read 4 (record { there = omega arith; isTested = tt }) [] (false ∷ []) (true ∷ []) all-zero in
     omega arith
 
 -- ---- a node that is named

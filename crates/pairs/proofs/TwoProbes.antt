@@ -4,24 +4,26 @@
 use Prim.Native.Nat.{ℕ, _≤_, _<_}
 use mathlib.Core.Path.{_≡_, refl, sym, ap, _∙_, subst, fun-ext}
 use mathlib.Core.Logic.{_↔_, _⊎_, ⊎-elim}
-use mathlib.Core.Bool.{Bool, false, not, _&&_, and-comm, and-self}
+use mathlib.Core.Bool.{false, not, _&&_}
 use mathlib.Core.List.{List, [], _∷_}
 use native.Mathlib.Omega.{arith}
 use lib.Dec.{T}
 use lib.ListN.{length}
 use Rattle.rules.specs.Lists.{member, union}
 use Rattle.rules.specs.Records.{Class, secret, mask, Netlist}
-use Rattle.rules.specs.Values.{values, feeding, Pattern, matches, giving, CountsAgree}
+use Rattle.rules.specs.Values.{values, feeding, matches, CountsAgree}
 use Rattle.rules.specs.Families.{Family, product, spread, familiesAt, holds, suspect, findings}
 use Rattle.rules.specs.Slices.{reply}
 use Rattle.rules.specs.Checks.{Outcome, answered, refused, andThen, admitted}
 use Rattle.rules.specs.Demands.{TestedNode, NoSuspect}
 use Rattle.rules.proofs.Tests.{pass, lt-or-le}
-use Rattle.rules.proofs.Lists.{insert-cases, union-cases, count-ext}
+use Rattle.rules.proofs.Lists.{insert-cases, union-left, union-right, union-cases}
+use Rattle.rules.proofs.Members.{all-union}
 use Rattle.rules.proofs.Room.{admitted-says}
 use Rattle.rules.proofs.Halves.{half-clear, reported-none, reported-clear}
 use Rattle.rules.proofs.Spans.{Holds, holds-both}
-use Rattle.rules.proofs.Probe.{each-node, matches-union, HoldsPatterns, counts-agree}
+use Rattle.rules.proofs.Points.{matches-union, agree-among}
+use Rattle.rules.proofs.Probe.{each-node, HoldsPatterns, counts-agree}
 use Rattle.pair_search.specs.Pairs.{pairs, pairFamily, pairReport, noPair, Searched, searched, pairFindings, pairsReply, oneProbeReply, NoPair, NoSuspectPair, NothingSuspectInPairs, TwoProbes}
 use Rattle.pairs.proofs.Order.{lists-tested, lists-all}
 use Rattle.pairs.proofs.Findings.{Means, search-exactly}
@@ -50,7 +52,7 @@ spread-clean variables F G f g both A m =
 -- ---- the counts on the points of two nodes
 
 module _ (n : Netlist) where
-  -- the patterns of two nodes together, and of one node twice
+  -- the patterns of two nodes together
   both-hold : (i j : ℕ) → HoldsPatterns n (union (feeding n i) (feeding n j)) (spread (familiesAt n i .glitch) (familiesAt n j .glitch))
   both-hold i j K L z =
       subst (Holds K L (spread (familiesAt n i .glitch) (familiesAt n j .glitch)))
@@ -58,29 +60,11 @@ module _ (n : Netlist) where
       (holds-both K L (familiesAt n i .glitch) (familiesAt n j .glitch) (λ x. matches (values n x) (feeding n i) z)
       (λ x. matches (values n x) (feeding n j) z) (each-node K L n i z) (each-node K L n j z))
 
-  one-holds : (i : ℕ) → HoldsPatterns n (union (feeding n i) (feeding n i)) (familiesAt n i .glitch)
-  one-holds i K L z =
-      subst (Holds K L (familiesAt n i .glitch))
-      (fun-ext (λ x. sym (matches-union (values n x) (feeding n i) (feeding n i) z ∙ and-self (matches (values n x) (feeding n i) z))))
-      (each-node K L n i z)
-
-  -- in either order the points are the same
-  swapped : (P Q : List ℕ) → CountsAgree n (union P Q) → CountsAgree n (union Q P)
-  unfolding CountsAgree
-  swapped P Q agree p s t z = other z p s ∙ agree p s t z ∙ sym (other z p t)
-    where
-      other : (z : Pattern) (p s : List Bool) → giving n (union Q P) z p s ≡ giving n (union P Q) z p s
-      other z p s =
-          unfold giving in
-          (count-ext _ _ _
-          (λ m.
-          matches-union _ Q P z ∙ and-comm (matches _ Q z) (matches _ P z) ∙ sym (matches-union _ P Q z)))
-
   pub two-nodes : NoSuspect n → NoSuspectPair n → (i j : ℕ) → TestedNode n i → TestedNode n j → CountsAgree n (union (feeding n i) (feeding n j))
   unfolding NoSuspect NoSuspectPair pairFamily
   two-nodes singles both i j t u =
       ⊎-elim (below i j t u)
-      (λ h. ⊎-elim (λ l. swapped (feeding n j) (feeding n i) (below j i u t l)) (λ l. let same : i ≡ j = omega arith in rw (← same) (once i t)) (lt-or-le j i))
+      (λ h. ⊎-elim (λ l. swapped (below j i u t l)) (λ l. let same : i ≡ j = omega arith in rw (← same) (once i t)) (lt-or-le j i))
       (lt-or-le i j)
     where
       below : (i j : ℕ) → TestedNode n i → TestedNode n j → i < j → CountsAgree n (union (feeding n i) (feeding n j))
@@ -88,8 +72,19 @@ module _ (n : Netlist) where
           counts-agree n _ _ (both-hold i j)
           (spread-clean (n .variables) (familiesAt n i .glitch) (familiesAt n j .glitch) (singles i t) (singles j u) (both i j t u h))
 
+      -- in the other order the points are the same
+      swapped : CountsAgree n (union (feeding n j) (feeding n i)) → CountsAgree n (union (feeding n i) (feeding n j))
+      swapped =
+          agree-among n (union (feeding n j) (feeding n i)) (union (feeding n i) (feeding n j))
+          (all-union (λ p. T (member p (union (feeding n j) (feeding n i)))) (feeding n i) (feeding n j)
+          (λ p. union-right p (feeding n j) (feeding n i)) (λ p. union-left p (feeding n j) (feeding n i)))
+
+      -- and those of one node twice are its own
       once : (i : ℕ) → TestedNode n i → CountsAgree n (union (feeding n i) (feeding n i))
-      once i t = counts-agree n _ _ (one-holds i) (singles i t)
+      once i t =
+          agree-among n (feeding n i) (union (feeding n i) (feeding n i))
+          (all-union (λ p. T (member p (feeding n i))) (feeding n i) (feeding n i) (λ p m. m) (λ p m. m))
+          (counts-agree n (feeding n i) (familiesAt n i .glitch) (λ K L z. each-node K L n i z) (singles i t))
 
 -- ---- no pair
 

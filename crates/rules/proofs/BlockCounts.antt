@@ -12,7 +12,7 @@ use Rattle.rules.specs.Values.{exclusiveOr, valueRule, values, feedingRu
 use Rattle.rules.specs.Families.{tested}
 use Rattle.rules.specs.Checks.{answered, read}
 use Rattle.rules.specs.Demands.{OneProbe}
-use Rattle.rules.specs.Blocks.{P10, P12, P14-without}
+use Rattle.rules.specs.Blocks.{P9, P10, P12, P14-without}
 use Rattle.rules.proofs.Blocks.{replyTo}
 
 -- ---- counts that differ
@@ -97,7 +97,14 @@ p12-settled-clean p s t z = p12-once z p s ∙ sym (p12-once z p t)
 
 -- ---- feeding points
 
--- P10, block B: the netlist that its bytes are
+-- P9 and P10, blocks A and B: the netlists that their bytes are
+abbrev pub p9 : Netlist
+p9 = record { variables = secret ∷ mask ∷ mask ∷ []; nodes = input 3 ∷ input 2 ∷ input 4 ∷ XOR 0 2 ∷ XOR 3 1 ∷ [] }
+
+pub p9-read : read (P9 .bytes) ≡ answered p9
+unfolding replyTo
+p9-read = refl
+
 abbrev pub p10 : Netlist
 p10 = record {
   variables = secret ∷ mask ∷ mask ∷ [];
@@ -108,7 +115,7 @@ pub p10-read : read (P10 .bytes) ≡ answered p10
 unfolding replyTo
 p10-read = refl
 
--- its XOR behind the register is fed by the register and by input 1, and the register by itself only
+-- in block B the XOR behind the register is fed by the register and by input 1, and the register by itself only
 pub p10-feeding : (feeding p10 5 ≡ 4 ∷ 1 ∷ []) × (feeding p10 4 ≡ 4 ∷ [])
 unfolding member insert union table feedingRule feedings feeding
 p10-feeding = (refl, refl)

@@ -25,7 +25,8 @@ pub mod Bounds
 pub mod Feeding
 pub mod ReportOrder
 pub mod Halves
--- demand 3
+-- demand 3, and counts on points
+pub mod Points
 pub mod Settings
 pub mod Weights
 pub mod Characters

@@ -3,13 +3,12 @@
 -- the weight 1 is balanced with every set that is not suspect. Assumes nothing.
 use Prim.Native.Nat.{ℕ}
 use mathlib.Core.Path.{_≡_, refl, sym, ap, _∙_, subst, fun-ext}
-use mathlib.Core.Logic.{_⊎_, inl, inr}
-use mathlib.Core.Bool.{Bool, true, false, cond, not, _&&_, Bool·beq, and-true, and-assoc, and-self-left}
+use mathlib.Core.Bool.{Bool, true, false, not, _&&_, Bool·beq, and-true}
 use mathlib.Core.List.{List, [], _∷_, map}
 use native.Mathlib.Omega.{arith}
 use lib.Dec.{T}
 use lib.ListN.{length, getD, take}
-use Rattle.rules.specs.Lists.{member, insert, union, count}
+use Rattle.rules.specs.Lists.{member, union, count}
 use Rattle.rules.specs.Tables.{table}
 use Rattle.rules.specs.Records.{secret, mask, Cell, input, NOT, XOR, AND, OR, register, Netlist}
 use Rattle.rules.specs.Values.{Assignment, exclusiveOr, valueRule, values, feedingRule, feedings, feeding, howMany, settings, make, Pattern, matches, giving, CountsAgree}
@@ -17,59 +16,15 @@ use Rattle.rules.specs.Families.{Family, Families, constant, spread, set
 use Rattle.rules.specs.Slices.{reply}
 use Rattle.rules.specs.Demands.{GlitchClear, NoSuspect, NothingSuspect, OneProbe}
 use Rattle.rules.proofs.Tests.{pass}
-use Rattle.rules.proofs.Lists.{member-cases, insert-old, count-map, count-ext}
+use Rattle.rules.proofs.Lists.{insert-old, count-map, count-ext}
 use Rattle.rules.proofs.Tables.{table-entry}
 use Rattle.rules.proofs.Entries.{each-entry, length-done}
 use Rattle.rules.proofs.Room.{admitted-says}
 use Rattle.rules.proofs.Halves.{exactly-when}
+use Rattle.rules.proofs.Points.{matches-union}
 use Rattle.rules.proofs.Weights.{plus, twist, keep, pluses, minuses, Balanced, kept-sum, twisted-sum}
 use Rattle.rules.proofs.Characters.{no-secret, masked}
 use Rattle.rules.proofs.Spans.{Spans, Holds, spans-input, spans-constant, spans-not, spans-xor, spans-and, spans-or, holds-nothing, holds-more, holds-point, holds-both}
-
--- ---- patterns on points taken together
-
--- a point that is named already asks nothing more
-matches-member : (settled : List Bool) (i : ℕ) (points : List ℕ) (z : Pattern) → T (member i points)
-    → matches settled points z ≡ (Bool·beq (getD settled i false) (z i) && matches settled points z)
-unfolding matches
-matches-member settled i [] z t = absurd (unfold member in t)
-matches-member settled i (j ∷ points) z t = go (member-cases i j points t) (matches-member settled i points z)
-  where
-    named : ℕ → Bool
-    named k = Bool·beq (getD settled k false) (z k)
-
-    past : (a b c : Bool) → c ≡ (a && c) → (b && c) ≡ (a && (b && c))
-    past true b c e = refl
-    past false true c e = e
-    past false false c e = refl
-
-    go : (i ≡ j) ⊎ T (member i points) → (T (member i points) → matches settled points z ≡ (named i && matches settled points z))
-        → (named j && matches settled points z) ≡ (named i && (named j && matches settled points z))
-    go (inl e) rest =
-        subst (λ (k : ℕ). (named j && matches settled points z) ≡ (named k && (named j && matches settled points z))) (sym e)
-        (sym (and-self-left (named j) (matches settled points z)))
-    go (inr m) rest = past (named i) (named j) (matches settled points z) (rest m)
-
-matches-insert : (settled : List Bool) (i : ℕ) (points : List ℕ) (z : Pattern)
-    → matches settled (insert i points) z ≡ (Bool·beq (getD settled i false) (z i) && matches settled points z)
-unfolding insert matches
-matches-insert settled i points z = go (member i points) (matches-member settled i points z)
-  where
-    one : Bool
-    one = Bool·beq (getD settled i false) (z i)
-
-    go : (b : Bool) → (T b → matches settled points z ≡ (one && matches settled points z))
-        → matches settled (cond b points (i ∷ points)) z ≡ (one && matches settled points z)
-    go true e = e tt
-    go false e = refl
-
-pub matches-union : (settled : List Bool) (P Q : List ℕ) (z : Pattern) → matches settled (union P Q) z ≡ (matches settled P z && matches settled Q z)
-unfolding union matches
-matches-union settled [] Q z = refl
-matches-union settled (i ∷ P) Q z =
-    matches-insert settled i (union P Q) z
-    ∙ ap (λ (b : Bool). Bool·beq (getD settled i false) (z i) && b) (matches-union settled P Q z)
-    ∙ sym (and-assoc (Bool·beq (getD settled i false) (z i)) (matches settled P z) (matches settled Q z))
 
 -- ---- the three tables side by side
 

@@ -1,0 +1,91 @@
+-- Many probes round one gate: where the gate's glitch family holds no suspect set, the counts agree on its feeding points; so on those of a cluster
+-- round it, which are all among them, and on the cluster's nodes, which no other point feeds. And so round every gate of a block that the checker
+-- answers clear for glitching signals. Assumes nothing.
+use Prim.Native.Nat.{ℕ}
+use mathlib.Core.Path.{_≡_, subst}
+use mathlib.Core.Logic.{⊎-elim}
+use mathlib.Core.List.{List, [], _∷_}
+use lib.Dec.{T}
+use Rattle.rules.specs.Lists.{member, union}
+use Rattle.rules.specs.Records.{Netlist}
+use Rattle.rules.specs.Values.{feeding, CountsAgree}
+use Rattle.rules.specs.Families.{familiesAt}
+use Rattle.rules.specs.Checks.{answered, read}
+use Rattle.rules.specs.Slices.{reply}
+use Rattle.rules.specs.Demands.{GlitchClear, NoSuspect, NothingSuspect, TestedNode, OneProbe}
+use Rattle.rules.proofs.Lists.{member-head, member-tail, member-cases, union-left, union-right, union-cases}
+use Rattle.rules.proofs.Members.{All, all-none, all-single, all-union}
+use Rattle.rules.proofs.Room.{admitted-says}
+use Rattle.rules.proofs.Halves.{exactly-when}
+use Rattle.rules.proofs.Points.{agree-among}
+use Rattle.rules.proofs.Probe.{each-node, counts-agree}
+use Rattle.clusters.specs.Clusters.{feedingOf, Round, ClearGate, ProbesRound, ManyProbes, ManyProbesEverywhere, WiresRound, ManyWires, ManyWiresEverywhere}
+use Rattle.clusters.proofs.Following.{agree-fed}
+
+-- ---- what feeds a cluster
+
+module _ (n : Netlist) where
+  -- what feeds a node of the cluster feeds the cluster
+  pub node-feeds : (cluster : List ℕ) (i : ℕ) → T (member i cluster) → All (λ p. T (member p (feedingOf n cluster))) (feeding n i)
+  unfolding feedingOf
+  node-feeds [] i m p t = absurd (unfold member in m)
+  node-feeds (j ∷ cluster) i m p t =
+      ⊎-elim (λ e. union-left p (feeding n j) _ (subst (λ (k : ℕ). T (member p (feeding n k))) e t))
+      (λ u. union-right p (feeding n j) _ (node-feeds cluster i u p t)) (member-cases i j cluster m)
+
+  -- and what feeds a cluster round a gate feeds the gate
+  pub round-feeds : (gate : ℕ) (cluster : List ℕ) → Round n gate cluster → All (λ p. T (member p (feeding n gate))) (feedingOf n cluster)
+  unfolding feedingOf Round
+  round-feeds gate [] round = all-none (λ p. T (member p (feeding n gate)))
+  round-feeds gate (i ∷ cluster) round =
+      all-union (λ p. T (member p (feeding n gate))) (feeding n i) (feedingOf n cluster) (round i (member-head i cluster))
+      (round-feeds gate cluster (λ k m. round k (member-tail k i cluster m)))
+
+  -- ---- one gate
+
+  -- the counts agree on the feeding points of a gate that is clear
+  gate-agrees : (gate : ℕ) → ClearGate n gate → CountsAgree n (feeding n gate)
+  unfolding ClearGate
+  gate-agrees gate clear = counts-agree n (feeding n gate) (familiesAt n gate .glitch) (λ K L z. each-node K L n gate z) clear
+
+-- Round a gate that is clear for glitches any number of probes learn nothing of the secrets.
+pub many-probes : (bytes : List ℕ) → ManyProbes bytes
+unfolding ManyProbes ProbesRound
+many-probes bytes n is-read gate clear cluster round =
+    agree-among n (feeding n gate) (feedingOf n cluster) (round-feeds n gate cluster round) (gate-agrees n gate clear)
+
+-- Nor do the settled values of the probed nodes themselves: these follow from those of what feeds them.
+pub many-wires : (bytes : List ℕ) → ManyWires bytes
+unfolding ManyWires WiresRound ManyProbes ProbesRound
+many-wires bytes n is-read gate clear cluster round =
+    agree-fed n (feedingOf n cluster) cluster (node-feeds n cluster) (many-probes bytes n is-read gate clear cluster round)
+
+-- ---- every gate of an accepted block
+
+module _ (bytes : List ℕ) (entries work : ℕ) (answers-clear : GlitchClear (reply bytes entries work)) where
+  -- every tested node is clear
+  pub each-clear : (n : Netlist) → read bytes ≡ answered n → (gate : ℕ) → TestedNode n gate → ClearGate n gate
+  unfolding ClearGate NoSuspect
+  each-clear n is-read = subst NoSuspect same-netlist (checked .noSuspect)
+    where
+      checked : NothingSuspect bytes entries work
+      checked = exactly-when bytes entries work .0 answers-clear
+
+      same-netlist : checked .netlist ≡ n
+      same-netlist = let e = admitted-says bytes entries work (checked .netlist) (checked .admits) .is-read in cc
+
+  -- Whenever the checker answers clear for glitching signals, that holds round every gate.
+  pub clear-probes : ManyProbesEverywhere bytes
+  unfolding ManyProbesEverywhere ManyProbes
+  clear-probes n is-read gate node = many-probes bytes n is-read gate (each-clear n is-read gate node)
+
+  pub clear-wires : ManyWiresEverywhere bytes
+  unfolding ManyWiresEverywhere ManyWires
+  clear-wires n is-read gate node = many-wires bytes n is-read gate (each-clear n is-read gate node)
+
+-- the cluster of a gate alone is one probe
+pub alone : (bytes : List ℕ) → ManyProbesEverywhere bytes → OneProbe bytes
+unfolding ManyProbesEverywhere ProbesRound OneProbe Round
+alone bytes everywhere n is-read i node =
+    agree-among n (feedingOf n (i ∷ [])) (feeding n i) (node-feeds n (i ∷ []) i (member-head i []))
+    (everywhere n is-read i node (i ∷ []) (all-single (λ k. (p : ℕ) → T (member p (feeding n k)) → T (member p (feeding n i))) i (λ p t. t)))

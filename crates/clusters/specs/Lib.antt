@@ -1,0 +1,2 @@
+-- Change request A4 as definitions.
+pub mod Clusters
