@@ -19,17 +19,43 @@ use Rattle.rules.proofs.Members.{all-front, all-single}
 use Rattle.rules.proofs.Blocks.{replyTo}
 use Rattle.rules.proofs.BlockCounts.{all-zero, p9, p9-read, p10, p10-read}
 use Rattle.clusters.specs.Clusters.{feedingOf, Round, ClearGate, ProbesRound, ManyProbesEverywhere, WiresRound, ManyWiresEverywhere}
-use Rattle.clusters.proofs.ManyProbes.{each-clear}
 
--- ---- round a gate that is not clear
+-- ---- gates that are clear, and one that is not
 
--- Block A, round gate 4: gate 3 and the inputs 1 and 2, two of which feed gate 3 or gate 4 themselves. All that feeds them feeds gate 4.
+-- Gate 4 of block A is clear for settled signals, but not for glitches: its glitch family holds the secret alone.
+pub a-settled-clear : (A : ℕ) → T (member A (familiesAt p9 4 .settled)) → T (not (suspect (p9 .variables) A))
+unfolding replyTo familiesAt
+a-settled-clear = all-single (λ A. T (not (suspect (p9 .variables) A))) 5 tt
+
+pub a-not-clear : ¬ ClearGate p9 4
+unfolding replyTo familiesAt ClearGate
+a-not-clear clear = clear 1 tt
+
+-- Block B is clear for glitches, and so is its gate 5.
+pub b-clear : GlitchClear (reply (P10 .bytes) most-nodes most-work)
+unfolding replyTo GlitchClear
+b-clear = refl
+
+pub b-gate-clear : ClearGate p10 5
+unfolding replyTo familiesAt ClearGate
+b-gate-clear = all-front Clean 0 (7 ∷ 2 ∷ 5 ∷ []) tt (all-front Clean 7 (2 ∷ 5 ∷ []) tt (all-front Clean 2 (5 ∷ []) tt (all-single Clean 5 tt)))
+  where
+    Clean : ℕ → Type 0
+    Clean A = T (not (suspect (p10 .variables) A))
+
+-- ---- a cluster beyond a gate, and one round a gate
+
+-- gate 5 of block B and the inputs 1 and 0, of which input 0 does not feed gate 5
+abbrev pub cluster-b : List ℕ
+cluster-b = 5 ∷ 1 ∷ 0 ∷ []
+
+pub b-not-round : ¬ Round p10 5 cluster-b
+unfolding member insert union table feedingRule feedings feeding Round
+b-not-round round = round 0 tt 0 tt
+
+-- gate 3 of block A and the inputs 1 and 2: all that feeds them feeds gate 4
 abbrev pub cluster-a : List ℕ
 cluster-a = 3 ∷ 1 ∷ 2 ∷ []
-
-pub a-feeding : (feeding p9 4 ≡ 0 ∷ 2 ∷ 1 ∷ []) × (feedingOf p9 cluster-a ≡ 0 ∷ 1 ∷ 2 ∷ [])
-unfolding member insert union table feedingRule feedings feeding feedingOf
-a-feeding = (refl, refl)
 
 pub a-round : Round p9 4 cluster-a
 unfolding member insert union table feedingRule feedings feeding Round
@@ -43,82 +69,60 @@ a-round =
     Within : ℕ → Type 0
     Within i = (p : ℕ) → T (member p (feeding p9 i)) → Feeds p
 
--- Beside secret 0 one mask setting gives the pattern of zeros, and beside secret 1 none does: on what feeds the cluster, and on its wires.
-pub a-points-differ : (giving p9 (feedingOf p9 cluster-a) all-zero [] (false ∷ []) ≡ 1) × (giving p9 (feedingOf p9 cluster-a) all-zero [] (true ∷ []) ≡ 0)
+-- ---- counts that differ
+
+-- what feeds the two clusters
+pub cluster-feeding : (feedingOf p9 cluster-a ≡ 0 ∷ 1 ∷ 2 ∷ []) × (feedingOf p10 cluster-b ≡ 4 ∷ 1 ∷ 0 ∷ [])
+unfolding member insert union table feedingRule feedings feeding feedingOf
+cluster-feeding = (refl, refl)
+
+-- beside secret 0 one mask setting gives the pattern of zeros on these points, and beside secret 1 none does
+abbrev pub Differ : Netlist → (points : List ℕ) → Type 0
+Differ n points = (giving n points all-zero [] (false ∷ []) ≡ 1) × (giving n points all-zero [] (true ∷ []) ≡ 0)
+
+-- so it is of both clusters, over what feeds them and over their own wires
+pub a-points : Differ p9 (feedingOf p9 cluster-a)
 unfolding member insert union count table xor exclusiveOr valueRule values feedingRule feedings feeding same howMany settings next others make matches giving feedingOf
-a-points-differ = (refl, refl)
+a-points = (refl, refl)
 
-pub a-wires-differ : (giving p9 cluster-a all-zero [] (false ∷ []) ≡ 1) × (giving p9 cluster-a all-zero [] (true ∷ []) ≡ 0)
+pub a-wires : Differ p9 cluster-a
 unfolding count table xor exclusiveOr valueRule values same howMany settings next others make matches giving
-a-wires-differ = (refl, refl)
+a-wires = (refl, refl)
 
--- so neither statement holds round that gate
-pub a-probes : ¬ ProbesRound p9 4
-unfolding ProbesRound CountsAgree
-a-probes round =
-    let (one, none) = a-points-differ in
-    let same-count = round cluster-a a-round [] (false ∷ []) (true ∷ []) all-zero in
-    omega arith
+pub b-points : Differ p10 (feedingOf p10 cluster-b)
+unfolding member insert union count table xor exclusiveOr valueRule values feedingRule feedings feeding same howMany settings next others make matches giving feedingOf
+b-points = (refl, refl)
 
-pub a-wires : ¬ WiresRound p9 4
-unfolding WiresRound CountsAgree
-a-wires round =
-    let (one, none) = a-wires-differ in
-    let same-count = round cluster-a a-round [] (false ∷ []) (true ∷ []) all-zero in
-    omega arith
+pub b-wires : Differ p10 cluster-b
+unfolding count table xor exclusiveOr valueRule values same howMany settings next others make matches giving
+b-wires = (refl, refl)
 
--- and what is said of every gate is false of the bytes of block A
+-- such counts do not agree
+disagree : (n : Netlist) (points : List ℕ) → Differ n points → ¬ CountsAgree n points
+unfolding CountsAgree
+disagree n points (one, none) agree = let same-count = agree [] (false ∷ []) (true ∷ []) all-zero in omega arith
+
+-- Round gate 4 of block A, which is not clear, neither statement holds, so what is said of every gate is false of its bytes.
+pub a-probes-round : ¬ ProbesRound p9 4
+unfolding ProbesRound
+a-probes-round round = disagree p9 (feedingOf p9 cluster-a) a-points (round cluster-a a-round)
+
+pub a-wires-round : ¬ WiresRound p9 4
+unfolding WiresRound
+a-wires-round round = disagree p9 cluster-a a-wires (round cluster-a a-round)
+
 pub a-probes-everywhere : ¬ ManyProbesEverywhere (P9 .bytes)
 unfolding tested ManyProbesEverywhere
-a-probes-everywhere everywhere = a-probes (everywhere p9 p9-read 4 (record { there = omega arith; isTested = tt }))
+a-probes-everywhere everywhere = a-probes-round (everywhere p9 p9-read 4 (record { there = omega arith; isTested = tt }))
 
 pub a-wires-everywhere : ¬ ManyWiresEverywhere (P9 .bytes)
 unfolding tested ManyWiresEverywhere
-a-wires-everywhere everywhere = a-wires (everywhere p9 p9-read 4 (record { there = omega arith; isTested = tt }))
+a-wires-everywhere everywhere = a-wires-round (everywhere p9 p9-read 4 (record { there = omega arith; isTested = tt }))
 
--- The gate is clear for settled signals: that is not enough.
-pub a-settled-clear : (A : ℕ) → T (member A (familiesAt p9 4 .settled)) → T (not (suspect (p9 .variables) A))
-unfolding replyTo familiesAt
-a-settled-clear = all-single (λ A. T (not (suspect (p9 .variables) A))) 5 tt
-
--- ---- beyond a gate
-
--- Block B is clear for glitches, and so is each of its gates.
-pub b-clear : GlitchClear (reply (P10 .bytes) most-nodes most-work)
-unfolding replyTo GlitchClear
-b-clear = refl
-
-pub b-gate-clear : ClearGate p10 5
-unfolding tested
-b-gate-clear = each-clear (P10 .bytes) most-nodes most-work b-clear p10 p10-read 5 (record { there = omega arith; isTested = tt })
-
--- Gate 5 and the inputs 1 and 0, of which input 0 does not feed gate 5.
-abbrev pub cluster-b : List ℕ
-cluster-b = 5 ∷ 1 ∷ 0 ∷ []
-
-pub b-not-round : ¬ Round p10 5 cluster-b
-unfolding member insert union table feedingRule feedings feeding Round
-b-not-round round = round 0 tt 0 tt
-
-pub b-points-differ : (giving p10 (feedingOf p10 cluster-b) all-zero [] (false ∷ []) ≡ 1) × (giving p10 (feedingOf p10 cluster-b) all-zero [] (true ∷ []) ≡ 0)
-unfolding member insert union count table xor exclusiveOr valueRule values feedingRule feedings feeding same howMany settings next others make matches giving feedingOf
-b-points-differ = (refl, refl)
-
-pub b-wires-differ : (giving p10 cluster-b all-zero [] (false ∷ []) ≡ 1) × (giving p10 cluster-b all-zero [] (true ∷ []) ≡ 0)
-unfolding count table xor exclusiveOr valueRule values same howMany settings next others make matches giving
-b-wires-differ = (refl, refl)
-
--- so of a cluster that need not lie round the gate neither statement would hold
-pub b-beyond : ¬ ((n : Netlist) → read (P10 .bytes) ≡ answered n → (gate : ℕ) → ClearGate n gate → (cluster : List ℕ) → CountsAgree n (feedingOf n cluster))
-unfolding CountsAgree
-b-beyond anywhere =
-    let (one, none) = b-points-differ in
-    let same-count = anywhere p10 p10-read 5 b-gate-clear cluster-b [] (false ∷ []) (true ∷ []) all-zero in
-    omega arith
+-- Of clusters that need not lie round the gate neither statement would hold: they would be false of the bytes of block B.
+pub b-probes-beyond : ¬ ((n : Netlist) → read (P10 .bytes) ≡ answered n → (gate : ℕ) → ClearGate n gate
+    → (cluster : List ℕ) → CountsAgree n (feedingOf n cluster))
+b-probes-beyond anywhere = disagree p10 (feedingOf p10 cluster-b) b-points (anywhere p10 p10-read 5 b-gate-clear cluster-b)
 
 pub b-wires-beyond : ¬ ((n : Netlist) → read (P10 .bytes) ≡ answered n → (gate : ℕ) → ClearGate n gate → (cluster : List ℕ) → CountsAgree n cluster)
-unfolding CountsAgree
-b-wires-beyond anywhere =
-    let (one, none) = b-wires-differ in
-    let same-count = anywhere p10 p10-read 5 b-gate-clear cluster-b [] (false ∷ []) (true ∷ []) all-zero in
-    omega arith
+b-wires-beyond anywhere = disagree p10 cluster-b b-wires (anywhere p10 p10-read 5 b-gate-clear cluster-b)

@@ -64,7 +64,7 @@ many-wires bytes n is-read gate clear cluster round =
 
 module _ (bytes : List ℕ) (entries work : ℕ) (answers-clear : GlitchClear (reply bytes entries work)) where
   -- every tested node is clear
-  pub each-clear : (n : Netlist) → read bytes ≡ answered n → (gate : ℕ) → TestedNode n gate → ClearGate n gate
+  each-clear : (n : Netlist) → read bytes ≡ answered n → (gate : ℕ) → TestedNode n gate → ClearGate n gate
   unfolding ClearGate NoSuspect
   each-clear n is-read = subst NoSuspect same-netlist (checked .noSuspect)
     where
