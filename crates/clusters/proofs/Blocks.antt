@@ -119,6 +119,11 @@ pub a-wires-everywhere : ¬ ManyWiresEverywhere (P9 .bytes)
 unfolding tested ManyWiresEverywhere
 a-wires-everywhere everywhere = a-wires-round (everywhere p9 p9-read 4 (record { there = omega arith; isTested = tt }))
 
+-- So a gate that is clear for settled signals is not enough: with that in its place the statement would be false of the bytes of block A.
+pub a-settled-not-enough : ¬ ((n : Netlist) → read (P9 .bytes) ≡ answered n → (gate : ℕ)
+    → ((A : ℕ) → T (member A (familiesAt n gate .settled)) → T (not (suspect (n .variables) A))) → ProbesRound n gate)
+a-settled-not-enough settled = a-probes-round (settled p9 p9-read 4 a-settled-clear)
+
 -- Of clusters that need not lie round the gate neither statement would hold: they would be false of the bytes of block B.
 pub b-probes-beyond : ¬ ((n : Netlist) → read (P10 .bytes) ≡ answered n → (gate : ℕ) → ClearGate n gate
     → (cluster : List ℕ) → CountsAgree n (feedingOf n cluster))

@@ -74,7 +74,7 @@ module _ (bytes : List ℕ) (entries work : ℕ) (answers-clear : GlitchClear (r
       same-netlist : checked .netlist ≡ n
       same-netlist = let e = admitted-says bytes entries work (checked .netlist) (checked .admits) .is-read in cc
 
-  -- Whenever the checker answers clear for glitching signals, that holds round every gate.
+  -- Whenever the checker answers clear for glitching signals, that holds round every gate and register.
   pub clear-probes : ManyProbesEverywhere bytes
   unfolding ManyProbesEverywhere ManyProbes
   clear-probes n is-read gate node = many-probes bytes n is-read gate (each-clear n is-read gate node)

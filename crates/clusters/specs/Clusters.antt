@@ -1,5 +1,6 @@
 -- Change request A4, "Many probes round one gate", as statements about netlist bytes: what feeds a cluster of nodes, when the cluster lies round a
--- gate, and what the probes on it see. `proofs/ManyProbes` proves them. Assumes nothing.
+-- gate, and what the probes on it see. A gate is given by its number; nothing is asked of its kind, so all of it is said of registers and inputs too.
+-- `proofs/ManyProbes` proves the statements. Assumes nothing.
 use Prim.Native.Nat.{ℕ}
 use mathlib.Core.Path.{_≡_}
 use mathlib.Core.Bool.{not}
@@ -36,7 +37,7 @@ ProbesRound n gate = (cluster : List ℕ) → Round n gate cluster → CountsAgr
 unfoldable pub ManyProbes : List ℕ → Type 0
 ManyProbes bytes = (n : Netlist) → read bytes ≡ answered n → (gate : ℕ) → ClearGate n gate → ProbesRound n gate
 
--- and so they do round every gate of the block
+-- and so they do round every gate and register of the block
 unfoldable pub ManyProbesEverywhere : List ℕ → Type 0
 ManyProbesEverywhere bytes = (n : Netlist) → read bytes ≡ answered n → (gate : ℕ) → TestedNode n gate → ProbesRound n gate
 
@@ -51,6 +52,6 @@ WiresRound n gate = (cluster : List ℕ) → Round n gate cluster → CountsAgre
 unfoldable pub ManyWires : List ℕ → Type 0
 ManyWires bytes = (n : Netlist) → read bytes ≡ answered n → (gate : ℕ) → ClearGate n gate → WiresRound n gate
 
--- and so they are round every gate of the block
+-- and so they are round every gate and register of the block
 unfoldable pub ManyWiresEverywhere : List ℕ → Type 0
 ManyWiresEverywhere bytes = (n : Netlist) → read bytes ≡ answered n → (gate : ℕ) → TestedNode n gate → WiresRound n gate

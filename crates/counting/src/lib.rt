@@ -1,4 +1,4 @@
-// Mask settings counted by force, over blocks of few variables and nodes: whether the number of those that give a pattern differs
+// Mask settings counted by force, over blocks of few variables and nodes: whether the number of those that give a pattern on some nodes differs
 // between settings of the secrets. For test programs.
 use generator::least;
 use second::Block;
@@ -12,16 +12,27 @@ pub const NODES: usize = 12;
 // A position behind those of all pairs.
 pub const NONE: usize = 100;
 
-// The pattern of the feeding points of two nodes under each assignment: bit k is the value of node k, where that feeds one of them.
-fn patterns_of(store: &Store, i: usize, j: usize) -> [usize; 32] {
+// The nodes that feed those of a cluster, where a set of nodes has bit k for node k.
+pub fn feeding_of(store: &Store, cluster: usize) -> usize {
+    let mut points = 0;
+    let mut k = 0;
+    while k < 144 {
+        let feeds = ((cluster >> (k / 12)) % 2 == 1)
+            & second::has_bit(store, k / 12, 1024 + k % 12);
+        points = points | number_if(feeds, 1usize << (k % 12));
+        k += 1;
+    }
+    points
+}
+
+// The pattern of some nodes under each assignment: bit k is the value of node k, where that is one of them.
+fn patterns_of(store: &Store, nodes: usize) -> [usize; 32] {
     let mut patterns = [0usize; 32];
     let mut k = 0;
     while k < 384 {
-        let point = k / 32;
-        let feeds = second::has_bit(store, i, 1024 + point)
-            | second::has_bit(store, j, 1024 + point);
-        let value = feeds & second::has_bit(store, point, k % 32);
-        patterns[k % 32] = patterns[k % 32] | (number_if(value, 1) << point);
+        let node = k / 32;
+        let value = ((nodes >> node) % 2 == 1) & second::has_bit(store, node, k % 32);
+        patterns[k % 32] = patterns[k % 32] | (number_if(value, 1) << node);
         k += 1;
     }
     patterns
@@ -55,9 +66,9 @@ pub fn counts_differ(patterns: &[usize; 32], secrets: usize, masks: usize) -> bo
     differs
 }
 
-// Whether the counts of two nodes together differ.
-fn pair_differs(store: &Store, i: usize, j: usize, secrets: usize, masks: usize) -> bool {
-    let patterns = patterns_of(store, i, j);
+// Whether the counts over some nodes differ.
+pub fn differ(store: &Store, nodes: usize, secrets: usize, masks: usize) -> bool {
+    let patterns = patterns_of(store, nodes);
     counts_differ(&patterns, secrets, masks)
 }
 
@@ -81,10 +92,9 @@ pub fn count_pairs(block: Block, store: &Store) -> Counted {
         let a = k % NODES;
         let b = k / NODES;
         if (a <= b) & (b < tested.count) {
-            let i = tested.nodes[a];
-            let j = tested.nodes[b];
+            let both = (1usize << (tested.nodes[a] % 12)) | (1usize << (tested.nodes[b] % 12));
             counted.pairs = wrapping_add_usize(counted.pairs, 1);
-            if pair_differs(store, i, j, secrets, masks) {
+            if differ(store, feeding_of(store, both), secrets, masks) {
                 let position = number_if(a < b, second::position_of(a, b));
                 counted.lowest = least(position, counted.lowest);
             }

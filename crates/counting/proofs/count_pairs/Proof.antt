@@ -22,23 +22,32 @@ tested-nodes-requires c κs = search needs
 loop-holds : tie.Need-loop-holds Inv-loop μ-loop
 loop-holds c = search needs
 
-mul-i : tie.Need-mul-i Inv-loop μ-loop
-mul-i c = search needs
+mul-both : tie.Need-mul-both Inv-loop μ-loop
+mul-both c = search needs
 
-element-copy-out-i : tie.Need-element-copy-out-i Inv-loop μ-loop
-element-copy-out-i c = search needs
+element-copy-out-both : tie.Need-element-copy-out-both Inv-loop μ-loop
+element-copy-out-both c = search needs
 
-mul-j : tie.Need-mul-j Inv-loop μ-loop
-mul-j c = search needs
+shl-both : tie.Need-shl-both Inv-loop μ-loop
+shl-both c = search needs
 
-element-copy-out-j : tie.Need-element-copy-out-j Inv-loop μ-loop
-element-copy-out-j c = search needs
+mul-both-2 : tie.Need-mul-both-2 Inv-loop μ-loop
+mul-both-2 c = search needs
+
+element-copy-out-both-2 : tie.Need-element-copy-out-both-2 Inv-loop μ-loop
+element-copy-out-both-2 c = search needs
+
+shl-both-2 : tie.Need-shl-both-2 Inv-loop μ-loop
+shl-both-2 c = search needs
 
 wrapping-add-usize-requires : tie.Need-wrapping-add-usize-requires Inv-loop μ-loop
 wrapping-add-usize-requires c κs = search needs
 
-pair-differs-requires : tie.Need-pair-differs-requires Inv-loop μ-loop
-pair-differs-requires c κs = search needs
+feeding-of-requires : tie.Need-feeding-of-requires Inv-loop μ-loop
+feeding-of-requires c κs = search needs
+
+differ-requires : tie.Need-differ-requires Inv-loop μ-loop
+differ-requires c κs = search needs
 
 position-of-requires : tie.Need-position-of-requires Inv-loop μ-loop
 position-of-requires c κs = search needs
@@ -71,12 +80,15 @@ count-pairs-spec =
     element-copy-out-masks
     tested-nodes-requires
     loop-holds
-    mul-i
-    element-copy-out-i
-    mul-j
-    element-copy-out-j
+    mul-both
+    element-copy-out-both
+    shl-both
+    mul-both-2
+    element-copy-out-both-2
+    shl-both-2
     wrapping-add-usize-requires
-    pair-differs-requires
+    feeding-of-requires
+    differ-requires
     position-of-requires
     number-if-requires
     least-requires

@@ -5,28 +5,19 @@ use Rattle.counting.proofs.patterns_of.Statement.{statement}
 use Rattle.counting.proofs.patterns_of.Tie as tie
 
 abbrev Inv-loop : tie.InvT-loop
-Inv-loop store i j patterns₀ k₀ patterns k = k ≤ 384
+Inv-loop store nodes patterns₀ k₀ patterns k = k ≤ 384
 
 abbrev μ-loop : tie.MeasureT-loop
-μ-loop store i j patterns₀ k₀ patterns k = 384 - k
+μ-loop store nodes patterns₀ k₀ patterns k = 384 - k
 
 loop-holds : tie.Need-loop-holds Inv-loop μ-loop
 loop-holds c = search needs
 
-add-has-bit : tie.Need-add-has-bit Inv-loop μ-loop
-add-has-bit c = search needs
+shr-value : tie.Need-shr-value Inv-loop μ-loop
+shr-value c = search needs
 
 has-bit-requires : tie.Need-has-bit-requires Inv-loop μ-loop
 has-bit-requires c κs = search needs
-
-add-has-bit-2 : tie.Need-add-has-bit-2 Inv-loop μ-loop
-add-has-bit-2 c = search needs
-
-has-bit-requires-2 : tie.Need-has-bit-requires-2 Inv-loop μ-loop
-has-bit-requires-2 c κs = search needs
-
-has-bit-requires-3 : tie.Need-has-bit-requires-3 Inv-loop μ-loop
-has-bit-requires-3 c κs = search needs
 
 mul-patterns : tie.Need-mul-patterns Inv-loop μ-loop
 mul-patterns c = search needs
@@ -65,11 +56,8 @@ patterns-of-spec =
     Inv-loop
     μ-loop
     loop-holds
-    add-has-bit
+    shr-value
     has-bit-requires
-    add-has-bit-2
-    has-bit-requires-2
-    has-bit-requires-3
     mul-patterns
     array-read-patterns
     number-if-requires
