@@ -10,7 +10,7 @@ use Rattle.rules.specs.Lists.{member, insert, union, count}
 use Rattle.rules.specs.Tables.{table}
 use Rattle.rules.specs.Records.{mask, Cell, input, NOT, XOR, AND, OR, register, Netlist}
 use Rattle.rules.specs.Values.{Assignment, exclusiveOr, valueRule, values, feedingRule, feedings, feeding, howMany, settings, make, Pattern, matches, giving, CountsAgree}
-use Rattle.rules.proofs.Tests.{pass, same-bit, and-left, and-right, same-test}
+use Rattle.rules.proofs.Tests.{pass, same-bit, and-left, and-right}
 use Rattle.rules.proofs.Lists.{member-head, member-tail, union-left, union-right, count-ext}
 use Rattle.rules.proofs.Members.{All, all-insert}
 use Rattle.rules.proofs.Tables.{table-entry}

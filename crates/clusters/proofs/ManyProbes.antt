@@ -6,19 +6,18 @@ use mathlib.Core.Path.{_≡_, subst}
 use mathlib.Core.Logic.{⊎-elim}
 use mathlib.Core.List.{List, [], _∷_}
 use lib.Dec.{T}
-use Rattle.rules.specs.Lists.{member, union}
+use Rattle.rules.specs.Lists.{member}
 use Rattle.rules.specs.Records.{Netlist}
-use Rattle.rules.specs.Values.{feeding, CountsAgree}
-use Rattle.rules.specs.Families.{familiesAt}
+use Rattle.rules.specs.Values.{feeding}
 use Rattle.rules.specs.Checks.{answered, read}
 use Rattle.rules.specs.Slices.{reply}
-use Rattle.rules.specs.Demands.{GlitchClear, NoSuspect, NothingSuspect, TestedNode, OneProbe}
-use Rattle.rules.proofs.Lists.{member-head, member-tail, member-cases, union-left, union-right, union-cases}
+use Rattle.rules.specs.declared.Reply.{Reply}
+use Rattle.rules.specs.Paper.{replyOf}
+use Rattle.rules.specs.Demands.{GlitchClear, NoSuspect, TestedNode, OneProbe}
+use Rattle.rules.proofs.Lists.{member-head, member-tail, member-cases, union-left, union-right}
 use Rattle.rules.proofs.Members.{All, all-none, all-single, all-union}
-use Rattle.rules.proofs.Room.{admitted-says}
-use Rattle.rules.proofs.Halves.{exactly-when}
 use Rattle.rules.proofs.Points.{agree-among}
-use Rattle.rules.proofs.Probe.{each-node, counts-agree}
+use Rattle.rules.proofs.Probe.{node-agrees, none-suspect}
 use Rattle.clusters.specs.Clusters.{feedingOf, Round, ClearGate, ProbesRound, ManyProbes, ManyProbesEverywhere, WiresRound, ManyWires, ManyWiresEverywhere}
 use Rattle.clusters.proofs.Following.{agree-fed}
 
@@ -41,18 +40,13 @@ module _ (n : Netlist) where
       all-union (λ p. T (member p (feeding n gate))) (feeding n i) (feedingOf n cluster) (round i (member-head i cluster))
       (round-feeds gate cluster (λ k m. round k (member-tail k i cluster m)))
 
-  -- ---- one gate
-
-  -- the counts agree on the feeding points of a gate that is clear
-  gate-agrees : (gate : ℕ) → ClearGate n gate → CountsAgree n (feeding n gate)
-  unfolding ClearGate
-  gate-agrees gate clear = counts-agree n (feeding n gate) (familiesAt n gate .glitch) (λ K L z. each-node K L n gate z) clear
+-- ---- one gate
 
 -- Round a gate that is clear for glitches any number of probes learn nothing of the secrets.
 pub many-probes : (bytes : List ℕ) → ManyProbes bytes
-unfolding ManyProbes ProbesRound
+unfolding ManyProbes ProbesRound ClearGate
 many-probes bytes n is-read gate clear cluster round =
-    agree-among n (feeding n gate) (feedingOf n cluster) (round-feeds n gate cluster round) (gate-agrees n gate clear)
+    agree-among n (feeding n gate) (feedingOf n cluster) (round-feeds n gate cluster round) (node-agrees n gate clear)
 
 -- Nor do the settled values of the probed nodes themselves: these follow from those of what feeds them.
 pub many-wires : (bytes : List ℕ) → ManyWires bytes
@@ -66,13 +60,7 @@ module _ (bytes : List ℕ) (entries work : ℕ) (answers-clear : GlitchClear (r
   -- every tested node is clear
   each-clear : (n : Netlist) → read bytes ≡ answered n → (gate : ℕ) → TestedNode n gate → ClearGate n gate
   unfolding ClearGate NoSuspect
-  each-clear n is-read = subst NoSuspect same-netlist (checked .noSuspect)
-    where
-      checked : NothingSuspect bytes entries work
-      checked = exactly-when bytes entries work .0 answers-clear
-
-      same-netlist : checked .netlist ≡ n
-      same-netlist = let e = admitted-says bytes entries work (checked .netlist) (checked .admits) .is-read in cc
+  each-clear = none-suspect bytes entries work answers-clear
 
   -- Whenever the checker answers clear for glitching signals, that holds round every gate and register.
   pub clear-probes : ManyProbesEverywhere bytes
@@ -83,7 +71,13 @@ module _ (bytes : List ℕ) (entries work : ℕ) (answers-clear : GlitchClear (r
   unfolding ManyWiresEverywhere ManyWires
   clear-wires n is-read gate node = many-wires bytes n is-read gate (each-clear n is-read gate node)
 
--- the cluster of a gate alone is one probe
+-- So of a reply that is the rules' reply, as clause `reply` of the contract of `check` has it: where its glitch half is clear, both hold.
+pub checked-clear : (bytes : List ℕ) (entries work : ℕ) (r : Reply) → replyOf r ≡ reply bytes entries work → GlitchClear (replyOf r)
+    → ManyProbesEverywhere bytes × ManyWiresEverywhere bytes
+checked-clear bytes entries work r replied answers-clear =
+    let clear = subst GlitchClear replied answers-clear in (clear-probes bytes entries work clear, clear-wires bytes entries work clear)
+
+-- The cluster of a gate alone is one probe: what is said of many says demand 3 again.
 pub alone : (bytes : List ℕ) → ManyProbesEverywhere bytes → OneProbe bytes
 unfolding ManyProbesEverywhere ProbesRound OneProbe Round
 alone bytes everywhere n is-read i node =

@@ -2,8 +2,8 @@
 -- nodes together. The patterns there are held by the empty set, both glitch families and their product (`holds-both`), of which no set is
 -- suspect. And the checker answers no pair exactly then, if the limit reaches. Assumes nothing.
 use Prim.Native.Nat.{ℕ, _≤_, _<_}
-use mathlib.Core.Path.{_≡_, refl, sym, ap, _∙_, subst, fun-ext}
-use mathlib.Core.Logic.{_↔_, _⊎_, ⊎-elim}
+use mathlib.Core.Path.{_≡_, refl, sym, ap, subst, fun-ext}
+use mathlib.Core.Logic.{_↔_, ⊎-elim}
 use mathlib.Core.Bool.{false, not, _&&_}
 use mathlib.Core.List.{List, [], _∷_}
 use native.Mathlib.Omega.{arith}
@@ -23,7 +23,7 @@ use Rattle.rules.proofs.Room.{admitted-says}
 use Rattle.rules.proofs.Halves.{half-clear, reported-none, reported-clear}
 use Rattle.rules.proofs.Spans.{Holds, holds-both}
 use Rattle.rules.proofs.Points.{matches-union, agree-among}
-use Rattle.rules.proofs.Probe.{each-node, HoldsPatterns, counts-agree}
+use Rattle.rules.proofs.Probe.{each-node, HoldsPatterns, counts-agree, node-agrees}
 use Rattle.pair_search.specs.Pairs.{pairs, pairFamily, pairReport, noPair, Searched, searched, pairFindings, pairsReply, oneProbeReply, NoPair, NoSuspectPair, NothingSuspectInPairs, TwoProbes}
 use Rattle.pairs.proofs.Order.{lists-tested, lists-all}
 use Rattle.pairs.proofs.Findings.{Means, search-exactly}
@@ -84,7 +84,7 @@ module _ (n : Netlist) where
       once i t =
           agree-among n (feeding n i) (union (feeding n i) (feeding n i))
           (all-union (λ p. T (member p (feeding n i))) (feeding n i) (feeding n i) (λ p m. m) (λ p m. m))
-          (counts-agree n (feeding n i) (familiesAt n i .glitch) (λ K L z. each-node K L n i z) (singles i t))
+          (node-agrees n i (singles i t))
 
 -- ---- no pair
 

@@ -13,6 +13,7 @@ use Rattle.rules.specs.Tables.{table}
 use Rattle.rules.specs.Records.{secret, mask, Cell, input, NOT, XOR, AND, OR, register, Netlist}
 use Rattle.rules.specs.Values.{Assignment, exclusiveOr, valueRule, values, feedingRule, feedings, feeding, howMany, settings, make, Pattern, matches, giving, CountsAgree}
 use Rattle.rules.specs.Families.{Family, Families, constant, spread, settledRule, glitchRule, familiesRule, families, familiesAt, holds, suspect}
+use Rattle.rules.specs.Checks.{answered, read}
 use Rattle.rules.specs.Slices.{reply}
 use Rattle.rules.specs.Demands.{GlitchClear, NoSuspect, NothingSuspect, OneProbe}
 use Rattle.rules.proofs.Tests.{pass}
@@ -202,13 +203,16 @@ counts-agree n points F patterns clean p s t z =
     let (plus-t, minus-t) = pattern-sum n p points z t in
     omega arith
 
+-- so on the feeding points of a node whose glitch family has none
+pub node-agrees : (n : Netlist) (i : ℕ) → ((A : ℕ) → T (member A (familiesAt n i .glitch)) → T (not (suspect (n .variables) A)))
+    → CountsAgree n (feeding n i)
+node-agrees n i clean = counts-agree n (feeding n i) (familiesAt n i .glitch) (λ K L z. each-node K L n i z) clean
+
 -- ---- demand 3
 
--- Whenever the checker answers clear for glitching signals, one probe on any gate or register learns nothing of the secrets.
-pub one-probe : (bytes : List ℕ) (entries work : ℕ) → GlitchClear (reply bytes entries work) → OneProbe bytes
-unfolding OneProbe NoSuspect
-one-probe bytes entries work answers-clear n is-read i node =
-    counts-agree n (feeding n i) (familiesAt n i .glitch) (λ K L z. each-node K L n i z) (clean i node)
+-- Whenever the checker answers clear for glitching signals, no tested node of the netlist that the bytes are holds a suspect set.
+pub none-suspect : (bytes : List ℕ) (entries work : ℕ) → GlitchClear (reply bytes entries work) → (n : Netlist) → read bytes ≡ answered n → NoSuspect n
+none-suspect bytes entries work answers-clear n is-read = subst NoSuspect same-netlist (checked .noSuspect)
   where
     checked : NothingSuspect bytes entries work
     checked = exactly-when bytes entries work .0 answers-clear
@@ -216,5 +220,7 @@ one-probe bytes entries work answers-clear n is-read i node =
     same-netlist : checked .netlist ≡ n
     same-netlist = let e = admitted-says bytes entries work (checked .netlist) (checked .admits) .is-read in cc
 
-    clean : NoSuspect n
-    clean = subst NoSuspect same-netlist (checked .noSuspect)
+-- and one probe on any gate or register learns nothing of the secrets
+pub one-probe : (bytes : List ℕ) (entries work : ℕ) → GlitchClear (reply bytes entries work) → OneProbe bytes
+unfolding OneProbe NoSuspect
+one-probe bytes entries work answers-clear n is-read i node = node-agrees n i (none-suspect bytes entries work answers-clear n is-read i node)
