@@ -43,7 +43,7 @@ b-gate-clear = all-front Clean 0 (7 ∷ 2 ∷ 5 ∷ []) tt (all-front Clean 7 (2
     Clean : ℕ → Type 0
     Clean A = T (not (suspect (p10 .variables) A))
 
--- ---- a cluster beyond a gate, and one round a gate
+-- ---- a cluster beyond a gate, and clusters round a gate
 
 -- gate 5 of block B and the inputs 1 and 0, of which input 0 does not feed gate 5
 abbrev pub cluster-b : List ℕ
@@ -53,6 +53,20 @@ pub b-not-round : ¬ Round p10 5 cluster-b
 unfolding member insert union table feedingRule feedings feeding Round
 b-not-round round = round 0 tt 0 tt
 
+module _ (n : Netlist) (gate : ℕ) where
+  abbrev Feeds : ℕ → Type 0
+  Feeds p = T (member p (feeding n gate))
+
+  abbrev Within : ℕ → Type 0
+  Within i = (p : ℕ) → T (member p (feeding n i)) → Feeds p
+
+-- gate 5 itself, register 4 and input 1 lie round it
+pub b-round : Round p10 5 (5 ∷ 4 ∷ 1 ∷ [])
+unfolding member insert union table feedingRule feedings feeding Round
+b-round =
+    all-front (Within p10 5) 5 (4 ∷ 1 ∷ []) (λ p t. t)
+    (all-front (Within p10 5) 4 (1 ∷ []) (all-single (Feeds p10 5) 4 tt) (all-single (Within p10 5) 1 (all-single (Feeds p10 5) 1 tt)))
+
 -- gate 3 of block A and the inputs 1 and 2: all that feeds them feeds gate 4
 abbrev pub cluster-a : List ℕ
 cluster-a = 3 ∷ 1 ∷ 2 ∷ []
@@ -60,14 +74,8 @@ cluster-a = 3 ∷ 1 ∷ 2 ∷ []
 pub a-round : Round p9 4 cluster-a
 unfolding member insert union table feedingRule feedings feeding Round
 a-round =
-    all-front Within 3 (1 ∷ 2 ∷ []) (all-front Feeds 0 (2 ∷ []) tt (all-single Feeds 2 tt))
-    (all-front Within 1 (2 ∷ []) (all-single Feeds 1 tt) (all-single Within 2 (all-single Feeds 2 tt)))
-  where
-    Feeds : ℕ → Type 0
-    Feeds p = T (member p (feeding p9 4))
-
-    Within : ℕ → Type 0
-    Within i = (p : ℕ) → T (member p (feeding p9 i)) → Feeds p
+    all-front (Within p9 4) 3 (1 ∷ 2 ∷ []) (all-front (Feeds p9 4) 0 (2 ∷ []) tt (all-single (Feeds p9 4) 2 tt))
+    (all-front (Within p9 4) 1 (2 ∷ []) (all-single (Feeds p9 4) 1 tt) (all-single (Within p9 4) 2 (all-single (Feeds p9 4) 2 tt)))
 
 -- ---- counts that differ
 
