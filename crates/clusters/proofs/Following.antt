@@ -2,7 +2,7 @@
 -- agree on these and all nodes that no other point feeds. Assumes nothing.
 use Prim.Native.Nat.{ℕ}
 use mathlib.Core.Path.{_≡_, refl, sym, ap, ap₂, _∙_, subst}
-use mathlib.Core.Bool.{Bool, true, false, cond, not, xor, _&&_, _||_, Bool·beq}
+use mathlib.Core.Bool.{Bool, true, false, cond, not, xor, _&&_, _||_, Bool·beq, and-false}
 use mathlib.Core.List.{List, [], _∷_}
 use lib.Dec.{T}
 use lib.ListN.{length, getD, take}
@@ -29,21 +29,21 @@ valueBy n z i = getD (table (byPattern z) [] (n .nodes)) i false
 
 -- a node's feeding points, its settled value, and its value by the pattern
 data Layer : Type 0 where
-  feedingOf settledOf namedOf : Layer
+  pointsOf settledOf namedOf : Layer
 
 abbrev Entry : Layer → Type 0
-Entry feedingOf = List ℕ
+Entry pointsOf = List ℕ
 Entry settledOf = Bool
 Entry namedOf = Bool
 
 abbrev default : (l : Layer) → Entry l
-default feedingOf = []
+default pointsOf = []
 default settledOf = false
 default namedOf = false
 
 module _ (n : Netlist) (x : Assignment) (z : Pattern) where
   abbrev rule : (l : Layer) → List (Entry l) → Cell → Entry l
-  rule feedingOf = feedingRule
+  rule pointsOf = feedingRule
   rule settledOf = valueRule x
   rule namedOf = byPattern z
 
@@ -53,15 +53,15 @@ module _ (n : Netlist) (x : Assignment) (z : Pattern) where
 
   -- where the feeding points have, the node has the value by the pattern
   abbrev Follows : ((l : Layer) → Entry l) → Type 0
-  Follows e = T (seen (e feedingOf)) → e settledOf ≡ e namedOf
+  Follows e = T (seen (e pointsOf)) → e settledOf ≡ e namedOf
 
   module _ (done : (l : Layer) → List (Entry l)) (so-far : (k : ℕ) → Follows (λ l. getD (done l) k (default l))) where
     abbrev fed : ℕ → List ℕ
-    fed a = getD (done feedingOf) a []
+    fed a = getD (done pointsOf) a []
 
     -- a point, which is fed by itself
-    at-point : (i : ℕ) (v : Bool) → length (done feedingOf) ≡ i → length (done namedOf) ≡ i → getD (values n x) i false ≡ v
-        → T (seen (length (done feedingOf) ∷ [])) → v ≡ z (length (done namedOf))
+    at-point : (i : ℕ) (v : Bool) → length (done pointsOf) ≡ i → length (done namedOf) ≡ i → getD (values n x) i false ≡ v
+        → T (seen (length (done pointsOf) ∷ [])) → v ≡ z (length (done namedOf))
     unfolding matches
     at-point i v e f own t =
         sym own ∙ same-bit (getD (values n x) i false) (z i) (and-left (Bool·beq (getD (values n x) i false) (z i)) true (rw e at t)) ∙ ap z (sym f)
@@ -73,7 +73,7 @@ module _ (n : Netlist) (x : Assignment) (z : Pattern) where
         let both = subst T (matches-union (values n x) (fed a) (fed b) z) t in
         ap₂ op (so-far a (and-left (seen (fed a)) (seen (fed b)) both)) (so-far b (and-right (seen (fed a)) (seen (fed b)) both))
 
-    at-node : (i : ℕ) → length (done feedingOf) ≡ i → length (done namedOf) ≡ i → (cell : Cell)
+    at-node : (i : ℕ) → length (done pointsOf) ≡ i → length (done namedOf) ≡ i → (cell : Cell)
         → getD (values n x) i false ≡ valueRule x (done settledOf) cell → Follows (λ l. rule l (done l) cell)
     unfolding feedingRule valueRule byPattern isPoint
     at-node i e f (input s) own t = at-point i (exclusiveOr s x) e f own t
@@ -121,11 +121,7 @@ module _ (n : Netlist) where
               ap (λ (v : Bool). Bool·beq v (z i) && true)
               (follows n x z i (and-right (matches (values n x) points z) (matches (values n x) (feeding n i) z)
               (pass (sym (matches-among (values n x) points (feeding n i) z fed) ∙ e))))
-          same false e = none (Bool·beq (getD (values n x) i false) (z i)) ∙ sym (none (Bool·beq (valueBy n z i) (z i)))
-            where
-              none : (a : Bool) → (a && false) ≡ false
-              none true = refl
-              none false = refl
+          same false e = and-false (Bool·beq (getD (values n x) i false) (z i)) ∙ sym (and-false (Bool·beq (valueBy n z i) (z i)))
 
       counted : (secrets : List Bool)
           → giving n (i ∷ points) z p secrets ≡ count (λ m. Bool·beq (valueBy n z i) (z i) && matches (settledUnder secrets m) points z) masks

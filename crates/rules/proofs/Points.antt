@@ -131,6 +131,7 @@ module _ (n : Netlist) where
           ≡ count (λ m. Bool·beq (getD (settled m) i false) b && matches (settled m) points z) masks
       extended b = count-ext _ _ masks (λ m. matches-extension (settled m) i b points z other)
 
+  -- so one point may be left out, and so any points
   one-fewer : (points : List ℕ) (i : ℕ) → CountsAgree n (insert i points) → CountsAgree n points
   unfolding insert CountsAgree
   one-fewer points i = go (member i points) refl
