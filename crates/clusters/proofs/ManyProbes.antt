@@ -7,17 +7,18 @@ use mathlib.Core.Logic.{⊎-elim}
 use mathlib.Core.List.{List, [], _∷_}
 use lib.Dec.{T}
 use Rattle.rules.specs.Lists.{member}
-use Rattle.rules.specs.Records.{Netlist}
+use Rattle.rules.specs.Records.{Netlist, most-nodes}
 use Rattle.rules.specs.Values.{feeding}
-use Rattle.rules.specs.Checks.{answered, read}
+use Rattle.rules.specs.Checks.{answered, read, most-work}
 use Rattle.rules.specs.Slices.{reply}
 use Rattle.rules.specs.declared.Reply.{Reply}
 use Rattle.rules.specs.Paper.{replyOf}
-use Rattle.rules.specs.Demands.{GlitchClear, NoSuspect, TestedNode, OneProbe}
+use Rattle.rules.specs.Demands.{GlitchClear, NoSuspect, TestedNode, OneProbe, EndsClear}
 use Rattle.rules.proofs.Lists.{member-head, member-tail, member-cases, union-left, union-right}
 use Rattle.rules.proofs.Members.{All, all-none, all-single, all-union}
 use Rattle.rules.proofs.Points.{agree-among}
 use Rattle.rules.proofs.Probe.{node-agrees, none-suspect}
+use Rattle.rules.proofs.ClearLine.{clear-line}
 use Rattle.clusters.specs.Clusters.{feedingOf, Round, ClearGate, ProbesRound, ManyProbes, ManyProbesEverywhere, WiresRound, ManyWires, ManyWiresEverywhere}
 use Rattle.clusters.proofs.Following.{agree-fed}
 
@@ -71,11 +72,17 @@ module _ (bytes : List ℕ) (entries work : ℕ) (answers-clear : GlitchClear (r
   unfolding ManyWiresEverywhere ManyWires
   clear-wires n is-read gate node = many-wires bytes n is-read gate (each-clear n is-read gate node)
 
+  clear-both : ManyProbesEverywhere bytes × ManyWiresEverywhere bytes
+  clear-both = (clear-probes, clear-wires)
+
 -- So of a reply that is the rules' reply, as clause `reply` of the contract of `check` has it: where its glitch half is clear, both hold.
 pub checked-clear : (bytes : List ℕ) (entries work : ℕ) (r : Reply) → replyOf r ≡ reply bytes entries work → GlitchClear (replyOf r)
     → ManyProbesEverywhere bytes × ManyWiresEverywhere bytes
-checked-clear bytes entries work r replied answers-clear =
-    let clear = subst GlitchClear replied answers-clear in (clear-probes bytes entries work clear, clear-wires bytes entries work clear)
+checked-clear bytes entries work r replied answers-clear = clear-both bytes entries work (subst GlitchClear replied answers-clear)
+
+-- And of the listing: where its last line reads `glitch clear`, both hold.
+pub clear-line-clusters : (bytes : List ℕ) → EndsClear bytes → ManyProbesEverywhere bytes × ManyWiresEverywhere bytes
+clear-line-clusters bytes ends = clear-both bytes most-nodes most-work (clear-line bytes .0 ends)
 
 -- The cluster of a gate alone is one probe: what is said of many says demand 3 again.
 pub alone : (bytes : List ℕ) → ManyProbesEverywhere bytes → OneProbe bytes
