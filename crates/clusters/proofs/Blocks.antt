@@ -67,20 +67,20 @@ b-round =
     all-front (Within p10 5) 5 (4 ∷ 1 ∷ []) (λ p t. t)
     (all-front (Within p10 5) 4 (1 ∷ []) (all-single (Feeds p10 5) 4 tt) (all-single (Within p10 5) 1 (all-single (Feeds p10 5) 1 tt)))
 
--- gate 3 of block A and the inputs 1 and 2: all that feeds them feeds gate 4
+-- gate 3 of block A and the inputs 2 and 1: all that feeds them feeds gate 4, and no other of them has the point 1
 abbrev pub cluster-a : List ℕ
-cluster-a = 3 ∷ 1 ∷ 2 ∷ []
+cluster-a = 3 ∷ 2 ∷ 1 ∷ []
 
 pub a-round : Round p9 4 cluster-a
 unfolding member insert union table feedingRule feedings feeding Round
 a-round =
-    all-front (Within p9 4) 3 (1 ∷ 2 ∷ []) (all-front (Feeds p9 4) 0 (2 ∷ []) tt (all-single (Feeds p9 4) 2 tt))
-    (all-front (Within p9 4) 1 (2 ∷ []) (all-single (Feeds p9 4) 1 tt) (all-single (Within p9 4) 2 (all-single (Feeds p9 4) 2 tt)))
+    all-front (Within p9 4) 3 (2 ∷ 1 ∷ []) (all-front (Feeds p9 4) 0 (2 ∷ []) tt (all-single (Feeds p9 4) 2 tt))
+    (all-front (Within p9 4) 2 (1 ∷ []) (all-single (Feeds p9 4) 2 tt) (all-single (Within p9 4) 1 (all-single (Feeds p9 4) 1 tt)))
 
 -- ---- counts that differ
 
 -- what feeds the two clusters
-pub cluster-feeding : (feedingOf p9 cluster-a ≡ 0 ∷ 1 ∷ 2 ∷ []) × (feedingOf p10 cluster-b ≡ 4 ∷ 1 ∷ 0 ∷ [])
+pub cluster-feeding : (feedingOf p9 cluster-a ≡ 0 ∷ 2 ∷ 1 ∷ []) × (feedingOf p10 cluster-b ≡ 4 ∷ 1 ∷ 0 ∷ [])
 unfolding member insert union table feedingRule feedings feeding feedingOf
 cluster-feeding = (refl, refl)
 
