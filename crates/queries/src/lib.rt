@@ -46,7 +46,7 @@ fn ask(bytes: &[u8], node: usize) -> ReadFile
 }
 
 // The same for a query of a node with an assignment or a set.
-fn ask_with(bytes: &[u8], node: usize, number: usize) -> ReadFile
+pub fn ask_with(bytes: &[u8], node: usize, number: usize) -> ReadFile
     ensures { λ r. ⌜ Reads r (queriedWith (now (bytes .entry)) node number) ⌝ }
 {
     let file = ask(bytes, node);

@@ -22,6 +22,8 @@ pub fn number_of(refusal: Refusal) -> usize
         Refusal::NoSuchNode(_) => 12,
         Refusal::UndeclaredBit(_) => 13,
         Refusal::StillNamed(_) => 14,
+        Refusal::TooManySteps(_) => 15,
+        Refusal::NotInFamily(_) => 16,
     }
 }
 
@@ -44,5 +46,7 @@ pub fn place_of(refusal: Refusal) -> usize
         Refusal::NoSuchNode(place) => place,
         Refusal::UndeclaredBit(place) => place,
         Refusal::StillNamed(place) => place,
+        Refusal::TooManySteps(place) => place,
+        Refusal::NotInFamily(place) => place,
     }
 }

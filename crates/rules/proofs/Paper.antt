@@ -8,7 +8,7 @@ use lib.ListN.{getD}
 use Rattle.rules.specs.declared.Half.{Half}
 use Rattle.rules.specs.declared.Half.the-variants.{Clear, Suspect}
 use Rattle.rules.specs.declared.Refusal.{Refusal}
-use Rattle.rules.specs.declared.Refusal.the-variants.{UnknownKind, LateVariable, OverLimit, CutShort, UnknownClass, UndeclaredSet, BadOperand, NoEnd, BytesAfterEnd, FewEntries, ShortWork, NoSuchNode, UndeclaredBit, StillNamed}
+use Rattle.rules.specs.declared.Refusal.the-variants.{UnknownKind, LateVariable, OverLimit, CutShort, UnknownClass, UndeclaredSet, BadOperand, NoEnd, BytesAfterEnd, FewEntries, ShortWork, NoSuchNode, UndeclaredBit, StillNamed, TooManySteps, NotInFamily}
 use Rattle.rules.specs.declared.Reply.{Reply}
 use Rattle.rules.specs.declared.Reply.the-variants.{Refused, Answered}
 use Rattle.rules.specs.declared.QueryOutcome.{QueryOutcome}
@@ -38,6 +38,8 @@ refusalOf k p =
     ∷ NoSuchNode p
     ∷ UndeclaredBit p
     ∷ StillNamed p
+    ∷ TooManySteps p
+    ∷ NotInFamily p
     ∷ [])
     (pred k)
     (UnknownKind p)
@@ -58,9 +60,11 @@ told (ShortWork p) = refl
 told (NoSuchNode p) = refl
 told (UndeclaredBit p) = refl
 told (StillNamed p) = refl
+told (TooManySteps p) = refl
+told (NotInFamily p) = refl
 
--- there are 14 refusals
-pub number-most : (r : Refusal) → numberOf r ≤ 14
+-- there are 16 refusals
+pub number-most : (r : Refusal) → numberOf r ≤ 16
 number-most (UnknownKind p) = omega arith
 number-most (LateVariable p) = omega arith
 number-most (OverLimit p) = omega arith
@@ -75,6 +79,8 @@ number-most (ShortWork p) = omega arith
 number-most (NoSuchNode p) = omega arith
 number-most (UndeclaredBit p) = omega arith
 number-most (StillNamed p) = omega arith
+number-most (TooManySteps p) = omega arith
+number-most (NotInFamily p) = omega arith
 
 -- a half by what it says
 halfOf : Finding → Half

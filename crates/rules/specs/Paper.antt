@@ -6,7 +6,7 @@ use Rattle.rules.specs.declared.Half.{Half}
 use Rattle.rules.specs.declared.Half.the-variants.{Clear, Suspect}
 use Rattle.rules.specs.declared.Answer.{Answer}
 use Rattle.rules.specs.declared.Refusal.{Refusal}
-use Rattle.rules.specs.declared.Refusal.the-variants.{UnknownKind, LateVariable, OverLimit, CutShort, UnknownClass, UndeclaredSet, BadOperand, NoEnd, BytesAfterEnd, FewEntries, ShortWork, NoSuchNode, UndeclaredBit, StillNamed}
+use Rattle.rules.specs.declared.Refusal.the-variants.{UnknownKind, LateVariable, OverLimit, CutShort, UnknownClass, UndeclaredSet, BadOperand, NoEnd, BytesAfterEnd, FewEntries, ShortWork, NoSuchNode, UndeclaredBit, StillNamed, TooManySteps, NotInFamily}
 use Rattle.rules.specs.declared.Reply.{Reply}
 use Rattle.rules.specs.declared.Reply.the-variants.{Refused, Answered}
 use Rattle.rules.specs.declared.QueryOutcome.{QueryOutcome}
@@ -34,6 +34,8 @@ numberOf (ShortWork p) = 11
 numberOf (NoSuchNode p) = 12
 numberOf (UndeclaredBit p) = 13
 numberOf (StillNamed p) = 14
+numberOf (TooManySteps p) = 15
+numberOf (NotInFamily p) = 16
 
 abbrev pub placeOf : Refusal → ℕ
 placeOf (UnknownKind p) = p
@@ -50,6 +52,8 @@ placeOf (ShortWork p) = p
 placeOf (NoSuchNode p) = p
 placeOf (UndeclaredBit p) = p
 placeOf (StillNamed p) = p
+placeOf (TooManySteps p) = p
+placeOf (NotInFamily p) = p
 
 -- a half: clear, or node and set
 abbrev pub findingOf : Half → Finding

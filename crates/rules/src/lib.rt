@@ -34,7 +34,7 @@ pub struct Answer {
     pub glitch: Half,
 }
 
-// The refusals, in the order of their numbers from 1 to 14, each with its place.
+// The refusals, in the order of their numbers from 1 to 16, each with its place.
 pub enum Refusal {
     // A kind above 7.
     UnknownKind(usize),
@@ -64,6 +64,10 @@ pub enum Refusal {
     UndeclaredBit(usize),
     // A node to be given up that another node names.
     StillNamed(usize),
+    // A derivation of more steps than may be or than the slice takes.
+    TooManySteps(usize),
+    // A set that is not in the family.
+    NotInFamily(usize),
 }
 
 // What the checker replies.

@@ -1,0 +1,4 @@
+-- What is proved of derivations.
+pub mod Lowest
+pub mod Claims
+pub mod Bytes

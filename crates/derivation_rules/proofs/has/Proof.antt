@@ -1,0 +1,29 @@
+-- `has` meets its contract: it looks into the part that holds the node's family in the layer. Assumes nothing.
+use Prim.Native.Nat.{_*_, _+_}
+use mathlib.Core.Path.{_≡_, sym, ap, _∙_}
+use native.Mathlib.Omega.{arith}
+use borrow.Author.Needs.{needs}
+use Rattle.rules.specs.Lists.{member}
+use Rattle.rules.specs.Families.{Family}
+use Rattle.derivation_rules.specs.Derivations.{claimed}
+use Rattle.derivation_rules.proofs.Claims.{part-of}
+use Rattle.derivation_rules.proofs.has.Statement.{statement}
+use Rattle.derivation_rules.proofs.has.Tie as tie
+
+mul-holds : tie.Need-mul-holds
+mul-holds c = search needs
+
+add-holds : tie.Need-add-holds
+add-holds c = search needs
+
+holds-requires : tie.Need-holds-requires
+holds-requires c κs = search needs
+
+returns : tie.Need-returns
+unfolding claimed
+returns c =
+    let start = c .before .before .before .before in
+    c .holds .ensures ∙ ap (member _) (sym (part-of _ _ _ (start .pre .1) (start .pre .2)))
+
+pub has-spec : {M : Type 1} → statement M
+has-spec = tie.close (tie.spec mul-holds add-holds holds-requires returns)

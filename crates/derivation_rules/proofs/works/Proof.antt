@@ -1,0 +1,33 @@
+-- `works` meets its contract: both claims are looked up, the second only where the first is true. Assumes nothing.
+use Prim.Native.Nat.{_<_}
+use mathlib.Core.Path.{_≡_, refl, sym, _∙_}
+use mathlib.Core.Bool.{Bool, true, false, not, _&&_}
+use borrow.Author.Needs.{needs}
+use borrow.Author.Tests.{not-true, not-false}
+use lib.Bits.{xor-lt}
+use Rattle.rules.specs.Records.{most-variables}
+use Rattle.derivation_rules.proofs.works.Statement.{statement}
+use Rattle.derivation_rules.proofs.works.Tie as tie
+
+first-fails : {p r : Bool} (q : Bool) → r ≡ p → r ≡ false → false ≡ (p && q)
+first-fails q e f = rw (← e, f)
+
+second-decides : {p q r s : Bool} → r ≡ p → r ≡ true → s ≡ q → s ≡ (p && q)
+second-decides e t f = rw (← e, t, f)
+
+has-requires : tie.Need-has-requires
+has-requires c κs = search needs
+
+returns : tie.Need-returns
+returns c = first-fails _ (c .before .has .ensures) (not-true _ (c .if1 .taken))
+
+has-requires-2 : tie.Need-has-requires-2
+has-requires-2 c κs =
+    let pre = c .before .before .before .pre in
+    (pre .0, pre .2, pre .3, xor-lt most-variables _ _ (pre .4) (pre .5))
+
+returns-2 : tie.Need-returns-2
+returns-2 c = second-decides (c .before .before .has .ensures) (not-false _ (c .before .if1 .left)) (c .has2 .ensures)
+
+pub works-spec : {M : Type 1} → statement M
+works-spec = tie.close (tie.spec has-requires returns has-requires-2 returns-2)

@@ -1,0 +1,54 @@
+-- A derivation that is being written: what the functions are handed, and how far the steps have come. Cited by the contracts of this crate.
+-- Assumes nothing.
+use Prim.Native.Nat.{ℕ, _+_, _*_, _≤_, _<_}
+use mathlib.Core.Path.{_≡_}
+use mathlib.Core.List.{List, _++_}
+use lib.Dec.{T}
+use lib.ListN.{length, take}
+use Rattle.rules.specs.Records as R
+use Rattle.rules.specs.Families.{families}
+use Rattle.rules.specs.Checks.{Outcome, answered, andThen, most-work}
+use Rattle.rules.specs.Slices.{workBytes}
+use Rattle.netlists.specs.declared.Netlist.{Netlist}
+use Rattle.netlists.specs.Netlists.{flatOf, Formed}
+use Rattle.lines.specs.Text.{Appended}
+use Rattle.derivation_rules.specs.declared.Claim.{Claim}
+use Rattle.derivation_rules.specs.declared.Needs.{Needs}
+use Rattle.derivation_rules.specs.declared.Needs.the-variants.{Nothing, One, Two}
+use Rattle.derivation_rules.specs.Derivations.{Step, step-size, stepsOut, claimed, derived}
+use Rattle.derivation_rules.specs.Meaning.{claimOf}
+use Rattle.derivations.specs.declared.Derived.{Derived}
+use Rattle.derivations.specs.Meaning.{derivedOf}
+
+-- work bytes that hold the families of a netlist by value, and have room for those of every netlist
+pub record Known (value : Netlist) (work : List ℕ) : Type 0 where
+  pub formed : Formed value
+  pub rest : List ℕ
+  pub held : work ≡ workBytes (families (formed .netlist)) ++ rest
+  pub size : length work ≡ most-work
+
+-- a claim of a node below the bound, of one of the two layers, that is true of a netlist
+pub record Held (value : Netlist) (bound : ℕ) (c : Claim) : Type 0 where
+  pub below : c .node < bound
+  pub layer : c .layer < 2
+  pub true : (n : R.Netlist) → value ≡ flatOf n → T (claimed (families n) (claimOf c))
+
+-- each of the claims that a step needs
+unfoldable pub HeldEach : (value : Netlist) (bound : ℕ) → Needs → Type 0
+HeldEach value bound Nothing = Unit
+HeldEach value bound (One c) = Held value bound c
+HeldEach value bound (Two c d) = Held value bound c × Held value bound d
+
+-- Steps go behind the first `at` steps of a slice that takes `room` steps: where they fit they stand there, and `next` steps stand in all; where
+-- they do not, `next` tells so.
+pub record Written (before after : List ℕ) (at room next : ℕ) (steps : List Step) : Type 0 where
+  pub long : length after ≡ length before
+  pub fits : at + length steps ≤ room → (next ≡ at + length steps) × Appended before after (step-size * at) (step-size * (at + length steps)) (stepsOut steps)
+  pub over : room < at + length steps → room < next
+
+-- What comes of a claim, where an outcome says whether there is a derivation of at most `room` steps: the reply, and the steps at the front of a slice.
+pub record Told (outcome : Outcome R.Netlist) (c : Claim) (room : ℕ) (r : Derived) (slice : List ℕ) : Type 0 where
+  pub reply : derivedOf r ≡ andThen outcome (λ n. answered (length (derived n (c .node) (c .layer) (c .set))))
+  pub few : (n : R.Netlist) → outcome ≡ answered n → length (derived n (c .node) (c .layer) (c .set)) ≤ room
+  pub bytes : (n : R.Netlist) → outcome ≡ answered n
+      → take (step-size * length (derived n (c .node) (c .layer) (c .set))) slice ≡ stepsOut (derived n (c .node) (c .layer) (c .set))
