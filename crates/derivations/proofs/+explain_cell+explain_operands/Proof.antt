@@ -1,0 +1,302 @@
+-- `explain_cell` and `explain_operands` meet their contracts: a claim's derivation is the step of the first rule that works, and behind it those of what it
+-- needs. The node number falls: an operand's is below that of the node whose step needs it, and so 2 × node + 1 of a claim falls to 2 × node of
+-- what its step needs, and that to the next claim's. Assumes nothing.
+use Prim.Native.Nat.{ℕ, _+_, _*_, _<_}
+use mathlib.Core.List.{append-nil}
+use native.Mathlib.Omega.{arith}
+use borrow.Author.Needs.{needs}
+use borrow.Fn.Kinds.{In}
+use borrow.Fn.PlainCycle.{Measures, is, falls, and}
+use Rattle.derivation_rules.specs.Derivations.{explained}
+use Rattle.derivation_rules.specs.Meaning.{needsOf}
+use Rattle.derivations.specs.Written.{HeldEach}
+use Rattle.derivations.proofs.Written.{written-none, written-full, written-more, written-step}
+use Rattle.derivations.proofs.Known.{held-higher, node-number, set-number, record-there, steps-some, needs-true, steps-of}
+use Rattle.derivations.proofs.explain_cell.Reads as explain-cell
+use Rattle.derivations.proofs.explain_cell.Kinds as explain-cell-kinds
+use Rattle.derivations.proofs.+explain_cell+explain_operands.Lts-explain_cell as explain-cell-lts
+use Rattle.derivations.proofs.explain_operands.Reads as explain-operands
+use Rattle.derivations.proofs.explain_operands.Kinds as explain-operands-kinds
+use Rattle.derivations.proofs.+explain_cell+explain_operands.Lts-explain_operands as explain-operands-lts
+use Rattle.derivation_rules.proofs.choose.Reads as choose-reads
+use Rattle.derivation_rules.proofs.put_step.Reads as put-step-reads
+use Rattle.derivations.proofs.+explain_cell+explain_operands.{statement}
+use Rattle.derivations.proofs.+explain_cell+explain_operands.Tie.{close}
+
+abbrev μ-explain-cell : Measures 2 explain-cell-kinds.ps ℕ
+μ-explain-cell κs a = 2 * a .1 .1 .0 .node + 1
+
+abbrev μ-explain-operands : Measures 2 explain-operands-kinds.ps ℕ
+μ-explain-operands κs a = 2 * a .1 .1 .0
+
+abbrev explain-cell-at : ℕ → In 2 explain-cell-kinds.ps
+explain-cell-at t =
+    and 2 explain-cell-kinds.ps (is 2 explain-cell-kinds.ps μ-explain-cell t) explain-cell.Pre
+
+abbrev explain-cell-below : ℕ → In 2 explain-cell-kinds.ps
+explain-cell-below t =
+    and
+    2
+    explain-cell-kinds.ps
+    (falls 2 explain-cell-kinds.ps _<_ μ-explain-cell t)
+    explain-cell.Pre
+
+abbrev explain-operands-at : ℕ → In 2 explain-operands-kinds.ps
+explain-operands-at t =
+    and
+    2
+    explain-operands-kinds.ps
+    (is 2 explain-operands-kinds.ps μ-explain-operands t)
+    explain-operands.Pre
+
+abbrev explain-operands-below : ℕ → In 2 explain-operands-kinds.ps
+explain-operands-below t =
+    and
+    2
+    explain-operands-kinds.ps
+    (falls 2 explain-operands-kinds.ps _<_ μ-explain-operands t)
+    explain-operands.Pre
+
+explain-cell-add-result : (t : ℕ) → explain-cell-lts.Need-add-result (
+  choose-reads.Asked,
+  choose-reads.Learnt,
+  put-step-reads.Asked,
+  put-step-reads.Learnt,
+  explain-operands-below t,
+  explain-operands.Post,
+) (explain-cell-at t) explain-cell.Post
+explain-cell-add-result t c = omega (arith, c .before .before .before .pre .1 .3)
+
+explain-cell-returns : (t : ℕ) → explain-cell-lts.Need-returns (
+  choose-reads.Asked,
+  choose-reads.Learnt,
+  put-step-reads.Asked,
+  put-step-reads.Learnt,
+  explain-operands-below t,
+  explain-operands.Post,
+) (explain-cell-at t) explain-cell.Post
+explain-cell-returns t c =
+    let (known, held, _, _) = c .before .before .before .pre .1 in
+    λ n e. written-full _ _ _ _ (c .if1 .taken) (steps-some known held n e)
+
+explain-cell-mul-choose : (t : ℕ) → explain-cell-lts.Need-mul-choose (
+  choose-reads.Asked,
+  choose-reads.Learnt,
+  put-step-reads.Asked,
+  put-step-reads.Learnt,
+  explain-operands-below t,
+  explain-operands.Post,
+) (explain-cell-at t) explain-cell.Post
+explain-cell-mul-choose t c = let (known, held, _, _) = c .before .before .before .pre .1 in omega (arith, node-number known held)
+
+explain-cell-element-copy-out-choose : (t : ℕ) → explain-cell-lts.Need-element-copy-out-choose (
+  choose-reads.Asked,
+  choose-reads.Learnt,
+  put-step-reads.Asked,
+  put-step-reads.Learnt,
+  explain-operands-below t,
+  explain-operands.Post,
+) (explain-cell-at t) explain-cell.Post
+explain-cell-element-copy-out-choose t c = let (known, held, _, _) = c .before .before .before .pre .1 in node-number known held
+
+explain-cell-choose-requires : (t : ℕ) → explain-cell-lts.Need-choose-requires (
+  choose-reads.Asked,
+  choose-reads.Learnt,
+  put-step-reads.Asked,
+  put-step-reads.Learnt,
+  explain-operands-below t,
+  explain-operands.Post,
+) (explain-cell-at t) explain-cell.Post
+explain-cell-choose-requires t c κs =
+    let (known, held, _, _) = c .before .before .before .before .pre .1 in
+    (omega (arith, known .size), record-there known held, held .layer, set-number known held)
+
+explain-cell-put-step-requires : (t : ℕ) → explain-cell-lts.Need-put-step-requires (
+  choose-reads.Asked,
+  choose-reads.Learnt,
+  put-step-reads.Asked,
+  put-step-reads.Learnt,
+  explain-operands-below t,
+  explain-operands.Post,
+) (explain-cell-at t) explain-cell.Post
+explain-cell-put-step-requires t c κs =
+    let (known, held, long, _) = c .before .before .before .before .before .before .pre .1 in
+    (omega (arith, long, c .before .before .before .if1 .left), node-number known held, held .layer, set-number known held)
+
+explain-cell-add-explain-operands : (t : ℕ) → explain-cell-lts.Need-add-explain-operands (
+  choose-reads.Asked,
+  choose-reads.Learnt,
+  put-step-reads.Asked,
+  put-step-reads.Learnt,
+  explain-operands-below t,
+  explain-operands.Post,
+) (explain-cell-at t) explain-cell.Post
+explain-cell-add-explain-operands t c = omega (arith, c .before .before .before .before .before .before .before .before .before .before .pre .1 .3, c .before .before .before .before .before .before .before .if1 .left)
+
+explain-cell-explain-operands-requires : (t : ℕ) → explain-cell-lts.Need-explain-operands-requires (
+  choose-reads.Asked,
+  choose-reads.Learnt,
+  put-step-reads.Asked,
+  put-step-reads.Learnt,
+  explain-operands-below t,
+  explain-operands.Post,
+) (explain-cell-at t) explain-cell.Post
+explain-cell-explain-operands-requires t c κs =
+    let start = c .before .before .before .before .before .before .before .before .before .before in
+    let chosen = c .before .before .before .before .before .choose in
+    let (known, held, long, few) = start .pre .1 in
+    (omega (arith, start .pre .0),
+    (known, needs-true known held (chosen .result) (chosen .ensures .0) (chosen .ensures .1), held .below,
+    omega (arith, long, c .before .before .before .put-step .ensures .long), few))
+
+explain-cell-same-length : (t : ℕ) → explain-cell-lts.Need-same-length (
+  choose-reads.Asked,
+  choose-reads.Learnt,
+  put-step-reads.Asked,
+  put-step-reads.Learnt,
+  explain-operands-below t,
+  explain-operands.Post,
+) (explain-cell-at t) explain-cell.Post
+explain-cell-same-length t c = search needs
+
+explain-cell-returns-2 : (t : ℕ) → explain-cell-lts.Need-returns-2 (
+  choose-reads.Asked,
+  choose-reads.Learnt,
+  put-step-reads.Asked,
+  put-step-reads.Learnt,
+  explain-operands-below t,
+  explain-operands.Post,
+) (explain-cell-at t) explain-cell.Post
+explain-cell-returns-2 t c =
+    let start = c .before .before .before .before .before .before .before .before .before .before .before .before .before in
+    let chosen = c .before .before .before .before .before .before .before .before .choose in
+    let (known, held, _, _) = start .pre .1 in
+    λ n e.
+    rw (steps-of known held (chosen .result) (chosen .ensures .0) n e)
+    (written-step _ (c .before .before .before .before .before .before .before .before .before .before .if1 .left) (c .before .before .before .before .before .before .put-step .ensures) (c .before .before .explain-operands .ensures n e))
+
+explain-operands-enum-told : (t : ℕ) → explain-operands-lts.Need-enum-told (
+  explain-cell-below t,
+  explain-cell.Post,
+) (explain-operands-at t) explain-operands.Post
+explain-operands-enum-told t c = search needs
+
+explain-operands-enum-known-needs : (t : ℕ) → explain-operands-lts.Need-enum-known-needs (
+  explain-cell-below t,
+  explain-cell.Post,
+) (explain-operands-at t) explain-operands.Post
+explain-operands-enum-known-needs t c = search needs
+
+explain-operands-explain-cell-requires : (t : ℕ) → explain-operands-lts.Need-explain-cell-requires (
+  explain-cell-below t,
+  explain-cell.Post,
+) (explain-operands-at t) explain-operands.Post
+unfolding HeldEach
+explain-operands-explain-cell-requires t c κs =
+    let start = c .before .before .before .before .before .before in
+    let (known, each, there, long, few) = start .pre .1 in
+    let one = rw (c .before .before .needs .given .1) at each in
+    (omega (arith, start .pre .0, one .below), (known, held-higher one (omega arith), long, few))
+
+explain-operands-enum-known-needs-2 : (t : ℕ) → explain-operands-lts.Need-enum-known-needs-2 (
+  explain-cell-below t,
+  explain-cell.Post,
+) (explain-operands-at t) explain-operands.Post
+explain-operands-enum-known-needs-2 t c = search needs
+
+explain-operands-explain-cell-requires-2 :
+    (t : ℕ) → explain-operands-lts.Need-explain-cell-requires-2 (
+      explain-cell-below t,
+      explain-cell.Post,
+    ) (explain-operands-at t) explain-operands.Post
+unfolding HeldEach
+explain-operands-explain-cell-requires-2 t c κs =
+    let start = c .before .before .before .before .before .before in
+    let (known, each, there, long, few) = start .pre .1 in
+    let (first, second) = rw (c .before .before .needs2 .given .1) at each in
+    (omega (arith, start .pre .0, first .below), (known, held-higher first (omega arith), long, few))
+
+explain-operands-explain-cell-requires-3 :
+    (t : ℕ) → explain-operands-lts.Need-explain-cell-requires-3 (
+      explain-cell-below t,
+      explain-cell.Post,
+    ) (explain-operands-at t) explain-operands.Post
+unfolding HeldEach
+explain-operands-explain-cell-requires-3 t c κs =
+    let start = c .before .before .before .before .before .before .before .before .before .before in
+    let (known, each, there, long, few) = start .pre .1 in
+    let (first, second) = rw (c .before .before .before .before .before .before .needs2 .given .1) at each in
+    (omega (arith, start .pre .0, second .below),
+    (known, held-higher second (omega arith), omega (arith, long, c .before .before .before .explain-cell2 .kept .1 .1 .1 .0), few))
+
+explain-operands-returns : (t : ℕ) → explain-operands-lts.Need-returns (
+  explain-cell-below t,
+  explain-cell.Post,
+) (explain-operands-at t) explain-operands.Post
+unfolding needsOf explained
+explain-operands-returns t c = λ n e. rw (c .enum-told .given .1) (written-none _ _ _)
+
+explain-operands-same-length : (t : ℕ) → explain-operands-lts.Need-same-length (
+  explain-cell-below t,
+  explain-cell.Post,
+) (explain-operands-at t) explain-operands.Post
+explain-operands-same-length t c = search needs
+
+explain-operands-returns-2 : (t : ℕ) → explain-operands-lts.Need-returns-2 (
+  explain-cell-below t,
+  explain-cell.Post,
+) (explain-operands-at t) explain-operands.Post
+unfolding needsOf explained
+explain-operands-returns-2 t c = λ n e. rw (c .before .before .before .before .before .needs .given .1, append-nil) (c .before .before .explain-cell .ensures n e)
+
+explain-operands-same-length-2 : (t : ℕ) → explain-operands-lts.Need-same-length-2 (
+  explain-cell-below t,
+  explain-cell.Post,
+) (explain-operands-at t) explain-operands.Post
+explain-operands-same-length-2 t c = search needs
+
+explain-operands-returns-3 : (t : ℕ) → explain-operands-lts.Need-returns-3 (
+  explain-cell-below t,
+  explain-cell.Post,
+) (explain-operands-at t) explain-operands.Post
+unfolding needsOf explained
+explain-operands-returns-3 t c =
+    λ n e. rw (c .before .before .before .before .before .before .before .before .before .needs2 .given .1, append-nil) (written-more (c .before .before .before .before .before .before .explain-cell2 .ensures n e) (c .before .before .explain-cell3 .ensures n e))
+
+pub +explain-cell+explain-operands-spec : {M : Type 1} → statement M
++explain-cell+explain-operands-spec =
+    close μ-explain-cell μ-explain-operands (λ t. explain-cell-lts.spec (
+      choose-reads.Asked,
+      choose-reads.Learnt,
+      put-step-reads.Asked,
+      put-step-reads.Learnt,
+      explain-operands-below t,
+      explain-operands.Post,
+    )
+    (explain-cell-at t)
+    explain-cell.Post
+    (explain-cell-add-result t)
+    (explain-cell-returns t)
+    (explain-cell-mul-choose t)
+    (explain-cell-element-copy-out-choose t)
+    (explain-cell-choose-requires t)
+    (explain-cell-put-step-requires t)
+    (explain-cell-add-explain-operands t)
+    (explain-cell-explain-operands-requires t)
+    (explain-cell-same-length t)
+    (explain-cell-returns-2 t))
+    λ t. explain-operands-lts.spec
+    (explain-cell-below t, explain-cell.Post)
+    (explain-operands-at t)
+    explain-operands.Post
+    (explain-operands-enum-told t)
+    (explain-operands-enum-known-needs t)
+    (explain-operands-explain-cell-requires t)
+    (explain-operands-enum-known-needs-2 t)
+    (explain-operands-explain-cell-requires-2 t)
+    (explain-operands-explain-cell-requires-3 t)
+    (explain-operands-returns t)
+    (explain-operands-same-length t)
+    (explain-operands-returns-2 t)
+    (explain-operands-same-length-2 t)
+    (explain-operands-returns-3 t)

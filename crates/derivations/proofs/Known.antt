@@ -1,0 +1,123 @@
+-- What is known of a claim that is to be explained: it is true of the netlist that the work bytes hold the families of, its set is one of those that there
+-- may be, its node's record can be looked at; and the way that is chosen by the bytes is the first rule that works, whose needs are such claims
+-- again. Assumes nothing.
+use Prim.Native.Nat.{ℕ, _+_, _*_, _≤_, _<_}
+use mathlib.Core.Path.{_≡_, refl, sym, ap, _∙_}
+use mathlib.Core.List.{List, [], _∷_, _++_}
+use native.Mathlib.Omega.{arith}
+use lib.Dec.{T}
+use lib.ListN.{length, getD}
+use Rattle.rules.specs.Lists.{member}
+use Rattle.rules.specs.Records as R
+use Rattle.rules.specs.Records.{WellFormed, input, most-nodes, most-sets, operands}
+use Rattle.rules.specs.Families.{constant, families, familiesAt}
+use Rattle.rules.specs.Slices.{entry, workBytes}
+use Rattle.rules.proofs.Members.{All}
+use Rattle.rules.proofs.Bounds.{families-small}
+use Rattle.netlists.specs.declared.Netlist.{Netlist}
+use Rattle.netlists.specs.Netlists.{blank, flatOf}
+use Rattle.netlists.proofs.Netlists.{value-count, value-entry, few-nodes, one-netlist, well-formed}
+use Rattle.families.proofs.Work.{Alike, settled-there, glitch-there}
+use Rattle.nodes.specs.Work.{soFar, familiesIn, Placed}
+use Rattle.nodes.proofs.Nodes.{so-far-at, placed}
+use Rattle.derivation_rules.specs.declared.Claim.{Claim}
+use Rattle.derivation_rules.specs.declared.Needs.{Needs}
+use Rattle.derivation_rules.specs.declared.Needs.the-variants.{Nothing, One, Two}
+use Rattle.derivation_rules.specs.declared.Way.{Way}
+use Rattle.derivation_rules.specs.Derivations.{Layer, settled, glitch, familyIn, Step, step, claimed, chosen, explained, derivation, layerOf}
+use Rattle.derivation_rules.specs.Meaning.{claimOf, needsOf, wayOf, Layered}
+use Rattle.derivation_rules.proofs.Choice.{same-choice}
+use Rattle.derivation_rules.proofs.Derivation.{NeedsHeld, needs-held, derivation-unfolds}
+use Rattle.derivations.specs.Written.{Known, Held, HeldEach}
+
+-- a family of every netlist that obeys the record rules is of sets that there may be
+small : (n : R.Netlist) → WellFormed n → (ℓ : Layer) (i : ℕ) → All (λ A. A < most-sets) (familyIn ℓ (familiesAt n i))
+unfolding familyIn
+small n formed settled i = families-small n formed i .0
+small n formed glitch i = families-small n formed i .1
+
+-- a record that can stand at a number can stand at a higher one
+placed-higher : {i j : ℕ} {node : _} → i ≤ j → Placed i node → Placed j node
+placed-higher h p = record { cell = p .cell; is = p .is; lower = λ a t. omega (arith, p .lower a t); small = p .small }
+
+-- and so can a claim of a node below it
+pub held-higher : {value : Netlist} {i j : ℕ} {c : Claim} → Held value i c → i ≤ j → Held value j c
+held-higher h l = record { below = omega (arith, h .below); layer = h .layer; true = h .true }
+
+-- the families that bytes hold are a netlist's
+held-alike : (n : R.Netlist) → WellFormed n → (work rest : List ℕ) → work ≡ workBytes (families n) ++ rest → (a : ℕ) → a < length (n .nodes) → (ℓ : Layer)
+    → Alike (familyIn ℓ (getD (soFar work most-nodes) a constant)) (familyIn ℓ (familiesAt n a))
+unfolding familyIn
+held-alike n formed work rest e a h settled =
+    rw (so-far-at work most-nodes a (omega (arith, formed .few-nodes)), e) (settled-there n formed rest a h)
+held-alike n formed work rest e a h glitch =
+    rw (so-far-at work most-nodes a (omega (arith, formed .few-nodes)), e) (glitch-there n formed rest a h)
+
+module _ {value : Netlist} {work : List ℕ} (k : Known value work) where
+  -- its netlist
+  abbrev n : R.Netlist
+  n = k .formed .netlist
+
+  formed : WellFormed n
+  formed = k .formed .obeys
+
+  -- the way that is chosen by the bytes is the first rule that works
+  same-way : (i : ℕ) → i < length (n .nodes) → (ℓ : Layer) (A : ℕ)
+      → chosen (soFar work most-nodes) ℓ (getD (n .nodes) i (input 0)) A ≡ chosen (families n) ℓ (getD (n .nodes) i (input 0)) A
+  unfolding familiesAt
+  same-way i h = same-choice (soFar work most-nodes) (families n) i (λ a l. held-alike n formed work (k .rest) (k .held) a (omega arith)) (getD (n .nodes) i (input 0)) (formed .lower i h)
+
+  -- what is true of that netlist is true of the one that the value is of
+  true-claim : (bound : ℕ) (d : Claim) → d .layer < 2 → d .node < bound → T (claimed (families n) (claimOf d)) → Held value bound d
+  true-claim bound d layer below t = record { below = below; layer = layer; true = λ m e. rw (← one-netlist (k .formed) m e) t }
+
+  -- ---- a claim that is true
+
+  module _ {c : Claim} (held : Held value (value .count) c) where
+    there : c .node < length (n .nodes)
+    there = omega (arith, held .below, value-count n (k .formed .is))
+
+    in-family : T (member (c .set) (familyIn (layerOf (c .layer)) (familiesAt n (c .node))))
+    unfolding claimed familiesAt
+    in-family = held .true n (k .formed .is)
+
+    pub node-number : c .node < most-nodes
+    node-number = omega (arith, held .below, few-nodes (k .formed))
+
+    pub set-number : c .set < most-sets
+    set-number = small n formed (layerOf (c .layer)) (c .node) (c .set) in-family
+
+    pub record-there : Placed most-nodes (getD (value .nodes) (c .node) blank)
+    record-there =
+        rw (value-entry n (k .formed .is) (c .node) (held .below)) (placed-higher (omega (arith, node-number)) (placed n formed (c .node) there))
+
+    -- its derivation has a step
+    pub steps-some : (m : R.Netlist) → value ≡ flatOf m → 0 < length (derivation m (c .node) (layerOf (c .layer)) (c .set))
+    steps-some m e =
+        rw (← one-netlist (k .formed) m e, derivation-unfolds n formed (c .node) there (layerOf (c .layer)) (c .set) in-family) (omega arith)
+
+    -- the way that is chosen is the first rule that works
+    module _ (w : Way) (is : (cell : R.Cell) → getD (value .nodes) (c .node) blank ≡ entry cell
+        → wayOf w ≡ chosen (soFar work most-nodes) (layerOf (c .layer)) cell (c .set)) where
+      the-way : wayOf w ≡ chosen (families n) (layerOf (c .layer)) (getD (n .nodes) (c .node) (input 0)) (c .set)
+      the-way = is _ (value-entry n (k .formed .is) (c .node) (held .below)) ∙ same-way (c .node) there (layerOf (c .layer)) (c .set)
+
+      -- what it needs are claims that are true, of lower nodes
+      pub needs-true : Layered (w .needs) → HeldEach value (c .node) (w .needs)
+      unfolding needsOf Layered HeldEach
+      needs-true layers = go (w .needs) layers (rw (← the-way) at (needs-held n formed (c .node) there (layerOf (c .layer)) (c .set) in-family))
+        where
+          go : (needs : Needs) → Layered needs → NeedsHeld n (c .node) (needsOf needs) → HeldEach value (c .node) needs
+          go Nothing layers h = tt
+          go (One d) layer (below, true, _) = true-claim (c .node) d layer below true
+          go (Two d e) (first, second) (below, true, (below′, true′, _)) =
+              (true-claim (c .node) d first below true, true-claim (c .node) e second below′ true′)
+
+      -- and the claim's derivation is that step and then those of the needs
+      pub steps-of : (m : R.Netlist) → value ≡ flatOf m
+          → derivation m (c .node) (layerOf (c .layer)) (c .set)
+          ≡ step (c .node) (layerOf (c .layer)) (w .rule) (c .set) ∷ explained (derivation m) (needsOf (w .needs))
+      steps-of m e =
+          rw (← one-netlist (k .formed) m e)
+          (derivation-unfolds n formed (c .node) there (layerOf (c .layer)) (c .set) in-family
+          ∙ ap (λ (way : _). step (c .node) (layerOf (c .layer)) (way .rule) (c .set) ∷ explained (derivation n) (way .needs)) (sym the-way))
