@@ -75,7 +75,13 @@ by-test {κ} : {X : Type 0} (P : X → Type κ) (b : Bool) {x y : X} → (T b �
 by-test P true passed failed = passed tt
 by-test P false passed failed = failed (λ t. t)
 
--- what holds of the way of a gate that spreads, by the rules 3 to 6: each where no lower one works
+-- what holds of the way of a NOT in the glitch layer, by the rules 2 and 3
+pub not-ways : (P : Way → Type 0) (Fs : List Families) (a A : ℕ) → (T (claimed Fs (claim a glitch A)) → P (way 2 (claim a glitch A ∷ [])))
+    → (¬ T (claimed Fs (claim a glitch A)) → P (way 3 [])) → P (chosen Fs glitch (NOT a) A)
+unfolding chosen
+not-ways P Fs a A same empty = by-test P (claimed Fs (claim a glitch A)) same empty
+
+-- and of the way of a gate that spreads, by the rules 3 to 6: each where no lower one works
 pub spread-ways : (P : Way → Type 0) (Fs : List Families) (ℓ : Layer) (a b A : ℕ)
     → (A ≡ 0 → P (way 3 []))
     → (¬ (A ≡ 0) → T (claimed Fs (claim a ℓ A)) → P (way 4 (claim a ℓ A ∷ [])))
@@ -92,6 +98,10 @@ spread-ways P Fs ℓ a b A empty one other two =
     some t e = t (rw e tt)
 
 -- ---- what the first rule that works needs
+
+-- the first rule that works for a set of node i, and what it needs
+abbrev pub chosenAt : Netlist → (i : ℕ) → Layer → (A : ℕ) → Way
+chosenAt n i ℓ A = chosen (families n) ℓ (getD (n .nodes) i (input 0)) A
 
 -- each of the needs is of a node below the bound, and in its family
 abbrev pub NeedsHeld : Netlist → (bound : ℕ) → List Claim → Type 0
@@ -196,7 +206,7 @@ module _ (n : Netlist) (formed : WellFormed n) where
   by-kind {i} (NOT a) is settled A t =
       one-need i settled A 2 (claim a settled A) (operand-lower is a (member-head a [])) (rw (family-of n formed is settled) at t) (λ _. inverted is)
   by-kind {i} (NOT a) is glitch A t =
-      by-test (Works n i glitch A) (claimed (families n) (claim a glitch A))
+      not-ways (Works n i glitch A) (families n) a A
       (λ u. one-need i glitch A 2 (claim a glitch A) (operand-lower is a (member-head a [])) u (λ _. inverted is))
       (λ u. no-need i glitch A 3 (rw (⊎-elim (λ e. e) (λ m. absurd (u m)) (insert-cases A 0 _ (rw (family-of n formed is glitch) at t))) (empty-not is)))
   by-kind {i} (XOR a b) is settled A t = both-work i settled A (xor-gate is) (rw (family-of n formed is settled) at t)
@@ -207,12 +217,12 @@ module _ (n : Netlist) (formed : WellFormed n) where
       one-need i ℓ A 2 (claim a settled A) (operand-lower is a (member-head a [])) (rw (stored-family n formed is ℓ) at t) (λ _. stored is)
 
   pub chosen-works : (i : ℕ) → i < length (n .nodes) → (ℓ : Layer) (A : ℕ) → T (member A (familyIn ℓ (familiesAt n i)))
-      → Works n i ℓ A (chosen (families n) ℓ (getD (n .nodes) i (input 0)) A)
+      → Works n i ℓ A (chosenAt n i ℓ A)
   chosen-works i h = by-kind (getD (n .nodes) i (input 0)) (record { there = h; same = refl })
 
 -- what it needs is below the node and in the operands' families
 pub needs-held : (n : Netlist) → WellFormed n → (i : ℕ) → i < length (n .nodes) → (ℓ : Layer) (A : ℕ) → T (member A (familyIn ℓ (familiesAt n i)))
-    → NeedsHeld n i (chosen (families n) ℓ (getD (n .nodes) i (input 0)) A .needs)
+    → NeedsHeld n i (chosenAt n i ℓ A .needs)
 needs-held n formed i h ℓ A t = chosen-works n formed i h ℓ A t .held
 
 -- ---- derivations
@@ -227,7 +237,7 @@ explained-so-far n i (c ∷ needs) held =
 
 -- a set's derivation is the step by the first rule that works, and then the derivations of what it needs
 pub derivation-unfolds : (n : Netlist) → WellFormed n → (i : ℕ) → i < length (n .nodes) → (ℓ : Layer) (A : ℕ) → T (member A (familyIn ℓ (familiesAt n i)))
-    → derivation n i ℓ A ≡ (let w = chosen (families n) ℓ (getD (n .nodes) i (input 0)) A in step i ℓ (w .rule) A ∷ explained (derivation n) (w .needs))
+    → derivation n i ℓ A ≡ step i ℓ (chosenAt n i ℓ A .rule) A ∷ explained (derivation n) (chosenAt n i ℓ A .needs)
 unfolding derivationRule derivation
 derivation-unfolds n formed i h ℓ A t =
     ap (λ (d : Derivations). d ℓ A) (table-entry rule (n .nodes) i (λ ℓ A. []) (input 0) h)

@@ -4,3 +4,4 @@ pub mod Claims
 pub mod Choice
 pub mod Bytes
 pub mod Derivation
+pub mod Follows

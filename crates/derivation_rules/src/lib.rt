@@ -48,7 +48,14 @@ pub fn has(work: &[u8], claim: Claim) -> bool
 }
 
 // Whether a set works in rule 6: the first operand has it, and what is left of `set` the second one.
-fn works(work: &[u8], layer: usize, first: usize, second: usize, set: usize, candidate: usize) -> bool
+fn works(
+    work: &[u8],
+    layer: usize,
+    first: usize,
+    second: usize,
+    set: usize,
+    candidate: usize,
+) -> bool
     requires { ⌜ (most-work ≤ length (now work)) × (first < most-nodes) × (second < most-nodes) × (layer < 2) × (set < most-sets) × (candidate < most-sets) ⌝ }
     ensures { λ r. ⌜ r ≡ (claimed (soFar (now (work .entry)) most-nodes) (claim first (layerOf layer) candidate)
         && claimed (soFar (now (work .entry)) most-nodes) (claim second (layerOf layer) (bitXor set candidate))) ⌝ }

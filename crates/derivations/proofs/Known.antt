@@ -3,15 +3,17 @@
 -- again. Assumes nothing.
 use Prim.Native.Nat.{ℕ, _+_, _*_, _≤_, _<_}
 use mathlib.Core.Path.{_≡_, refl, sym, ap, _∙_}
+use mathlib.Core.Bool.{true}
 use mathlib.Core.List.{List, [], _∷_, _++_}
 use native.Mathlib.Omega.{arith}
-use lib.Dec.{T}
+use lib.Dec.{T, ltb, ltb→lt}
 use lib.ListN.{length, getD}
 use Rattle.rules.specs.Lists.{member}
 use Rattle.rules.specs.Records as R
 use Rattle.rules.specs.Records.{WellFormed, input, most-nodes, most-sets, operands}
 use Rattle.rules.specs.Families.{constant, families, familiesAt}
 use Rattle.rules.specs.Slices.{entry, workBytes}
+use Rattle.rules.proofs.Tests.{pass, and-left, and-right}
 use Rattle.rules.proofs.Members.{All}
 use Rattle.rules.proofs.Bounds.{families-small}
 use Rattle.netlists.specs.declared.Netlist.{Netlist}
@@ -24,7 +26,7 @@ use Rattle.derivation_rules.specs.declared.Claim.{Claim}
 use Rattle.derivation_rules.specs.declared.Needs.{Needs}
 use Rattle.derivation_rules.specs.declared.Needs.the-variants.{Nothing, One, Two}
 use Rattle.derivation_rules.specs.declared.Way.{Way}
-use Rattle.derivation_rules.specs.Derivations.{Layer, settled, glitch, familyIn, Step, step, claimed, chosen, explained, derivation, layerOf}
+use Rattle.derivation_rules.specs.Derivations.{Layer, settled, glitch, familyIn, Step, step, claimed, chosen, explained, derivation, layerOf, inFamily}
 use Rattle.derivation_rules.specs.Meaning.{claimOf, needsOf, wayOf, Layered}
 use Rattle.derivation_rules.proofs.Choice.{same-choice}
 use Rattle.derivation_rules.proofs.Derivation.{NeedsHeld, needs-held, derivation-unfolds}
@@ -67,9 +69,24 @@ module _ {value : Netlist} {work : List ℕ} (k : Known value work) where
   unfolding familiesAt
   same-way i h = same-choice (soFar work most-nodes) (families n) i (λ a l. held-alike n formed work (k .rest) (k .held) a (omega arith)) (getD (n .nodes) i (input 0)) (formed .lower i h)
 
+  -- what the bytes tell of a claim is so of the netlist
+  pub by-bytes : (c : Claim) → c .node < value .count → (m : R.Netlist) → value ≡ flatOf m
+      → claimed (soFar work most-nodes) (claimOf c) ≡ member (c .set) (familyIn (layerOf (c .layer)) (familiesAt m (c .node)))
+  unfolding claimed
+  by-bytes c h m e =
+      rw (← one-netlist (k .formed) m e)
+      (held-alike n formed work (k .rest) (k .held) (c .node) (omega (arith, value-count n (k .formed .is))) (layerOf (c .layer)) .same (c .set))
+
   -- what is true of that netlist is true of the one that the value is of
   true-claim : (bound : ℕ) (d : Claim) → d .layer < 2 → d .node < bound → T (claimed (families n) (claimOf d)) → Held value bound d
   true-claim bound d layer below t = record { below = below; layer = layer; true = λ m e. rw (← one-netlist (k .formed) m e) t }
+
+  -- a claim of a set in the family, in one of the two layers
+  pub claim-held : (c : Claim) → c .node < value .count → inFamily n (c .node) (c .layer) (c .set) ≡ true → Held value (value .count) c
+  unfolding inFamily claimed familiesAt
+  claim-held c there e =
+      let both = pass e in
+      true-claim (value .count) c (ltb→lt _ _ (and-left (ltb (c .layer) 2) _ both)) there (and-right (ltb (c .layer) 2) _ both)
 
   -- ---- a claim that is true
 
@@ -109,9 +126,9 @@ module _ {value : Netlist} {work : List ℕ} (k : Known value work) where
         where
           go : (needs : Needs) → Layered needs → NeedsHeld n (c .node) (needsOf needs) → HeldEach value (c .node) needs
           go Nothing layers h = tt
-          go (One d) layer (below, true, _) = true-claim (c .node) d layer below true
-          go (Two d e) (first, second) (below, true, (below′, true′, _)) =
-              (true-claim (c .node) d first below true, true-claim (c .node) e second below′ true′)
+          go (One d) layer (below, t, _) = true-claim (c .node) d layer below t
+          go (Two d e) (first, second) (below, t, (below′, t′, _)) =
+              (true-claim (c .node) d first below t, true-claim (c .node) e second below′ t′)
 
       -- and the claim's derivation is that step and then those of the needs
       pub steps-of : (m : R.Netlist) → value ≡ flatOf m

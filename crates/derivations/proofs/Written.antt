@@ -42,10 +42,11 @@ written-more {before} {between} {after} {at} {room} {next} {end} {firsts} {secon
   long = b .long ∙ a .long;
   fits = λ h.
       let (n, first) = a .fits (omega (arith, length-append firsts seconds)) in
-      let (e, second) = b .fits (omega (arith, length-append firsts seconds)) in
-      (omega (arith, length-append firsts seconds),
-      appended-as (sym (out-append firsts seconds))
-      (appended-more first (appended-at (omega arith) (omega (arith, length-append firsts seconds)) second)));
+      let (e, second) = b .fits (omega (arith, length-append firsts seconds)) in (
+        omega (arith, length-append firsts seconds),
+        appended-as (sym (out-append firsts seconds))
+            (appended-more first (appended-at (omega arith) (omega (arith, length-append firsts seconds)) second)),
+      );
   over = λ h. go h (lt-or-le room (at + length firsts));
 }
   where

@@ -26,9 +26,10 @@ returns-3 : tie.Need-returns-3
 unfolding wayOfSpread needsOf Layered
 returns-3 c =
     let first = c .before .before in
-    let start = first .before .before .before in
-    (rw (ne-eqb _ _ (first .before .before .if1 .left), ← first .before .has .ensures, first .if2 .left, ← c .before .has2 .ensures, c .if3 .taken),
-    start .before .pre .3)
+    let start = first .before .before .before in (
+      rw (ne-eqb _ _ (first .before .before .if1 .left), ← first .before .has .ensures, first .if2 .left, ← c .before .has2 .ensures, c .if3 .taken),
+      start .before .pre .3,
+    )
 
 way-of-both-requires : tie.Need-way-of-both-requires
 way-of-both-requires c κs = search needs
@@ -37,9 +38,11 @@ returns-4 : tie.Need-returns-4
 unfolding wayOfSpread
 returns-4 c =
     let second = c .before in
-    let first = second .before .before in
-    (rw (ne-eqb _ _ (first .before .before .if1 .left), ← first .before .has .ensures, first .if2 .left, ← second .before .has2 .ensures, second .if3 .left)
-    (c .way-of-both .ensures .0), c .way-of-both .ensures .1)
+    let first = second .before .before in (
+      rw (ne-eqb _ _ (first .before .before .if1 .left), ← first .before .has .ensures, first .if2 .left, ← second .before .has2 .ensures, second .if3 .left)
+          (c .way-of-both .ensures .0),
+      c .way-of-both .ensures .1,
+    )
 
 pub way-of-spread-spec : {M : Type 1} → statement M
 way-of-spread-spec =

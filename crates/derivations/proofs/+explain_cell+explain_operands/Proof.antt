@@ -144,10 +144,16 @@ explain-cell-explain-operands-requires : (t : ℕ) → explain-cell-lts.Need-exp
 explain-cell-explain-operands-requires t c κs =
     let start = c .before .before .before .before .before .before .before .before .before .before in
     let chosen = c .before .before .before .before .before .choose in
-    let (known, held, long, few) = start .pre .1 in
-    (omega (arith, start .pre .0),
-    (known, needs-true known held (chosen .result) (chosen .ensures .0) (chosen .ensures .1), held .below,
-    omega (arith, long, c .before .before .before .put-step .ensures .long), few))
+    let (known, held, long, few) = start .pre .1 in (
+      omega (arith, start .pre .0),
+      (
+        known,
+        needs-true known held (chosen .result) (chosen .ensures .0) (chosen .ensures .1),
+        held .below,
+        omega (arith, long, c .before .before .before .put-step .ensures .long),
+        few,
+      ),
+    )
 
 explain-cell-same-length : (t : ℕ) → explain-cell-lts.Need-same-length (
   choose-reads.Asked,
@@ -225,9 +231,10 @@ unfolding HeldEach
 explain-operands-explain-cell-requires-3 t c κs =
     let start = c .before .before .before .before .before .before .before .before .before .before in
     let (known, each, there, long, few) = start .pre .1 in
-    let (first, second) = rw (c .before .before .before .before .before .before .needs2 .given .1) at each in
-    (omega (arith, start .pre .0, second .below),
-    (known, held-higher second (omega arith), omega (arith, long, c .before .before .before .explain-cell2 .kept .1 .1 .1 .0), few))
+    let (first, second) = rw (c .before .before .before .before .before .before .needs2 .given .1) at each in (
+      omega (arith, start .pre .0, second .below),
+      (known, held-higher second (omega arith), omega (arith, long, c .before .before .before .explain-cell2 .kept .1 .1 .1 .0), few),
+    )
 
 explain-operands-returns : (t : ℕ) → explain-operands-lts.Need-returns (
   explain-cell-below t,

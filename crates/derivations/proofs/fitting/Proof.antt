@@ -1,14 +1,16 @@
 -- `fitting` meets its contract. Assumes nothing.
+use borrow.Author.Tests.{lt-ltb, le-ltb}
+use Rattle.derivation_rules.specs.Derivations.{fitting}
 use Rattle.derivations.proofs.fitting.Statement.{statement}
 use Rattle.derivations.proofs.fitting.Tie as tie
 
--- src/lib.rt:83:1
 returns : tie.Need-returns
-returns c = ?
+unfolding fitting
+returns c = rw (lt-ltb _ _ (c .if1 .taken))
 
--- src/lib.rt:83:1
 returns-2 : tie.Need-returns-2
-returns-2 c = ?
+unfolding fitting
+returns-2 c = rw (le-ltb _ _ (c .if1 .left))
 
 pub fitting-spec : {M : Type 1} → statement M
 fitting-spec = tie.close (tie.spec returns returns-2)
