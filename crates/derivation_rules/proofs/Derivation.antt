@@ -1,5 +1,6 @@
--- How a derivation unfolds: a node's families are the rule over the whole table, what the first rule that works needs is below the node and in the operands'
--- families, and the derivation is that step and then the derivations of what it needs. By the kinds of node and the rules in their order. Assumes nothing.
+-- How a derivation unfolds. A node's families are the rule over the whole table; what the first rule that works needs is below the node and in the
+-- operands' families; so the derivation is that step, and then the derivations of what it needs. By the kinds of node, and for a gate by the rules
+-- in their order. Assumes nothing.
 use Prim.Native.Nat.{ℕ, _<_}
 use mathlib.Core.Path.{_≡_, refl, ap, _∙_, subst}
 use mathlib.Core.Logic.{⊎-elim}
@@ -10,7 +11,7 @@ use lib.Bits.{bitXor, xor-comm}
 use lib.Dec.{T, eqb, eqb→eq}
 use lib.ListN.{length, getD, take}
 use lib.Seq.{getD-take}
-use Rattle.rules.specs.Lists.{member, insert}
+use Rattle.rules.specs.Lists.{member, union}
 use Rattle.rules.specs.Tables.{table}
 use Rattle.rules.specs.Records.{Cell, input, NOT, XOR, AND, OR, register, Netlist, WellFormed, operands, most-sets}
 use Rattle.rules.specs.Families.{Family, Families, constant, product, spread, settledRule, glitchRule, familiesRule, families, familiesAt}
@@ -45,20 +46,23 @@ unfolding families familiesAt
 families-at n formed i h = table-entry familiesRule (n .nodes) i constant (input 0) h ∙ rule-so-far (families n) i _ (formed .lower i h)
 
 module _ (n : Netlist) (formed : WellFormed n) where
-  -- by the kind of node
+  -- its family in a layer, by what the node is
   pub family-of : {i : ℕ} {cell : Cell} → Is n i cell → (ℓ : Layer) → familyIn ℓ (familiesAt n i) ≡ familyIn ℓ (familiesRule (families n) cell)
   family-of is ℓ = ap (familyIn ℓ) (families-at n formed _ (is .there) ∙ ap (familiesRule (families n)) (is .same))
 
+  -- an input's has its own set only
   pub own-family : {i s : ℕ} → Is n i (input s) → (ℓ : Layer) → familyIn ℓ (familiesAt n i) ≡ s ∷ []
   unfolding familyIn settledRule glitchRule familiesRule
   own-family is settled = family-of is settled
   own-family is glitch = family-of is glitch
 
+  -- a register's is the settled one of its operand
   pub stored-family : {i a : ℕ} → Is n i (register a) → (ℓ : Layer) → familyIn ℓ (familiesAt n i) ≡ familiesAt n a .settled
   unfolding familyIn familiesAt settledRule glitchRule familiesRule
   stored-family is settled = family-of is settled
   stored-family is glitch = family-of is glitch
 
+  -- and that of a gate that spreads is made of both operands'
   pub spread-family : {i a b : ℕ} {ℓ : Layer} → Spreading n i ℓ a b
       → familyIn ℓ (familiesAt n i) ≡ spread (familyIn ℓ (familiesAt n a)) (familyIn ℓ (familiesAt n b))
   unfolding familyIn familiesAt settledRule glitchRule familiesRule
@@ -118,26 +122,29 @@ pub record Works (n : Netlist) (i : ℕ) (ℓ : Layer) (A : ℕ) (w : Way) : Typ
   pub held : NeedsHeld n i (w .needs)
   pub follow : (at : ℕ → Derivations) → StepsFollow n at (w .needs) → Follows n i ℓ A (step i ℓ (w .rule) A ∷ explained at (w .needs))
 
--- what is left of A beside B, and that with B
+-- what is left of A without B; and that with B is A
 pub xor-rest : (A B C : ℕ) → A ≡ bitXor B C → bitXor A B ≡ C
 xor-rest A B C e = ap (λ (X : ℕ). bitXor X B) e ∙ xor-comm (bitXor B C) B ∙ xor-twice B C
 
 xor-back : (A B : ℕ) → bitXor B (bitXor A B) ≡ A
 xor-back A B = rw (xor-comm A B) (xor-twice B A)
 
--- a set of both families' spread that is not empty and in neither is in their product
+-- a set of the spread of two families that is not empty and in neither is in their product
 in-product : (F G : Family) (A : ℕ) → T (member A (spread F G)) → ¬ (A ≡ 0) → ¬ T (member A F) → ¬ T (member A G) → T (member A (product F G))
 unfolding spread
-in-product F G A t some f g =
-    ⊎-elim (λ e. absurd (some e)) (λ m. ⊎-elim (λ u. absurd (f u)) (λ r. ⊎-elim (λ u. absurd (g u)) (λ u. u) (union-cases A G _ r)) (union-cases A F _ m))
-    (insert-cases A 0 _ t)
+in-product F G A t some f g = ⊎-elim (λ e. absurd (some e)) (λ m. ⊎-elim (λ u. absurd (f u)) behind (union-cases A F _ m)) (insert-cases A 0 _ t)
+  where
+    behind : T (member A (union G (product F G))) → T (member A (product F G))
+    behind m = ⊎-elim (λ u. absurd (g u)) (λ u. u) (union-cases A G _ m)
 
+-- a gate that spreads is a gate
 spreading-gate : {n : Netlist} {i a b : ℕ} {ℓ : Layer} → Spreading n i ℓ a b → Gate n i a b
 spreading-gate (xor-glitch is) = xor-gate is
 spreading-gate (and-either is) = and-gate is
 spreading-gate (or-either is) = or-gate is
 
 module _ (n : Netlist) (formed : WellFormed n) where
+  -- operands are lower nodes
   operand-lower : {i : ℕ} {cell : Cell} → Is n i cell → (a : ℕ) → T (member a (operands cell)) → a < i
   operand-lower {i} is a t = formed .lower i (is .there) a (rw (is .same) t)
 
@@ -147,21 +154,25 @@ module _ (n : Netlist) (formed : WellFormed n) where
   gate-lower {a = a} {b} (and-gate is) = (operand-lower is a (member-head a _), operand-lower is b (second-in a b))
   gate-lower {a = a} {b} (or-gate is) = (operand-lower is a (member-head a _), operand-lower is b (second-in a b))
 
+  -- each set is one of those that there may be
   small : (ℓ : Layer) (a : ℕ) → All (λ A. A < most-sets) (familyIn ℓ (familiesAt n a))
   unfolding familyIn
   small settled a = families-small n formed a .0
   small glitch a = families-small n formed a .1
 
   module _ (i : ℕ) (ℓ : Layer) (A : ℕ) where
+    -- a way works: that of a rule which needs nothing, and of one which needs one claim
     no-need : (k : ℕ) → Follows n i ℓ A (step i ℓ k A ∷ []) → Works n i ℓ A (way k [])
     unfolding explained
     no-need k f = record { held = tt; follow = λ at _. f }
 
     one-need : (k : ℕ) (c : Claim) → c .node < i → T (claimed (families n) c)
-        → ((below : List Step) → Follows n (c .node) (c .layer) (c .set) below → Follows n i ℓ A (step i ℓ k A ∷ below)) → Works n i ℓ A (way k (c ∷ []))
+        → ((below : List Step) → Follows n (c .node) (c .layer) (c .set) below → Follows n i ℓ A (step i ℓ k A ∷ below))
+        → Works n i ℓ A (way k (c ∷ []))
     unfolding explained
     one-need k c l t f = record { held = (l, t, tt); follow = λ at fs. rw append-nil (f _ (fs .0)) }
 
+    -- rule 6, with the lowest set; where A is in the product there is one
     both-follow : {a b : ℕ} {firsts seconds : List Step} → Gate n i a b → (B : ℕ) → Follows n a ℓ B firsts → Follows n b ℓ (bitXor A B) seconds
         → Follows n i ℓ A (step i ℓ 6 A ∷ firsts ++ seconds)
     both-follow {firsts = fs} {seconds = ss} gate B f g = subst (λ (X : ℕ). Follows n i ℓ X (step i ℓ 6 X ∷ fs ++ ss)) (xor-back A B) (both gate f g)
@@ -188,6 +199,7 @@ module _ (n : Netlist) (formed : WellFormed n) where
             let (C, D, c, d, e) = product-cases F _ A t in
             lowest-works test F (omega (arith, lowest-least test F C c (rw (xor-rest A C D e) d), small ℓ a C c))
 
+    -- that of a gate that spreads
     spread-works : {a b : ℕ} → Spreading n i ℓ a b → T (member A (familyIn ℓ (familiesAt n i))) → Works n i ℓ A (wayOfSpread (families n) ℓ a b A)
     unfolding claimed familiesAt
     spread-works {a} {b} s t =
@@ -198,17 +210,19 @@ module _ (n : Netlist) (formed : WellFormed n) where
         (λ _ _ u. one-need 5 (claim b ℓ A) m u (λ _. second s))
         (λ some f g. both-work (spreading-gate s) (in-product _ _ A (rw (spread-family n formed s) at t) some f g))
 
-  -- a set of the family: the first rule that works does work
-  by-kind : {i : ℕ} (cell : Cell) → Is n i cell → (ℓ : Layer) (A : ℕ) → T (member A (familyIn ℓ (familiesAt n i))) → Works n i ℓ A (chosen (families n) ℓ cell A)
+  -- and that of each kind of node
+  by-kind : {i : ℕ} (cell : Cell) → Is n i cell → (ℓ : Layer) (A : ℕ) → T (member A (familyIn ℓ (familiesAt n i)))
+      → Works n i ℓ A (chosen (families n) ℓ cell A)
   unfolding operands familyIn familiesAt settledRule glitchRule familiesRule claimed chosen
   by-kind {i} (input s) is ℓ A t =
       no-need i ℓ A 1 (rw (all-single (λ B. B ≡ s) s refl A (rw (own-family n formed is ℓ) at t)) (own is))
   by-kind {i} (NOT a) is settled A t =
       one-need i settled A 2 (claim a settled A) (operand-lower is a (member-head a [])) (rw (family-of n formed is settled) at t) (λ _. inverted is)
   by-kind {i} (NOT a) is glitch A t =
+      let cases = insert-cases A 0 _ (rw (family-of n formed is glitch) at t) in
       not-ways (Works n i glitch A) (families n) a A
       (λ u. one-need i glitch A 2 (claim a glitch A) (operand-lower is a (member-head a [])) u (λ _. inverted is))
-      (λ u. no-need i glitch A 3 (rw (⊎-elim (λ e. e) (λ m. absurd (u m)) (insert-cases A 0 _ (rw (family-of n formed is glitch) at t))) (empty-not is)))
+      (λ u. no-need i glitch A 3 (rw (⊎-elim (λ e. e) (λ m. absurd (u m)) cases) (empty-not is)))
   by-kind {i} (XOR a b) is settled A t = both-work i settled A (xor-gate is) (rw (family-of n formed is settled) at t)
   by-kind {i} (XOR a b) is glitch A t = spread-works i glitch A (xor-glitch is) t
   by-kind {i} (AND a b) is ℓ A t = spread-works i ℓ A (and-either is) t
@@ -216,13 +230,14 @@ module _ (n : Netlist) (formed : WellFormed n) where
   by-kind {i} (register a) is ℓ A t =
       one-need i ℓ A 2 (claim a settled A) (operand-lower is a (member-head a [])) (rw (stored-family n formed is ℓ) at t) (λ _. stored is)
 
+  -- of a set of the family, the first rule that works does work
   pub chosen-works : (i : ℕ) → i < length (n .nodes) → (ℓ : Layer) (A : ℕ) → T (member A (familyIn ℓ (familiesAt n i)))
       → Works n i ℓ A (chosenAt n i ℓ A)
   chosen-works i h = by-kind (getD (n .nodes) i (input 0)) (record { there = h; same = refl })
 
 -- what it needs is below the node and in the operands' families
-pub needs-held : (n : Netlist) → WellFormed n → (i : ℕ) → i < length (n .nodes) → (ℓ : Layer) (A : ℕ) → T (member A (familyIn ℓ (familiesAt n i)))
-    → NeedsHeld n i (chosenAt n i ℓ A .needs)
+pub needs-held : (n : Netlist) → WellFormed n → (i : ℕ) → i < length (n .nodes) → (ℓ : Layer) (A : ℕ)
+    → T (member A (familyIn ℓ (familiesAt n i))) → NeedsHeld n i (chosenAt n i ℓ A .needs)
 needs-held n formed i h ℓ A t = chosen-works n formed i h ℓ A t .held
 
 -- ---- derivations
@@ -236,7 +251,8 @@ explained-so-far n i (c ∷ needs) held =
     cc (explained-so-far n i needs (held .2), getD-take i (table (derivationRule (families n)) [] (n .nodes)) (c .node) (λ ℓ A. []) (held .0))
 
 -- a set's derivation is the step by the first rule that works, and then the derivations of what it needs
-pub derivation-unfolds : (n : Netlist) → WellFormed n → (i : ℕ) → i < length (n .nodes) → (ℓ : Layer) (A : ℕ) → T (member A (familyIn ℓ (familiesAt n i)))
+pub derivation-unfolds : (n : Netlist) → WellFormed n → (i : ℕ) → i < length (n .nodes) → (ℓ : Layer) (A : ℕ)
+    → T (member A (familyIn ℓ (familiesAt n i)))
     → derivation n i ℓ A ≡ step i ℓ (chosenAt n i ℓ A .rule) A ∷ explained (derivation n) (chosenAt n i ℓ A .needs)
 unfolding derivationRule derivation
 derivation-unfolds n formed i h ℓ A t =

@@ -1,5 +1,6 @@
--- A set's derivation follows from the rules, and a set for which steps follow is in the family: by recursion over the nodes, and over the steps. Of all such
--- steps the derivation's begin with the first rule that works, and rule 6 with the lowest set of the first operand that works. Assumes nothing.
+-- A set's derivation follows from the rules, and a set for which steps follow is in the family: by recursion over the nodes, and over the steps.
+-- Of all steps that follow for the set, none begin with a lower rule than its derivation, which by rule 6 goes on with the first operand's lowest set
+-- that works. Assumes nothing.
 use Prim.Native.Nat.{ℕ, zero, suc, _≤_, _<_}
 use mathlib.Core.Path.{_≡_, refl, sym, ap}
 use mathlib.Core.Logic.{_⊎_, inl, inr, ⊎-elim}
@@ -7,19 +8,43 @@ use mathlib.Core.List.{List, [], _∷_}
 use native.Mathlib.Omega.{arith}
 use lib.Bits.{bitXor}
 use lib.Dec.{T, ltb, lt→ltb}
-use lib.ListN.{length, getD}
+use lib.ListN.{length}
 use Rattle.rules.specs.Lists.{member}
-use Rattle.rules.specs.Records.{Cell, input, NOT, XOR, AND, OR, register, Netlist, WellFormed}
-use Rattle.rules.specs.Families.{product, settledRule, glitchRule, familiesRule, families, familiesAt}
+use Rattle.rules.specs.Records.{XOR, Netlist, WellFormed}
+use Rattle.rules.specs.Families.{settledRule, glitchRule, familiesRule, families, familiesAt}
 use Rattle.rules.proofs.Lists.{member-head, insert-old, insert-new, product-holds, spread-first, spread-second, spread-both, spread-empty}
 use Rattle.rules.proofs.Tests.{and-both}
 use Rattle.rules.proofs.Reading.{read-well-formed}
-use Rattle.derivation_rules.specs.Derivations.{Layer, settled, glitch, familyIn, Step, step, Is, Spreading, xor-glitch, and-either, or-either, Gate, xor-gate, and-gate, or-gate, Follows, own, inverted, stored, empty-not, empty-gate, first, second, both, Claim, claim, Way, claimed, lowestSet, wayOfBoth, wayOfSpread, chosen, Derivations, derivation, layerOf, inFamily, Certificate}
+use Rattle.derivation_rules.specs.Derivations.{Layer, settled, glitch, familyIn, Step, step, Is, Spreading, xor-glitch, and-either, or-either, Gate, xor-gate, and-gate, or-gate, Follows, own, inverted, stored, empty-not, empty-gate, first, second, both, Claim, claim, Way, claimed, wayOfBoth, wayOfSpread, chosen, Derivations, derivation, inFamily, Certificate}
 use Rattle.derivation_rules.proofs.Lowest.{lowest-least}
 use Rattle.derivation_rules.proofs.Derivation.{family-of, own-family, stored-family, spread-family, not-ways, spread-ways, chosenAt, NeedsHeld, StepsFollow, xor-rest, chosen-works, derivation-unfolds}
 
+-- ---- the first of the steps
+
+-- the rule of the first step
+abbrev pub firstRule : List Step → ℕ
+firstRule [] = 0
+firstRule (s ∷ steps) = s .rule
+
+-- Steps that follow begin with one of the node, the layer and the set.
+pub follows-begins : {n : Netlist} {i : ℕ} {ℓ : Layer} {A : ℕ} {steps : List Step} → Follows n i ℓ A steps
+    → (rule : ℕ) × (below : List Step) × (steps ≡ step i ℓ rule A ∷ below)
+follows-begins (own is) = (_, _, refl)
+follows-begins (inverted is f) = (_, _, refl)
+follows-begins (stored is f) = (_, _, refl)
+follows-begins (empty-not is) = (_, _, refl)
+follows-begins (empty-gate s) = (_, _, refl)
+follows-begins (first s f) = (_, _, refl)
+follows-begins (second s f) = (_, _, refl)
+follows-begins (both gate f g) = (_, _, refl)
+
+-- no list of steps that follows is empty
+pub follows-some : {n : Netlist} {i : ℕ} {ℓ : Layer} {A : ℕ} → Follows n i ℓ A [] → ⊥
+follows-some f = let (rule, below, e) = follows-begins f in omega (arith, ap {B = ℕ} length e)
+
 -- ---- the derivation follows
 
+-- where the derivations of lower nodes follow, so do those of what is needed
 needs-follow : (n : Netlist) (i : ℕ) (at : ℕ → Derivations)
     → ((k : ℕ) → k < i → (ℓ : Layer) (A : ℕ) → T (member A (familyIn ℓ (familiesAt n k))) → Follows n k ℓ A (at k ℓ A))
     → (needs : List Claim) → NeedsHeld n i needs → StepsFollow n at needs
@@ -28,13 +53,14 @@ needs-follow n i at f [] held = tt
 needs-follow n i at f (c ∷ needs) (l, t, held) = (f (c .node) l (c .layer) (c .set) t, needs-follow n i at f needs held)
 
 -- of the nodes below a bound
-follow-below : (n : Netlist) → WellFormed n → (m i : ℕ) → i < m → i < length (n .nodes) → (ℓ : Layer) (A : ℕ) → T (member A (familyIn ℓ (familiesAt n i)))
-    → Follows n i ℓ A (derivation n i ℓ A)
+follow-below : (n : Netlist) → WellFormed n → (m i : ℕ) → i < m → i < length (n .nodes) → (ℓ : Layer) (A : ℕ)
+    → T (member A (familyIn ℓ (familiesAt n i))) → Follows n i ℓ A (derivation n i ℓ A)
 follow-below n formed zero i l h ℓ A t = absurd (omega arith)
 follow-below n formed (suc m) i l h ℓ A t =
     let works = chosen-works n formed i h ℓ A t in
-    let below = needs-follow n i (derivation n) (λ k b. follow-below n formed m k (omega arith) (omega arith)) (chosenAt n i ℓ A .needs) (works .held) in
-    rw (derivation-unfolds n formed i h ℓ A t) (works .follow (derivation n) below)
+    rw (derivation-unfolds n formed i h ℓ A t)
+    (works .follow (derivation n)
+    (needs-follow n i (derivation n) (λ k b. follow-below n formed m k (omega arith) (omega arith)) (chosenAt n i ℓ A .needs) (works .held)))
 
 -- the derivation of a set that is in the family follows from the rules
 pub derivation-follows : (n : Netlist) → WellFormed n → (i : ℕ) → i < length (n .nodes) → (ℓ : Layer) (A : ℕ)
@@ -55,6 +81,7 @@ gate-in (and-gate is) ℓ = spreading (and-either is)
 gate-in (or-gate is) ℓ = spreading (or-either is)
 
 module _ (n : Netlist) (formed : WellFormed n) where
+  -- a gate's family holds the difference of a set of the one operand and one of the other
   gate-holds : {i a b : ℕ} {ℓ : Layer} → GateIn n i a b ℓ → (B C : ℕ) → T (member B (familyIn ℓ (familiesAt n a)))
       → T (member C (familyIn ℓ (familiesAt n b))) → T (member (bitXor B C) (familyIn ℓ (familiesAt n i)))
   unfolding familyIn familiesAt settledRule familiesRule
@@ -76,6 +103,7 @@ module _ (n : Netlist) (formed : WellFormed n) where
 
   -- ---- the first rule that works, and the lowest set
 
+  -- the way chosen, of a gate that spreads
   spread-way : {i a b : ℕ} {ℓ : Layer} → Spreading n i ℓ a b → (A : ℕ) → chosenAt n i ℓ A ≡ wayOfSpread (families n) ℓ a b A
   unfolding chosen
   spread-way (xor-glitch is) A = rw (is .same)
@@ -90,11 +118,6 @@ module _ (n : Netlist) (formed : WellFormed n) where
       rw (spread-way s A)
       (spread-ways (λ w. (w .rule < 6) ⊎ (w ≡ wayOfBoth (families n) ℓ a b A)) (families n) ℓ a b A
       (λ _. inl (omega arith)) (λ _ _. inl (omega arith)) (λ _ _ _. inl (omega arith)) (λ _ _ _. inr refl))
-
-  -- the rule of the first step
-  abbrev firstRule : List Step → ℕ
-  firstRule [] = 0
-  firstRule (s ∷ steps) = s .rule
 
   begins : {i : ℕ} {ℓ : Layer} {A : ℕ} {steps : List Step} → Follows n i ℓ A steps → chosenAt n i ℓ A .rule ≤ firstRule steps
   unfolding familiesAt claimed wayOfBoth wayOfSpread chosen
@@ -128,22 +151,7 @@ module _ (n : Netlist) (formed : WellFormed n) where
       let of-both = ⊎-elim (λ l. absurd (omega arith)) (λ w. w) (gate-way (gate-in gate ℓ) A) in
       (_, ap (λ (w : Way). w .needs) of-both, lowest-least _ _ B (follows-in-family f) (rw (xor-rest A B C (sym e)) (follows-in-family g)))
 
--- ---- steps as such, and certificates
-
--- Steps that follow begin with one of the node, the layer and the set, so there is at least one.
-pub follows-begins : {n : Netlist} {i : ℕ} {ℓ : Layer} {A : ℕ} {steps : List Step} → Follows n i ℓ A steps
-    → (rule : ℕ) × (below : List Step) × (steps ≡ step i ℓ rule A ∷ below)
-follows-begins (own is) = (_, _, refl)
-follows-begins (inverted is f) = (_, _, refl)
-follows-begins (stored is f) = (_, _, refl)
-follows-begins (empty-not is) = (_, _, refl)
-follows-begins (empty-gate s) = (_, _, refl)
-follows-begins (first s f) = (_, _, refl)
-follows-begins (second s f) = (_, _, refl)
-follows-begins (both gate f g) = (_, _, refl)
-
-pub follows-some : {n : Netlist} {i : ℕ} {ℓ : Layer} {A : ℕ} → Follows n i ℓ A [] → ⊥
-follows-some f = let (rule, below, e) = follows-begins f in omega (arith, ap {B = ℕ} length e)
+-- ---- certificates
 
 -- A certificate can be believed without the checker: the set is in the family.
 pub certified : (file : List ℕ) (node layer set count : ℕ) (slice : List ℕ) → (c : Certificate file node layer set count slice)

@@ -1,7 +1,7 @@
--- What is proved of derivations.
+-- What is proved of derivations; in `Blocks` and `Refuted` facts that antt computes.
 pub mod Lowest
-pub mod Claims
 pub mod Choice
-pub mod Bytes
 pub mod Derivation
 pub mod Follows
+pub mod Blocks
+pub mod Refuted

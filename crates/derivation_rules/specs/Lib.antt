@@ -1,3 +1,2 @@
--- Change request A5 as definitions, and what the types of this crate mean.
+-- Change request A5 as definitions.
 pub mod Derivations
-pub mod Meaning

@@ -22,12 +22,12 @@ use Rattle.netlists.proofs.Netlists.{value-count, value-entry, few-nodes, one-n
 use Rattle.families.proofs.Work.{Alike, settled-there, glitch-there}
 use Rattle.nodes.specs.Work.{soFar, familiesIn, Placed}
 use Rattle.nodes.proofs.Nodes.{so-far-at, placed}
-use Rattle.derivation_rules.specs.declared.Claim.{Claim}
-use Rattle.derivation_rules.specs.declared.Needs.{Needs}
-use Rattle.derivation_rules.specs.declared.Needs.the-variants.{Nothing, One, Two}
-use Rattle.derivation_rules.specs.declared.Way.{Way}
+use Rattle.derivation_steps.specs.declared.Claim.{Claim}
+use Rattle.derivation_steps.specs.declared.Needs.{Needs}
+use Rattle.derivation_steps.specs.declared.Needs.the-variants.{Nothing, One, Two}
+use Rattle.derivation_steps.specs.declared.Way.{Way}
 use Rattle.derivation_rules.specs.Derivations.{Layer, settled, glitch, familyIn, Step, step, claimed, chosen, explained, derivation, layerOf, inFamily}
-use Rattle.derivation_rules.specs.Meaning.{claimOf, needsOf, wayOf, Layered}
+use Rattle.derivation_steps.specs.Meaning.{claimOf, needsOf, wayOf, Layered}
 use Rattle.derivation_rules.proofs.Choice.{same-choice}
 use Rattle.derivation_rules.proofs.Derivation.{NeedsHeld, needs-held, derivation-unfolds}
 use Rattle.derivations.specs.Written.{Known, Held, HeldEach}

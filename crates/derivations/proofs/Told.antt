@@ -11,7 +11,7 @@ use lib.ListN.{length, take}
 use Rattle.rules.specs.Records.{Netlist}
 use Rattle.rules.specs.Checks.{Outcome, answered, refused, andThen, judged}
 use Rattle.rules.proofs.Tests.{lt-or-le}
-use Rattle.derivation_rules.specs.declared.Claim.{Claim}
+use Rattle.derivation_steps.specs.declared.Claim.{Claim}
 use Rattle.derivation_rules.specs.Derivations.{Step, step-size, stepsOut, inFamily, derived, setCheck, stepsCheck, explainable}
 use Rattle.derivations.specs.declared.Derived.{Derived}
 use Rattle.derivations.specs.declared.Derived.the-variants.{Steps}

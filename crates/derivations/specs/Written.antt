@@ -12,11 +12,11 @@ use Rattle.rules.specs.Slices.{workBytes}
 use Rattle.netlists.specs.declared.Netlist.{Netlist}
 use Rattle.netlists.specs.Netlists.{flatOf, Formed}
 use Rattle.lines.specs.Text.{Appended}
-use Rattle.derivation_rules.specs.declared.Claim.{Claim}
-use Rattle.derivation_rules.specs.declared.Needs.{Needs}
-use Rattle.derivation_rules.specs.declared.Needs.the-variants.{Nothing, One, Two}
+use Rattle.derivation_steps.specs.declared.Claim.{Claim}
+use Rattle.derivation_steps.specs.declared.Needs.{Needs}
+use Rattle.derivation_steps.specs.declared.Needs.the-variants.{Nothing, One, Two}
 use Rattle.derivation_rules.specs.Derivations.{Step, step-size, stepsOut, claimed, derived}
-use Rattle.derivation_rules.specs.Meaning.{claimOf}
+use Rattle.derivation_steps.specs.Meaning.{claimOf}
 use Rattle.derivations.specs.declared.Derived.{Derived}
 use Rattle.derivations.specs.Meaning.{derivedOf}
 

@@ -9,12 +9,12 @@ ghost use Rattle.rules.specs.Records.{most-sets};
 ghost use Rattle.rules.specs.Checks.{answered};
 ghost use Rattle.netlists.specs.Netlists.{flatOf, Formed};
 ghost use Rattle.derivation_rules.specs.Derivations.{step-size, derivation, explained, layerOf, inFamily, most-steps, fitting, explainable, derivable, stepsReply, stepsAfter, Certificate};
-ghost use Rattle.derivation_rules.specs.Meaning.{needsOf};
+ghost use Rattle.derivation_steps.specs.Meaning.{needsOf};
 ghost use Rattle.derivations.specs.Meaning.{derivedOf};
 ghost use Rattle.derivations.specs.Written.{Known, Held, HeldEach, Written, Told};
-use derivation_rules::Claim;
-use derivation_rules::Needs;
-use derivation_rules::STEP;
+use derivation_steps::Claim;
+use derivation_steps::Needs;
+use derivation_steps::STEP;
 use netlists::Netlist;
 use rules::MOST_WORK;
 use rules::QueryOutcome;
@@ -49,8 +49,8 @@ fn explain_cell(
         return room + 1;
     }
     let node = claim.node;
-    let way = derivation_rules::choose(work, netlist.nodes[node], claim.layer, claim.set);
-    derivation_rules::put_step(steps, at, claim, way.rule);
+    let way = derivation_steps::choose(work, netlist.nodes[node], claim.layer, claim.set);
+    derivation_steps::put_step(steps, at, claim, way.rule);
     let needs = way.needs;
     explain_operands(netlist, work, node, needs, steps, at + 1, room)
 }
@@ -96,7 +96,7 @@ fn in_family(netlist: Netlist, work: &[u8], claim: Claim) -> bool
     requires { ⌜ Known netlist (now work) × (claim .node < netlist .count) × (claim .set < most-sets) ⌝ }
     ensures { λ r. ⌜ ((n : Records.Netlist) → netlist ≡ flatOf n → r ≡ inFamily n (claim .node) (claim .layer) (claim .set)) ⌝ }
 {
-    claim.layer < 2 && derivation_rules::has(work, claim)
+    claim.layer < 2 && derivation_steps::has(work, claim)
 }
 
 // Explains a claim of a netlist that was read, in a slice that has room for so many steps: refusal 16, and last 15.

@@ -8,7 +8,7 @@ use borrow.Author.Needs.{needs}
 use borrow.Fn.Kinds.{In}
 use borrow.Fn.PlainCycle.{Measures, is, falls, and}
 use Rattle.derivation_rules.specs.Derivations.{explained}
-use Rattle.derivation_rules.specs.Meaning.{needsOf}
+use Rattle.derivation_steps.specs.Meaning.{needsOf}
 use Rattle.derivations.specs.Written.{HeldEach}
 use Rattle.derivations.proofs.Written.{written-none, written-full, written-more, written-step}
 use Rattle.derivations.proofs.Known.{held-higher, node-number, set-number, record-there, steps-some, needs-true, steps-of}
@@ -18,8 +18,8 @@ use Rattle.derivations.proofs.+explain_cell+explain_operands.Lts-explai
 use Rattle.derivations.proofs.explain_operands.Reads as explain-operands
 use Rattle.derivations.proofs.explain_operands.Kinds as explain-operands-kinds
 use Rattle.derivations.proofs.+explain_cell+explain_operands.Lts-explain_operands as explain-operands-lts
-use Rattle.derivation_rules.proofs.choose.Reads as choose-reads
-use Rattle.derivation_rules.proofs.put_step.Reads as put-step-reads
+use Rattle.derivation_steps.proofs.choose.Reads as choose-reads
+use Rattle.derivation_steps.proofs.put_step.Reads as put-step-reads
 use Rattle.derivations.proofs.+explain_cell+explain_operands.{statement}
 use Rattle.derivations.proofs.+explain_cell+explain_operands.Tie.{close}
 

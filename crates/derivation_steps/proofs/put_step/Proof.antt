@@ -3,11 +3,11 @@ use Prim.Native.Nat.{_+_, _*_, _≤_}
 use native.Mathlib.Omega.{arith}
 use borrow.Author.Needs.{needs}
 use lib.ListN.{length, length-set}
 use Rattle.derivation_rules.specs.Derivations.{stepBytes}
-use Rattle.derivation_rules.proofs.Claims.{layer-number}
-use Rattle.derivation_rules.proofs.Bytes.{five-bytes}
-use Rattle.derivation_rules.proofs.put_step.Statement.{statement}
-use Rattle.derivation_rules.proofs.put_step.Tie as tie
+use Rattle.derivation_steps.proofs.Claims.{layer-number}
+use Rattle.derivation_steps.proofs.Bytes.{five-bytes}
+use Rattle.derivation_steps.proofs.put_step.Statement.{statement}
+use Rattle.derivation_steps.proofs.put_step.Tie as tie
 
 mul-from : tie.Need-mul-from
 mul-from c = search needs

@@ -5,10 +5,10 @@ use native.Mathlib.Omega.{arith}
 use borrow.Author.Needs.{needs}
 use Rattle.rules.specs.Lists.{member}
 use Rattle.rules.specs.Families.{Family}
 use Rattle.derivation_rules.specs.Derivations.{claimed}
-use Rattle.derivation_rules.proofs.Claims.{part-of}
-use Rattle.derivation_rules.proofs.has.Statement.{statement}
-use Rattle.derivation_rules.proofs.has.Tie as tie
+use Rattle.derivation_steps.proofs.Claims.{part-of}
+use Rattle.derivation_steps.proofs.has.Statement.{statement}
+use Rattle.derivation_steps.proofs.has.Tie as tie
 
 mul-holds : tie.Need-mul-holds
 mul-holds c = search needs

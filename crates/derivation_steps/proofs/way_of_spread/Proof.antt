@@ -1,10 +1,10 @@
 -- `way_of_spread` meets its contract: the rules are tried one after the other. Assumes nothing.
 use borrow.Author.Needs.{needs}
 use borrow.Author.Tests.{eq-eqb, ne-eqb}
 use Rattle.derivation_rules.specs.Derivations.{wayOfSpread}
-use Rattle.derivation_rules.specs.Meaning.{needsOf, Layered}
-use Rattle.derivation_rules.proofs.way_of_spread.Statement.{statement}
-use Rattle.derivation_rules.proofs.way_of_spread.Tie as tie
+use Rattle.derivation_steps.specs.Meaning.{needsOf, Layered}
+use Rattle.derivation_steps.proofs.way_of_spread.Statement.{statement}
+use Rattle.derivation_steps.proofs.way_of_spread.Tie as tie
 
 returns : tie.Need-returns
 unfolding wayOfSpread needsOf Layered

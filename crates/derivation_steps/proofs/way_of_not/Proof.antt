@@ -1,10 +1,10 @@
 -- `way_of_not` meets its contract: in the settled layer the operand has the set; in the glitch layer it has it, or the set is empty. Assumes nothing.
 use borrow.Author.Needs.{needs}
 use Rattle.derivation_rules.specs.Derivations.{chosen}
-use Rattle.derivation_rules.specs.Meaning.{needsOf, Layered}
-use Rattle.derivation_rules.proofs.Claims.{settled-layer, glitch-layer}
-use Rattle.derivation_rules.proofs.way_of_not.Statement.{statement}
-use Rattle.derivation_rules.proofs.way_of_not.Tie as tie
+use Rattle.derivation_steps.specs.Meaning.{needsOf, Layered}
+use Rattle.derivation_steps.proofs.Claims.{settled-layer, glitch-layer}
+use Rattle.derivation_steps.proofs.way_of_not.Statement.{statement}
+use Rattle.derivation_steps.proofs.way_of_not.Tie as tie
 
 returns : tie.Need-returns
 unfolding chosen needsOf Layered

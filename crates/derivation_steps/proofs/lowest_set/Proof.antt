@@ -13,10 +13,10 @@ use Rattle.rules.specs.Records.{most-nodes, most-sets}
 use Rattle.rules.specs.Families.{constant}
 use Rattle.rules.proofs.Tests.{pass, and-left, and-right, and-both}
 use Rattle.nodes.specs.Work.{soFar}
 use Rattle.derivation_rules.specs.Derivations.{familyIn, claim, claimed, lowestSet, layerOf}
 use Rattle.derivation_rules.proofs.Lowest.{lowest-is}
-use Rattle.derivation_rules.proofs.lowest_set.Statement.{statement}
-use Rattle.derivation_rules.proofs.lowest_set.Tie as tie
+use Rattle.derivation_steps.proofs.lowest_set.Statement.{statement}
+use Rattle.derivation_steps.proofs.lowest_set.Tie as tie
 
 -- a set works, by the bytes
 abbrev Works : List ℕ → (layer first second set candidate : ℕ) → Bool

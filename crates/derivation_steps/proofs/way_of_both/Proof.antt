@@ -1,9 +1,9 @@
 -- `way_of_both` meets its contract. Assumes nothing.
 use borrow.Author.Needs.{needs}
 use Rattle.derivation_rules.specs.Derivations.{wayOfBoth}
-use Rattle.derivation_rules.specs.Meaning.{needsOf, Layered}
-use Rattle.derivation_rules.proofs.way_of_both.Statement.{statement}
-use Rattle.derivation_rules.proofs.way_of_both.Tie as tie
+use Rattle.derivation_steps.specs.Meaning.{needsOf, Layered}
+use Rattle.derivation_steps.proofs.way_of_both.Statement.{statement}
+use Rattle.derivation_steps.proofs.way_of_both.Tie as tie
 
 -- src/lib.rt:83:9
 lowest-set-requires : tie.Need-lowest-set-requires

@@ -1,11 +1,11 @@
 -- What the types of this crate mean: a claim, what a step needs, and a rule with what it needs. Cited by the contracts. Assumes nothing.
 use Prim.Native.Nat.{ℕ, _<_}
 use mathlib.Core.List.{List, [], _∷_}
-use Rattle.derivation_rules.specs.declared.Claim as Value
-use Rattle.derivation_rules.specs.declared.Needs.{Needs}
-use Rattle.derivation_rules.specs.declared.Needs.the-variants.{Nothing, One, Two}
-use Rattle.derivation_rules.specs.declared.Way as Chosen
+use Rattle.derivation_steps.specs.declared.Claim as Value
+use Rattle.derivation_steps.specs.declared.Needs.{Needs}
+use Rattle.derivation_steps.specs.declared.Needs.the-variants.{Nothing, One, Two}
+use Rattle.derivation_steps.specs.declared.Way as Chosen
 use Rattle.derivation_rules.specs.Derivations.{Claim, claim, Way, way, layerOf}
 
 abbrev pub claimOf : Value.Claim → Claim
 claimOf c = claim (c .node) (layerOf (c .layer)) (c .set)

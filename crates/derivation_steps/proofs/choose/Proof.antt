@@ -13,10 +13,10 @@ use Rattle.rules.specs.Families.{Families}
 use Rattle.rules.specs.Slices.{entry}
 use Rattle.rules.proofs.Members.{all-at}
 use Rattle.nodes.specs.Work.{Placed}
 use Rattle.derivation_rules.specs.Derivations.{Layer, settled, claim, Way, way, wayOfSpread, chosen, layerOf}
-use Rattle.derivation_rules.specs.Meaning.{needsOf, Layered}
-use Rattle.derivation_rules.proofs.choose.Statement.{statement}
-use Rattle.derivation_rules.proofs.choose.Tie as tie
+use Rattle.derivation_steps.specs.Meaning.{needsOf, Layered}
+use Rattle.derivation_steps.proofs.choose.Statement.{statement}
+use Rattle.derivation_steps.proofs.choose.Tie as tie
 
 -- both operands of a record that can stand in a netlist are numbers of nodes; 0 stands for one that the kind has not
 operand-numbers : {node : Node} → Placed most-nodes node → (node .first < most-nodes) × (node .second < most-nodes)

@@ -1,9 +1,9 @@
 -- `way_of_xor` meets its contract: both operands in the settled layer, all rules in the glitch layer. Assumes nothing.
 use borrow.Author.Needs.{needs}
 use Rattle.derivation_rules.specs.Derivations.{chosen}
-use Rattle.derivation_rules.proofs.Claims.{settled-layer, glitch-layer}
-use Rattle.derivation_rules.proofs.way_of_xor.Statement.{statement}
-use Rattle.derivation_rules.proofs.way_of_xor.Tie as tie
+use Rattle.derivation_steps.proofs.Claims.{settled-layer, glitch-layer}
+use Rattle.derivation_steps.proofs.way_of_xor.Statement.{statement}
+use Rattle.derivation_steps.proofs.way_of_xor.Tie as tie
 
 way-of-both-requires : tie.Need-way-of-both-requires
 way-of-both-requires c κs = search needs

@@ -6,8 +6,8 @@ use borrow.Author.Needs.{needs}
 use borrow.Author.Tests.{not-true, not-false}
 use lib.Bits.{xor-lt}
 use Rattle.rules.specs.Records.{most-variables}
-use Rattle.derivation_rules.proofs.works.Statement.{statement}
-use Rattle.derivation_rules.proofs.works.Tie as tie
+use Rattle.derivation_steps.proofs.works.Statement.{statement}
+use Rattle.derivation_steps.proofs.works.Tie as tie
 
 first-fails : {p r : Bool} (q : Bool) → r ≡ p → r ≡ false → false ≡ (p && q)
 first-fails q e f = rw (← e, f)

@@ -1,0 +1,68 @@
+-- Steps that do not follow from the rules, so that what is said of derivations is not empty: none at all for a set that is not in the family, and
+-- not those of a derivation by another rule or in another order. Assumes nothing.
+use Prim.Native.Nat.{ℕ}
+use mathlib.Core.Path.{_≡_, refl}
+use mathlib.Core.List.{List, [], _∷_}
+use native.Mathlib.Omega.{arith}
+use Rattle.rules.specs.Records.{Netlist, WellFormed, writtenOut, variablesOut, nodesOut}
+use Rattle.rules.specs.Families.{familiesAt}
+use Rattle.rules.specs.Blocks.{P9, P10}
+use Rattle.rules.proofs.Reading.{read-well-formed}
+use Rattle.rules.proofs.Blocks.{replyTo}
+use Rattle.rules.proofs.BlockCounts.{p9, p9-read, p10, p10-read}
+use Rattle.derivation_rules.specs.Derivations.{Layer, settled, glitch, familyIn, Step, step, Gate, xor-gate, and-gate, or-gate, Follows, own, inverted, stored, empty-not, empty-gate, first, second, both, wayOfBoth, chosen}
+use Rattle.derivation_rules.proofs.Blocks.{small}
+use Rattle.derivation_rules.proofs.Follows.{firstRule, follows-in-family, first-rule, follows-begins}
+
+-- ---- no steps
+
+-- No steps follow for the secret alone where the signals of block A have settled.
+pub a-none : (steps : List Step) → ¬ Follows p9 4 settled 1 steps
+unfolding replyTo familyIn familiesAt
+a-none steps f = follows-in-family p9 (read-well-formed (P9 .bytes) p9 p9-read) f
+
+-- Nor do any follow for a glitch behind the register of block B, though its operand has that set in the glitch layer.
+pub b-none : (steps : List Step) → ¬ Follows p10 4 glitch 3 steps
+unfolding replyTo familyIn familiesAt
+b-none steps f = follows-in-family p10 (read-well-formed (P10 .bytes) p10 p10-read) f
+
+-- ---- another rule
+
+small-formed : WellFormed small
+unfolding replyTo variablesOut nodesOut writtenOut
+small-formed = read-well-formed (writtenOut small) small refl
+
+-- A settled XOR does not have a set by rule 4, though its first operand has it.
+pub xor-alone : ¬ Follows small 4 settled 1 (step 4 settled 4 1 ∷ step 1 settled 1 1 ∷ [])
+unfolding wayOfBoth chosen
+xor-alone f = omega (arith, first-rule small small-formed f)
+
+-- ---- another order
+
+-- the node of the second step
+abbrev secondNode : List Step → ℕ
+secondNode [] = 0
+secondNode (s ∷ []) = 0
+secondNode (s ∷ t ∷ steps) = t .node
+
+-- behind a step by rule 6 the next is of the gate's first operand
+next-step : {n : Netlist} {i : ℕ} {ℓ : Layer} {A : ℕ} {steps : List Step} → Follows n i ℓ A steps → firstRule steps ≡ 6
+    → (b : ℕ) × Gate n i (secondNode steps) b
+next-step (own is) six = absurd (omega arith)
+next-step (inverted is f) six = absurd (omega arith)
+next-step (stored is f) six = absurd (omega arith)
+next-step (empty-not is) six = absurd (omega arith)
+next-step (empty-gate s) six = absurd (omega arith)
+next-step (first s f) six = absurd (omega arith)
+next-step (second s f) six = absurd (omega arith)
+next-step (both {b = b} gate f g) six = let (rule, below, e) = follows-begins f in (b, rw e gate)
+
+-- the first operand of gate 4 of block A
+a-first : {a b : ℕ} → Gate p9 4 a b → a ≡ 3
+a-first (xor-gate is) = cc
+a-first (and-gate is) = cc
+a-first (or-gate is) = cc
+
+-- The steps of the secret alone in block A do not follow with those of the two operands exchanged.
+pub a-exchanged : ¬ Follows p9 4 glitch 1 (step 4 glitch 6 1 ∷ step 1 glitch 1 2 ∷ step 3 glitch 4 3 ∷ step 0 glitch 1 3 ∷ [])
+a-exchanged f = let (b, gate) = next-step f refl in omega (arith, a-first gate)

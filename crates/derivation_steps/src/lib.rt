@@ -1,0 +1,238 @@
+// One step of a derivation: the first rule that works for a set of a node's family, what it needs of the operands, and the step's five bytes.
+ghost use mathlib.Core.Path.{_≡_};
+ghost use mathlib.Core.Bool.{_&&_};
+ghost use Prim.Native.Nat.{_+_, _*_, _<_, _≤_};
+ghost use lib.Bits.{bitXor};
+ghost use lib.ListN.{length, getD};
+ghost use Rattle.rules.specs.Records.{Cell, NOT, XOR, most-nodes, most-sets};
+ghost use Rattle.rules.specs.Families.{constant};
+ghost use Rattle.rules.specs.Checks.{most-work};
+ghost use Rattle.rules.specs.Slices.{entry};
+ghost use Rattle.lines.specs.Text.{Appended};
+ghost use Rattle.nodes.specs.Work.{soFar, Placed};
+ghost use Rattle.derivation_rules.specs.Derivations.{familyIn, step, stepBytes, step-size, claim, way, claimed, lowestSet, wayOfBoth, wayOfSpread, chosen, layerOf};
+ghost use Rattle.derivation_steps.specs.Meaning.{claimOf, wayOf, Layered};
+use families::SETS;
+use rules::Node;
+
+// How many bytes a step has.
+pub const STEP: usize = 5;
+
+// That a set is in a node's family in a layer: 0 for settled signals, 1 for glitching ones.
+pub struct Claim {
+    pub node: usize,
+    pub layer: usize,
+    pub set: usize,
+}
+
+// What a step needs of the operands, the first one's claim first.
+pub enum Needs {
+    Nothing,
+    One(Claim),
+    Two(Claim, Claim),
+}
+
+// A rule by its number, and what it needs.
+pub struct Way {
+    pub rule: u8,
+    pub needs: Needs,
+}
+
+// Whether a claim is true, by work bytes that hold the families.
+pub fn has(work: &[u8], claim: Claim) -> bool
+    requires { ⌜ (most-work ≤ length (now work)) × (claim .node < most-nodes) × (claim .layer < 2) × (claim .set < most-sets) ⌝ }
+    ensures { λ r. ⌜ r ≡ claimed (soFar (now (work .entry)) most-nodes) (claimOf claim) ⌝ }
+{
+    families::holds(work, 2 * claim.node + claim.layer, claim.set)
+}
+
+// Whether a set works in rule 6: the first operand has it, and what is left of `set` the second one.
+fn works(
+    work: &[u8],
+    layer: usize,
+    first: usize,
+    second: usize,
+    set: usize,
+    candidate: usize,
+) -> bool
+    requires { ⌜ (most-work ≤ length (now work)) × (first < most-nodes) × (second < most-nodes) × (layer < 2) × (set < most-sets) × (candidate < most-sets) ⌝ }
+    ensures { λ r. ⌜ r ≡ (claimed (soFar (now (work .entry)) most-nodes) (claim first (layerOf layer) candidate)
+        && claimed (soFar (now (work .entry)) most-nodes) (claim second (layerOf layer) (bitXor set candidate))) ⌝ }
+{
+    let mine = Claim {
+        node: first,
+        layer,
+        set: candidate,
+    };
+    if !has(work, mine) {
+        return false;
+    }
+    let other = Claim {
+        node: second,
+        layer,
+        set: set ^ candidate,
+    };
+    has(work, other)
+}
+
+// The lowest set of the first operand that works; `SETS` where none does.
+fn lowest_set(work: &[u8], layer: usize, first: usize, second: usize, set: usize) -> usize
+    requires { ⌜ (most-work ≤ length (now work)) × (first < most-nodes) × (second < most-nodes) × (layer < 2) × (set < most-sets) ⌝ }
+    ensures { λ r. ⌜ r ≡ lowestSet
+        (λ B. claimed (soFar (now (work .entry)) most-nodes) (claim second (layerOf layer) (bitXor set B)))
+        (familyIn (layerOf layer) (getD (soFar (now (work .entry)) most-nodes) first constant)) ⌝ }
+{
+    let mut lowest = 0;
+    while lowest < SETS {
+        if works(work, layer, first, second, set, lowest) {
+            return lowest;
+        }
+        lowest += 1;
+    }
+    lowest
+}
+
+// Rule 6: both operands, with the first one's lowest set that works.
+fn way_of_both(work: &[u8], layer: usize, first: usize, second: usize, set: usize) -> Way
+    requires { ⌜ (most-work ≤ length (now work)) × (first < most-nodes) × (second < most-nodes) × (layer < 2) × (set < most-sets) ⌝ }
+    ensures { λ r. ⌜ wayOf r ≡ wayOfBoth (soFar (now (work .entry)) most-nodes) (layerOf layer) first second set ⌝ }
+    ensures layers { λ r. ⌜ Layered (r .needs) ⌝ }
+{
+    let lowest = lowest_set(work, layer, first, second, set);
+    Way {
+        rule: 6,
+        needs: Needs::Two(
+            Claim {
+                node: first,
+                layer,
+                set: lowest,
+            },
+            Claim {
+                node: second,
+                layer,
+                set: set ^ lowest,
+            },
+        ),
+    }
+}
+
+// Rules 3 to 6, for AND and OR, and for XOR in the glitch layer: the empty set, the first operand alone, the second alone, both.
+fn way_of_spread(work: &[u8], layer: usize, first: usize, second: usize, set: usize) -> Way
+    requires { ⌜ (most-work ≤ length (now work)) × (first < most-nodes) × (second < most-nodes) × (layer < 2) × (set < most-sets) ⌝ }
+    ensures { λ r. ⌜ wayOf r ≡ wayOfSpread (soFar (now (work .entry)) most-nodes) (layerOf layer) first second set ⌝ }
+    ensures layers { λ r. ⌜ Layered (r .needs) ⌝ }
+{
+    if set == 0 {
+        return Way {
+            rule: 3,
+            needs: Needs::Nothing,
+        };
+    }
+    let of_first = Claim {
+        node: first,
+        layer,
+        set,
+    };
+    if has(work, of_first) {
+        return Way {
+            rule: 4,
+            needs: Needs::One(of_first),
+        };
+    }
+    let of_second = Claim {
+        node: second,
+        layer,
+        set,
+    };
+    if has(work, of_second) {
+        return Way {
+            rule: 5,
+            needs: Needs::One(of_second),
+        };
+    }
+    way_of_both(work, layer, first, second, set)
+}
+
+// Rules 2 and 3, for NOT: the operand's set; else, in the glitch layer, the empty set.
+fn way_of_not(work: &[u8], layer: usize, operand: usize, set: usize) -> Way
+    requires { ⌜ (most-work ≤ length (now work)) × (operand < most-nodes) × (layer < 2) × (set < most-sets) ⌝ }
+    ensures { λ r. ⌜ wayOf r ≡ chosen (soFar (now (work .entry)) most-nodes) (layerOf layer) (NOT operand) set ⌝ }
+    ensures layers { λ r. ⌜ Layered (r .needs) ⌝ }
+{
+    let of_operand = Claim {
+        node: operand,
+        layer,
+        set,
+    };
+    if layer == 0 {
+        return Way {
+            rule: 2,
+            needs: Needs::One(of_operand),
+        };
+    }
+    if has(work, of_operand) {
+        return Way {
+            rule: 2,
+            needs: Needs::One(of_operand),
+        };
+    }
+    Way {
+        rule: 3,
+        needs: Needs::Nothing,
+    }
+}
+
+// For XOR: both operands in the settled layer, as for AND in the glitch layer.
+fn way_of_xor(work: &[u8], layer: usize, first: usize, second: usize, set: usize) -> Way
+    requires { ⌜ (most-work ≤ length (now work)) × (first < most-nodes) × (second < most-nodes) × (layer < 2) × (set < most-sets) ⌝ }
+    ensures { λ r. ⌜ wayOf r ≡ chosen (soFar (now (work .entry)) most-nodes) (layerOf layer) (XOR first second) set ⌝ }
+    ensures layers { λ r. ⌜ Layered (r .needs) ⌝ }
+{
+    if layer == 0 {
+        return way_of_both(work, layer, first, second, set);
+    }
+    way_of_spread(work, layer, first, second, set)
+}
+
+// The first rule that works for a set of a node's family, and what it needs of the operands, whose families the work bytes hold.
+pub fn choose(work: &[u8], node: Node, layer: usize, set: usize) -> Way
+    requires { ⌜ (most-work ≤ length (now work)) × Placed most-nodes node × (layer < 2) × (set < most-sets) ⌝ }
+    ensures { λ r. ⌜ ((cell : Cell) → node ≡ entry cell →
+        wayOf r ≡ chosen (soFar (now (work .entry)) most-nodes) (layerOf layer) cell set) ⌝ }
+    ensures layers { λ r. ⌜ Layered (r .needs) ⌝ }
+{
+    let kind = node.kind;
+    let first = node.first as usize;
+    let second = node.second as usize;
+    match kind {
+        2 => Way {
+            rule: 1,
+            needs: Needs::Nothing,
+        },
+        3 => way_of_not(work, layer, first, set),
+        7 => Way {
+            rule: 2,
+            needs: Needs::One(Claim {
+                node: first,
+                layer: 0,
+                set,
+            }),
+        },
+        4 => way_of_xor(work, layer, first, second, set),
+        _ => way_of_spread(work, layer, first, second, set),
+    }
+}
+
+// Writes a step behind the first `at` steps of a slice: five bytes, node, layer, rule, set low byte first.
+pub fn put_step(steps: &mut [u8], at: usize, claim: Claim, rule: u8)
+    requires { ⌜ (step-size * at + step-size ≤ length (now steps)) × (claim .node < most-nodes) × (claim .layer < 2) × (claim .set < most-sets) ⌝ }
+    ensures { λ _. ⌜ Appended (now (steps .entry)) (now (steps .exit)) (step-size * at) (step-size * (at + 1))
+        (stepBytes (step (claim .node) (layerOf (claim .layer)) rule (claim .set))) ⌝ }
+{
+    let from = STEP * at;
+    steps[from] = claim.node as u8;
+    steps[from + 1] = claim.layer as u8;
+    steps[from + 2] = rule;
+    steps[from + 3] = (claim.set % 256) as u8;
+    steps[from + 4] = (claim.set / 256) as u8;
+}
