@@ -87,28 +87,29 @@ b-derivation = refl
 
 -- ---- the order of the rules
 
--- an input without a variable and one with a mask, XOR of them in every order, AND, and NOT of each
+-- an input without a variable and one with a mask, XOR of every two of them, AND, and NOT of each
 abbrev pub small : Netlist
-small = record { variables = mask ∷ []; nodes = input 0 ∷ input 1 ∷ XOR 0 0 ∷ XOR 0 1 ∷ XOR 1 0 ∷ AND 0 1 ∷ NOT 0 ∷ NOT 1 ∷ [] }
+small = record { variables = mask ∷ []; nodes = input 0 ∷ input 1 ∷ XOR 0 0 ∷ XOR 0 1 ∷ XOR 1 0 ∷ XOR 1 1 ∷ AND 0 1 ∷ NOT 0 ∷ NOT 1 ∷ [] }
 
 -- A settled XOR goes by rule 6, even where the set is empty, or the first or the second operand alone has it.
 pub settled-xors : (derivation small 2 settled 0 ≡ step 2 settled 6 0 ∷ step 0 settled 1 0 ∷ step 0 settled 1 0 ∷ [])
-    × (derivation small 3 settled 1 ≡ step 3 settled 6 1 ∷ step 0 settled 1 0 ∷ step 1 settled 1 1 ∷ [])
     × (derivation small 4 settled 1 ≡ step 4 settled 6 1 ∷ step 1 settled 1 1 ∷ step 0 settled 1 0 ∷ [])
+    × (derivation small 3 settled 1 ≡ step 3 settled 6 1 ∷ step 0 settled 1 0 ∷ step 1 settled 1 1 ∷ [])
 unfolding derivationOf
 settled-xors = (refl, refl, refl)
 
--- In the glitch layer it goes there by the rules 3, 4 and 5.
+-- In the glitch layer it goes there by the rules 3, 4 and 5; and by 4 where both operands have the set.
 pub glitch-xors : (derivation small 2 glitch 0 ≡ step 2 glitch 3 0 ∷ [])
     × (derivation small 4 glitch 1 ≡ step 4 glitch 4 1 ∷ step 1 glitch 1 1 ∷ [])
     × (derivation small 3 glitch 1 ≡ step 3 glitch 5 1 ∷ step 1 glitch 1 1 ∷ [])
+    × (derivation small 5 glitch 1 ≡ step 5 glitch 4 1 ∷ step 1 glitch 1 1 ∷ [])
 unfolding derivationOf
-glitch-xors = (refl, refl, refl)
+glitch-xors = (refl, refl, refl, refl)
 
 -- AND has the empty set by rule 3, though its first operand has it too. In the glitch layer NOT has it by rule 2 if its operand has it, else by rule 3.
-pub empty-sets : (derivation small 5 settled 0 ≡ step 5 settled 3 0 ∷ [])
-    × (derivation small 6 glitch 0 ≡ step 6 glitch 2 0 ∷ step 0 glitch 1 0 ∷ [])
-    × (derivation small 7 glitch 0 ≡ step 7 glitch 3 0 ∷ [])
+pub empty-sets : (derivation small 6 settled 0 ≡ step 6 settled 3 0 ∷ [])
+    × (derivation small 7 glitch 0 ≡ step 7 glitch 2 0 ∷ step 0 glitch 1 0 ∷ [])
+    × (derivation small 8 glitch 0 ≡ step 8 glitch 3 0 ∷ [])
 unfolding derivationOf
 empty-sets = (refl, refl, refl)
 
