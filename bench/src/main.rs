@@ -1,9 +1,10 @@
-//! The benchmark: Telgouin's listing and its search over pairs against a plain Rust implementation.
+//! The benchmark: Telgouin's listing, its search over pairs and its derivations against a plain Rust implementation.
 //! It compares every answer, then measures time and memory. See docs/BENCH.md.
 
 mod blocks;
 mod clock;
 mod compare;
+mod derive;
 mod document;
 mod edits;
 mod memory;
@@ -15,6 +16,7 @@ mod ways;
 
 use blocks::Kind;
 use compare::Tally;
+use derive::Derivations;
 use time::{measure, measure_pairs, print_pairs, print_table, Cell, PairsCell};
 
 /// The numbers of nodes and variables that are measured.
@@ -49,6 +51,7 @@ fn main() {
         pairs_cells.extend([50, 100, 200].map(|nodes| PairsCell::new(kind, nodes, &mut tally)));
     }
     tally.print();
+    Derivations::many().print();
 
     measure(&mut cells);
     let checked = || cells.iter().filter(|cell| cell.kind != Kind::Cut);
@@ -72,5 +75,6 @@ fn main() {
     measure_pairs(&mut pairs_cells);
     print_pairs("The search over all pairs: 10 variables", &pairs_cells);
     edits::print();
+    derive::print();
     memory::print();
 }

@@ -154,6 +154,10 @@ impl Family {
         self.0[usize::from(set / 64)] |= 1 << (set % 64);
     }
 
+    pub fn has(&self, set: u16) -> bool {
+        (self.0[usize::from(set / 64)] >> (set % 64)) & 1 == 1
+    }
+
     pub fn len(&self) -> u32 {
         self.0.iter().map(|word| word.count_ones()).sum()
     }
@@ -185,7 +189,7 @@ impl Family {
     }
 
     /// The sets, from the lowest-numbered up.
-    fn sets(&self) -> impl Iterator<Item = u16> {
+    pub fn sets(&self) -> impl Iterator<Item = u16> {
         (0u16..).zip(self.0).flat_map(|(at, mut word)| {
             std::iter::from_fn(move || {
                 let bit = word.trailing_zeros() as u16;
@@ -251,7 +255,7 @@ fn turned(mut word: u64, by: u16) -> u64 {
 /// Both families of a node.
 #[derive(Clone, Copy)]
 pub struct Families {
-    settled: Family,
+    pub settled: Family,
     pub glitch: Family,
 }
 

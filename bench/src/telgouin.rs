@@ -1,4 +1,5 @@
-//! The exported functions of the checker and of the crates `bench_pairs` and `bench_edits`. A slice passes as pointer and length.
+//! The exported functions of the checker and of the crates `bench_pairs`, `bench_edits` and `bench_derivations`. A slice passes as
+//! pointer and length.
 
 use crate::pairs::{Found, Search};
 
@@ -22,6 +23,16 @@ extern "C" {
         added_len: usize,
         node: usize,
         times: usize,
+    ) -> usize;
+
+    fn telgouin_derive(
+        bytes: *const u8,
+        bytes_len: usize,
+        node: usize,
+        layer: usize,
+        set: usize,
+        steps: *mut u8,
+        steps_len: usize,
     ) -> usize;
 }
 
@@ -63,6 +74,23 @@ pub fn edits(bytes: &[u8], added: &[u8], node: usize, times: usize) -> usize {
             added.len(),
             node,
             times,
+        )
+    }
+}
+
+/// Writes the derivation of a set to the front of `steps`: the number of steps, or 4,096 times a
+/// refusal's number and its place.
+pub fn derive(bytes: &[u8], node: usize, layer: usize, set: usize, steps: &mut [u8]) -> usize {
+    // SAFETY: both pointers are valid for their lengths, and the function requires nothing more.
+    unsafe {
+        telgouin_derive(
+            bytes.as_ptr(),
+            bytes.len(),
+            node,
+            layer,
+            set,
+            steps.as_mut_ptr(),
+            steps.len(),
         )
     }
 }
