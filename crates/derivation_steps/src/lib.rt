@@ -11,7 +11,7 @@ ghost use Rattle.rules.specs.Slices.{entry};
 ghost use Rattle.lines.specs.Text.{Appended};
 ghost use Rattle.nodes.specs.Work.{soFar, Placed};
 ghost use Rattle.derivation_rules.specs.Derivations.{familyIn, step, stepBytes, step-size, claim, way, claimed, lowestSet, wayOfBoth, wayOfSpread, chosen, layerOf};
-ghost use Rattle.derivation_steps.specs.Meaning.{claimOf, wayOf, Layered};
+ghost use Rattle.derivation_steps.specs.Meaning.{claimOf, wayOf, Layered, InRange};
 use families::SETS;
 use rules::Node;
 
@@ -55,7 +55,7 @@ fn works(
     set: usize,
     candidate: usize,
 ) -> bool
-    requires { ⌜ (most-work ≤ length (now work)) × (first < most-nodes) × (second < most-nodes) × (layer < 2) × (set < most-sets) × (candidate < most-sets) ⌝ }
+    requires { ⌜ InRange (now work) layer first second set × (candidate < most-sets) ⌝ }
     ensures { λ r. ⌜ r ≡ (claimed (soFar (now (work .entry)) most-nodes) (claim first (layerOf layer) candidate)
         && claimed (soFar (now (work .entry)) most-nodes) (claim second (layerOf layer) (bitXor set candidate))) ⌝ }
 {
@@ -77,7 +77,7 @@ fn works(
 
 // The lowest set of the first operand that works; `SETS` where none does.
 fn lowest_set(work: &[u8], layer: usize, first: usize, second: usize, set: usize) -> usize
-    requires { ⌜ (most-work ≤ length (now work)) × (first < most-nodes) × (second < most-nodes) × (layer < 2) × (set < most-sets) ⌝ }
+    requires { ⌜ InRange (now work) layer first second set ⌝ }
     ensures { λ r. ⌜ r ≡ lowestSet
         (λ B. claimed (soFar (now (work .entry)) most-nodes) (claim second (layerOf layer) (bitXor set B)))
         (familyIn (layerOf layer) (getD (soFar (now (work .entry)) most-nodes) first constant)) ⌝ }
@@ -94,7 +94,7 @@ fn lowest_set(work: &[u8], layer: usize, first: usize, second: usize, set: usize
 
 // Rule 6: both operands, with the first one's lowest set that works.
 fn way_of_both(work: &[u8], layer: usize, first: usize, second: usize, set: usize) -> Way
-    requires { ⌜ (most-work ≤ length (now work)) × (first < most-nodes) × (second < most-nodes) × (layer < 2) × (set < most-sets) ⌝ }
+    requires { ⌜ InRange (now work) layer first second set ⌝ }
     ensures { λ r. ⌜ wayOf r ≡ wayOfBoth (soFar (now (work .entry)) most-nodes) (layerOf layer) first second set ⌝ }
     ensures layers { λ r. ⌜ Layered (r .needs) ⌝ }
 {
@@ -118,7 +118,7 @@ fn way_of_both(work: &[u8], layer: usize, first: usize, second: usize, set: usiz
 
 // Rules 3 to 6, for AND and OR, and for XOR in the glitch layer: the empty set, the first operand alone, the second alone, both.
 fn way_of_spread(work: &[u8], layer: usize, first: usize, second: usize, set: usize) -> Way
-    requires { ⌜ (most-work ≤ length (now work)) × (first < most-nodes) × (second < most-nodes) × (layer < 2) × (set < most-sets) ⌝ }
+    requires { ⌜ InRange (now work) layer first second set ⌝ }
     ensures { λ r. ⌜ wayOf r ≡ wayOfSpread (soFar (now (work .entry)) most-nodes) (layerOf layer) first second set ⌝ }
     ensures layers { λ r. ⌜ Layered (r .needs) ⌝ }
 {
@@ -184,7 +184,7 @@ fn way_of_not(work: &[u8], layer: usize, operand: usize, set: usize) -> Way
 
 // For XOR: both operands in the settled layer, as for AND in the glitch layer.
 fn way_of_xor(work: &[u8], layer: usize, first: usize, second: usize, set: usize) -> Way
-    requires { ⌜ (most-work ≤ length (now work)) × (first < most-nodes) × (second < most-nodes) × (layer < 2) × (set < most-sets) ⌝ }
+    requires { ⌜ InRange (now work) layer first second set ⌝ }
     ensures { λ r. ⌜ wayOf r ≡ chosen (soFar (now (work .entry)) most-nodes) (layerOf layer) (XOR first second) set ⌝ }
     ensures layers { λ r. ⌜ Layered (r .needs) ⌝ }
 {

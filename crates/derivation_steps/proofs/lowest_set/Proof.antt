@@ -51,9 +51,7 @@ loop-holds : tie.Need-loop-holds Inv-loop μ-loop
 loop-holds c = (omega arith, λ B l. absurd (omega arith))
 
 works-requires : tie.Need-works-requires Inv-loop μ-loop
-works-requires c κs =
-    let pre = c .before .before .before .pre in
-    (pre .0, pre .1, pre .2, pre .3, pre .4, c .loop-test .taken)
+works-requires c κs = (c .before .before .before .pre, c .loop-test .taken)
 
 returns : tie.Need-returns Inv-loop μ-loop
 returns c =

@@ -23,8 +23,8 @@ returns c = first-fails _ (c .before .has .ensures) (not-true _ (c .if1 .taken))
 
 has-requires-2 : tie.Need-has-requires-2
 has-requires-2 c κs =
-    let pre = c .before .before .before .pre in
-    (pre .0, pre .2, pre .3, xor-lt most-variables _ _ (pre .4) (pre .5))
+    let ((size, _, second, layer, set), candidate) = c .before .before .before .pre in
+    (size, second, layer, xor-lt most-variables _ _ set candidate)
 
 returns-2 : tie.Need-returns-2
 returns-2 c = second-decides (c .before .before .has .ensures) (not-false _ (c .before .if1 .left)) (c .has2 .ensures)
