@@ -1,3 +1,2 @@
--- What is proved of the way to a query's reply, for the proofs of this crate's functions.
-pub mod Asking
+-- What the proofs of this crate's functions share.
 pub mod Marks

@@ -11,55 +11,18 @@ ghost use Rattle.rules.specs.Records.{Cell, bits, most-nodes, most-sets};
 ghost use Rattle.rules.specs.Values.{exclusiveOr, valueRule, values, feeding};
 ghost use Rattle.rules.specs.Families.{familiesAt};
 ghost use Rattle.rules.specs.Slices.{entry};
-ghost use Rattle.rules.specs.Checks.{queried, queriedWith};
 ghost use Rattle.rules.specs.Queries.{valueQuery, feedingQuery, membershipQuery};
 ghost use Rattle.rules.specs.Paper.{valueOf, feedingOf, membershipOf};
-ghost use Rattle.netlists.specs.Netlists.{padded, flatOf, Formed, Reads};
+ghost use Rattle.netlists.specs.Netlists.{padded, flatOf, Formed};
 ghost use Rattle.queries.specs.Replies.{handedOn};
 use netlists::Netlist;
-use netlists::ReadFile;
 use rules::FeedingReply;
 use rules::MOST_NODES;
 use rules::MOST_WORK;
 use rules::MembershipReply;
 use rules::Node;
 use rules::QueryOutcome;
-use rules::Refusal;
 use rules::ValueReply;
-
-// ---- refusals
-
-// The netlist of a query of a node, or the refusal.
-fn ask(bytes: &[u8], node: usize) -> ReadFile
-    ensures { λ r. ⌜ Reads r (queried (now (bytes .entry)) node) ⌝ }
-{
-    let file = netlists::read(bytes);
-    let outcome = file.outcome;
-    let netlist = file.netlist;
-    let QueryOutcome::Answered = outcome else {
-        return file;
-    };
-    if netlist.count <= node {
-        return netlists::refused(Refusal::NoSuchNode(node));
-    }
-    file
-}
-
-// The same for a query of a node with an assignment or a set.
-pub fn ask_with(bytes: &[u8], node: usize, number: usize) -> ReadFile
-    ensures { λ r. ⌜ Reads r (queriedWith (now (bytes .entry)) node number) ⌝ }
-{
-    let file = ask(bytes, node);
-    let outcome = file.outcome;
-    let netlist = file.netlist;
-    let QueryOutcome::Answered = outcome else {
-        return file;
-    };
-    if records::undeclared_bit(netlist.variables, number) {
-        return netlists::refused(Refusal::UndeclaredBit(number));
-    }
-    file
-}
 
 // ---- the settled value
 
@@ -120,7 +83,7 @@ fn settled_values(netlist: Netlist, assignment: usize) -> [bool; MOST_NODES]
 pub fn settled_value(bytes: &[u8], node: usize, assignment: usize) -> ValueReply
     ensures { λ r. ⌜ valueOf r ≡ valueQuery (now (bytes .entry)) node assignment ⌝ }
 {
-    let file = ask_with(bytes, node, assignment);
+    let file = asking::ask_with(bytes, node, assignment);
     let outcome = file.outcome;
     let netlist = file.netlist;
     let QueryOutcome::Answered = outcome else {
@@ -183,7 +146,7 @@ fn feeding_marks(netlist: Netlist, node: usize) -> [bool; MOST_NODES]
 pub fn feeding_points(bytes: &[u8], node: usize) -> FeedingReply
     ensures { λ r. ⌜ feedingOf r ≡ feedingQuery (now (bytes .entry)) node ⌝ }
 {
-    let file = ask(bytes, node);
+    let file = asking::ask(bytes, node);
     let outcome = file.outcome;
     let netlist = file.netlist;
     let QueryOutcome::Answered = outcome else {
@@ -221,7 +184,7 @@ fn in_families(netlist: Netlist, node: usize, set: usize) -> MembershipReply
 pub fn memberships(bytes: &[u8], node: usize, set: usize) -> MembershipReply
     ensures { λ r. ⌜ membershipOf r ≡ membershipQuery (now (bytes .entry)) node set ⌝ }
 {
-    let file = ask_with(bytes, node, set);
+    let file = asking::ask_with(bytes, node, set);
     let outcome = file.outcome;
     let netlist = file.netlist;
     let QueryOutcome::Answered = outcome else {

@@ -1,4 +1,4 @@
--- `queries::ask` meets its contract: what reading refuses stays refused, then refusal 12, or the file. Assumes nothing.
+-- `asking::ask` meets its contract: what reading refuses stays refused, then refusal 12, or the file. Assumes nothing.
 use Prim.Native.Nat.{ℕ}
 use mathlib.Core.Path.{_≡_}
 use mathlib.Core.Bool.{Bool}
@@ -9,9 +9,9 @@ use lib.ListN.{length}
 use Rattle.rules.specs.Records.{Netlist}
 use Rattle.rules.specs.Checks.{check, nodeCheck, queried}
 use Rattle.netlists.proofs.Netlists.{value-count, read-stands}
-use Rattle.queries.proofs.Asking.{stays-refused, row-refuses, row-passes}
-use Rattle.queries.proofs.ask.Statement.{statement}
-use Rattle.queries.proofs.ask.Tie as tie
+use Rattle.asking.proofs.Asking.{stays-refused, row-refuses, row-passes}
+use Rattle.asking.proofs.ask.Statement.{statement}
+use Rattle.asking.proofs.ask.Tie as tie
 
 -- the row is the code's test of the count
 node-row : (i : ℕ) (n : Netlist) (count : ℕ) (fails : Bool) → count ≡ length (n .nodes) → leb count i ≡ fails → nodeCheck i n ≡ check 12 fails i

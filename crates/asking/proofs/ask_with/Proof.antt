@@ -1,4 +1,4 @@
--- `queries::ask_with` meets its contract: what is refused of the node stays refused, then refusal 13, or the file. Assumes nothing.
+-- `asking::ask_with` meets its contract: what is refused of the node stays refused, then refusal 13, or the file. Assumes nothing.
 use Prim.Native.Nat.{ℕ}
 use mathlib.Core.Path.{_≡_, _∙_, sym}
 use mathlib.Core.Bool.{Bool}
@@ -7,9 +7,9 @@ use lib.ListN.{length}
 use Rattle.rules.specs.Records.{Netlist}
 use Rattle.rules.specs.Checks.{check, undeclared, numberCheck}
 use Rattle.netlists.proofs.Netlists.{value-variables, read-stands}
-use Rattle.queries.proofs.Asking.{stays-refused, row-refuses, row-passes, node-first}
-use Rattle.queries.proofs.ask_with.Statement.{statement}
-use Rattle.queries.proofs.ask_with.Tie as tie
+use Rattle.asking.proofs.Asking.{stays-refused, row-refuses, row-passes, node-first}
+use Rattle.asking.proofs.ask_with.Statement.{statement}
+use Rattle.asking.proofs.ask_with.Tie as tie
 
 -- the row is the code's test of the number
 number-row : (x : ℕ) (n : Netlist) (variables : ℕ) (fails : Bool) → variables ≡ length (n .variables) → undeclared variables x ≡ fails → numberCheck x n ≡ check 13 fails x
