@@ -3,5 +3,6 @@ pub mod Lowest
 pub mod Choice
 pub mod Derivation
 pub mod Follows
+pub mod Doubling
 pub mod Blocks
 pub mod Refuted
