@@ -23,12 +23,14 @@ use Rattle.derivation_steps.proofs.put_step.Reads as put-step-reads
 use Rattle.derivations.proofs.+explain_cell+explain_operands.{statement}
 use Rattle.derivations.proofs.+explain_cell+explain_operands.Tie.{close}
 
+-- the number that falls
 abbrev μ-explain-cell : Measures 2 explain-cell-kinds.ps ℕ
 μ-explain-cell κs a = 2 * a .1 .1 .0 .node + 1
 
 abbrev μ-explain-operands : Measures 2 explain-operands-kinds.ps ℕ
 μ-explain-operands κs a = 2 * a .1 .1 .0
 
+-- what each is given at the number t, and what a call of it asks below t
 abbrev explain-cell-at : ℕ → In 2 explain-cell-kinds.ps
 explain-cell-at t =
     and 2 explain-cell-kinds.ps (is 2 explain-cell-kinds.ps μ-explain-cell t) explain-cell.Pre
@@ -57,90 +59,44 @@ explain-operands-below t =
     (falls 2 explain-operands-kinds.ps _<_ μ-explain-operands t)
     explain-operands.Pre
 
-explain-cell-add-result : (t : ℕ) → explain-cell-lts.Need-add-result (
-  choose-reads.Asked,
-  choose-reads.Learnt,
-  put-step-reads.Asked,
-  put-step-reads.Learnt,
-  explain-operands-below t,
-  explain-operands.Post,
-) (explain-cell-at t) explain-cell.Post
+-- what each knows of the functions that it calls
+abbrev cell-calls : ℕ → explain-cell-lts.Claims
+cell-calls t =
+    (choose-reads.Asked, choose-reads.Learnt, put-step-reads.Asked, put-step-reads.Learnt, explain-operands-below t, explain-operands.Post)
+
+abbrev operands-calls : ℕ → explain-operands-lts.Claims
+operands-calls t = (explain-cell-below t, explain-cell.Post)
+
+explain-cell-add-result : (t : ℕ) → explain-cell-lts.Need-add-result (cell-calls t) (explain-cell-at t) explain-cell.Post
 explain-cell-add-result t c = omega (arith, c .before .before .before .pre .1 .3)
 
-explain-cell-returns : (t : ℕ) → explain-cell-lts.Need-returns (
-  choose-reads.Asked,
-  choose-reads.Learnt,
-  put-step-reads.Asked,
-  put-step-reads.Learnt,
-  explain-operands-below t,
-  explain-operands.Post,
-) (explain-cell-at t) explain-cell.Post
+explain-cell-returns : (t : ℕ) → explain-cell-lts.Need-returns (cell-calls t) (explain-cell-at t) explain-cell.Post
 explain-cell-returns t c =
     let (known, held, _, _) = c .before .before .before .pre .1 in
     λ n e. written-full _ _ _ _ (c .if1 .taken) (steps-some known held n e)
 
-explain-cell-mul-choose : (t : ℕ) → explain-cell-lts.Need-mul-choose (
-  choose-reads.Asked,
-  choose-reads.Learnt,
-  put-step-reads.Asked,
-  put-step-reads.Learnt,
-  explain-operands-below t,
-  explain-operands.Post,
-) (explain-cell-at t) explain-cell.Post
+explain-cell-mul-choose : (t : ℕ) → explain-cell-lts.Need-mul-choose (cell-calls t) (explain-cell-at t) explain-cell.Post
 explain-cell-mul-choose t c = let (known, held, _, _) = c .before .before .before .pre .1 in omega (arith, node-number known held)
 
-explain-cell-element-copy-out-choose : (t : ℕ) → explain-cell-lts.Need-element-copy-out-choose (
-  choose-reads.Asked,
-  choose-reads.Learnt,
-  put-step-reads.Asked,
-  put-step-reads.Learnt,
-  explain-operands-below t,
-  explain-operands.Post,
-) (explain-cell-at t) explain-cell.Post
+explain-cell-element-copy-out-choose : (t : ℕ) → explain-cell-lts.Need-element-copy-out-choose (cell-calls t) (explain-cell-at t) explain-cell.Post
 explain-cell-element-copy-out-choose t c = let (known, held, _, _) = c .before .before .before .pre .1 in node-number known held
 
-explain-cell-choose-requires : (t : ℕ) → explain-cell-lts.Need-choose-requires (
-  choose-reads.Asked,
-  choose-reads.Learnt,
-  put-step-reads.Asked,
-  put-step-reads.Learnt,
-  explain-operands-below t,
-  explain-operands.Post,
-) (explain-cell-at t) explain-cell.Post
+explain-cell-choose-requires : (t : ℕ) → explain-cell-lts.Need-choose-requires (cell-calls t) (explain-cell-at t) explain-cell.Post
 explain-cell-choose-requires t c κs =
     let (known, held, _, _) = c .before .before .before .before .pre .1 in
     (omega (arith, known .size), record-there known held, held .layer, set-number known held)
 
-explain-cell-put-step-requires : (t : ℕ) → explain-cell-lts.Need-put-step-requires (
-  choose-reads.Asked,
-  choose-reads.Learnt,
-  put-step-reads.Asked,
-  put-step-reads.Learnt,
-  explain-operands-below t,
-  explain-operands.Post,
-) (explain-cell-at t) explain-cell.Post
+explain-cell-put-step-requires : (t : ℕ) → explain-cell-lts.Need-put-step-requires (cell-calls t) (explain-cell-at t) explain-cell.Post
 explain-cell-put-step-requires t c κs =
     let (known, held, long, _) = c .before .before .before .before .before .before .pre .1 in
     (omega (arith, long, c .before .before .before .if1 .left), node-number known held, held .layer, set-number known held)
 
-explain-cell-add-explain-operands : (t : ℕ) → explain-cell-lts.Need-add-explain-operands (
-  choose-reads.Asked,
-  choose-reads.Learnt,
-  put-step-reads.Asked,
-  put-step-reads.Learnt,
-  explain-operands-below t,
-  explain-operands.Post,
-) (explain-cell-at t) explain-cell.Post
-explain-cell-add-explain-operands t c = omega (arith, c .before .before .before .before .before .before .before .before .before .before .pre .1 .3, c .before .before .before .before .before .before .before .if1 .left)
+explain-cell-add-explain-operands : (t : ℕ) → explain-cell-lts.Need-add-explain-operands (cell-calls t) (explain-cell-at t) explain-cell.Post
+explain-cell-add-explain-operands t c =
+    let fits = c .before .before .before .before .before .before .before in
+    omega (arith, fits .before .before .before .pre .1 .3, fits .if1 .left)
 
-explain-cell-explain-operands-requires : (t : ℕ) → explain-cell-lts.Need-explain-operands-requires (
-  choose-reads.Asked,
-  choose-reads.Learnt,
-  put-step-reads.Asked,
-  put-step-reads.Learnt,
-  explain-operands-below t,
-  explain-operands.Post,
-) (explain-cell-at t) explain-cell.Post
+explain-cell-explain-operands-requires : (t : ℕ) → explain-cell-lts.Need-explain-operands-requires (cell-calls t) (explain-cell-at t) explain-cell.Post
 explain-cell-explain-operands-requires t c κs =
     let start = c .before .before .before .before .before .before .before .before .before .before in
     let chosen = c .before .before .before .before .before .choose in
@@ -155,48 +111,26 @@ explain-cell-explain-operands-requires t c κs =
       ),
     )
 
-explain-cell-same-length : (t : ℕ) → explain-cell-lts.Need-same-length (
-  choose-reads.Asked,
-  choose-reads.Learnt,
-  put-step-reads.Asked,
-  put-step-reads.Learnt,
-  explain-operands-below t,
-  explain-operands.Post,
-) (explain-cell-at t) explain-cell.Post
+explain-cell-same-length : (t : ℕ) → explain-cell-lts.Need-same-length (cell-calls t) (explain-cell-at t) explain-cell.Post
 explain-cell-same-length t c = search needs
 
-explain-cell-returns-2 : (t : ℕ) → explain-cell-lts.Need-returns-2 (
-  choose-reads.Asked,
-  choose-reads.Learnt,
-  put-step-reads.Asked,
-  put-step-reads.Learnt,
-  explain-operands-below t,
-  explain-operands.Post,
-) (explain-cell-at t) explain-cell.Post
+explain-cell-returns-2 : (t : ℕ) → explain-cell-lts.Need-returns-2 (cell-calls t) (explain-cell-at t) explain-cell.Post
 explain-cell-returns-2 t c =
-    let start = c .before .before .before .before .before .before .before .before .before .before .before .before .before in
-    let chosen = c .before .before .before .before .before .before .before .before .choose in
-    let (known, held, _, _) = start .pre .1 in
+    let written = c .before .before .before .before .before .before in
+    let chosen = written .before .before .choose in
+    let fits = written .before .before .before .before in
+    let (known, held, _, _) = fits .before .before .before .pre .1 in
     λ n e.
     rw (steps-of known held (chosen .result) (chosen .ensures .0) n e)
-    (written-step _ (c .before .before .before .before .before .before .before .before .before .before .if1 .left) (c .before .before .before .before .before .before .put-step .ensures) (c .before .before .explain-operands .ensures n e))
+    (written-step _ (fits .if1 .left) (written .put-step .ensures) (c .before .before .explain-operands .ensures n e))
 
-explain-operands-enum-told : (t : ℕ) → explain-operands-lts.Need-enum-told (
-  explain-cell-below t,
-  explain-cell.Post,
-) (explain-operands-at t) explain-operands.Post
+explain-operands-enum-told : (t : ℕ) → explain-operands-lts.Need-enum-told (operands-calls t) (explain-operands-at t) explain-operands.Post
 explain-operands-enum-told t c = search needs
 
-explain-operands-enum-known-needs : (t : ℕ) → explain-operands-lts.Need-enum-known-needs (
-  explain-cell-below t,
-  explain-cell.Post,
-) (explain-operands-at t) explain-operands.Post
+explain-operands-enum-known-needs : (t : ℕ) → explain-operands-lts.Need-enum-known-needs (operands-calls t) (explain-operands-at t) explain-operands.Post
 explain-operands-enum-known-needs t c = search needs
 
-explain-operands-explain-cell-requires : (t : ℕ) → explain-operands-lts.Need-explain-cell-requires (
-  explain-cell-below t,
-  explain-cell.Post,
-) (explain-operands-at t) explain-operands.Post
+explain-operands-explain-cell-requires : (t : ℕ) → explain-operands-lts.Need-explain-cell-requires (operands-calls t) (explain-operands-at t) explain-operands.Post
 unfolding HeldEach
 explain-operands-explain-cell-requires t c κs =
     let start = c .before .before .before .before .before .before in
@@ -204,17 +138,11 @@ explain-operands-explain-cell-requires t c κs =
     let one = rw (c .before .before .needs .given .1) at each in
     (omega (arith, start .pre .0, one .below), (known, held-higher one (omega arith), long, few))
 
-explain-operands-enum-known-needs-2 : (t : ℕ) → explain-operands-lts.Need-enum-known-needs-2 (
-  explain-cell-below t,
-  explain-cell.Post,
-) (explain-operands-at t) explain-operands.Post
+explain-operands-enum-known-needs-2 : (t : ℕ) → explain-operands-lts.Need-enum-known-needs-2 (operands-calls t) (explain-operands-at t) explain-operands.Post
 explain-operands-enum-known-needs-2 t c = search needs
 
 explain-operands-explain-cell-requires-2 :
-    (t : ℕ) → explain-operands-lts.Need-explain-cell-requires-2 (
-      explain-cell-below t,
-      explain-cell.Post,
-    ) (explain-operands-at t) explain-operands.Post
+    (t : ℕ) → explain-operands-lts.Need-explain-cell-requires-2 (operands-calls t) (explain-operands-at t) explain-operands.Post
 unfolding HeldEach
 explain-operands-explain-cell-requires-2 t c κs =
     let start = c .before .before .before .before .before .before in
@@ -223,10 +151,7 @@ explain-operands-explain-cell-requires-2 t c κs =
     (omega (arith, start .pre .0, first .below), (known, held-higher first (omega arith), long, few))
 
 explain-operands-explain-cell-requires-3 :
-    (t : ℕ) → explain-operands-lts.Need-explain-cell-requires-3 (
-      explain-cell-below t,
-      explain-cell.Post,
-    ) (explain-operands-at t) explain-operands.Post
+    (t : ℕ) → explain-operands-lts.Need-explain-cell-requires-3 (operands-calls t) (explain-operands-at t) explain-operands.Post
 unfolding HeldEach
 explain-operands-explain-cell-requires-3 t c κs =
     let start = c .before .before .before .before .before .before .before .before .before .before in
@@ -236,50 +161,31 @@ explain-operands-explain-cell-requires-3 t c κs =
       (known, held-higher second (omega arith), omega (arith, long, c .before .before .before .explain-cell2 .kept .1 .1 .1 .0), few),
     )
 
-explain-operands-returns : (t : ℕ) → explain-operands-lts.Need-returns (
-  explain-cell-below t,
-  explain-cell.Post,
-) (explain-operands-at t) explain-operands.Post
+explain-operands-returns : (t : ℕ) → explain-operands-lts.Need-returns (operands-calls t) (explain-operands-at t) explain-operands.Post
 unfolding needsOf explained
 explain-operands-returns t c = λ n e. rw (c .enum-told .given .1) (written-none _ _ _)
 
-explain-operands-same-length : (t : ℕ) → explain-operands-lts.Need-same-length (
-  explain-cell-below t,
-  explain-cell.Post,
-) (explain-operands-at t) explain-operands.Post
+explain-operands-same-length : (t : ℕ) → explain-operands-lts.Need-same-length (operands-calls t) (explain-operands-at t) explain-operands.Post
 explain-operands-same-length t c = search needs
 
-explain-operands-returns-2 : (t : ℕ) → explain-operands-lts.Need-returns-2 (
-  explain-cell-below t,
-  explain-cell.Post,
-) (explain-operands-at t) explain-operands.Post
+explain-operands-returns-2 : (t : ℕ) → explain-operands-lts.Need-returns-2 (operands-calls t) (explain-operands-at t) explain-operands.Post
 unfolding needsOf explained
 explain-operands-returns-2 t c = λ n e. rw (c .before .before .before .before .before .needs .given .1, append-nil) (c .before .before .explain-cell .ensures n e)
 
-explain-operands-same-length-2 : (t : ℕ) → explain-operands-lts.Need-same-length-2 (
-  explain-cell-below t,
-  explain-cell.Post,
-) (explain-operands-at t) explain-operands.Post
+explain-operands-same-length-2 : (t : ℕ) → explain-operands-lts.Need-same-length-2 (operands-calls t) (explain-operands-at t) explain-operands.Post
 explain-operands-same-length-2 t c = search needs
 
-explain-operands-returns-3 : (t : ℕ) → explain-operands-lts.Need-returns-3 (
-  explain-cell-below t,
-  explain-cell.Post,
-) (explain-operands-at t) explain-operands.Post
+explain-operands-returns-3 : (t : ℕ) → explain-operands-lts.Need-returns-3 (operands-calls t) (explain-operands-at t) explain-operands.Post
 unfolding needsOf explained
 explain-operands-returns-3 t c =
-    λ n e. rw (c .before .before .before .before .before .before .before .before .before .needs2 .given .1, append-nil) (written-more (c .before .before .before .before .before .before .explain-cell2 .ensures n e) (c .before .before .explain-cell3 .ensures n e))
+    let first = c .before .before .before .before .before .before in
+    λ n e.
+    rw (first .before .before .before .needs2 .given .1, append-nil)
+    (written-more (first .explain-cell2 .ensures n e) (c .before .before .explain-cell3 .ensures n e))
 
 pub +explain-cell+explain-operands-spec : {M : Type 1} → statement M
 +explain-cell+explain-operands-spec =
-    close μ-explain-cell μ-explain-operands (λ t. explain-cell-lts.spec (
-      choose-reads.Asked,
-      choose-reads.Learnt,
-      put-step-reads.Asked,
-      put-step-reads.Learnt,
-      explain-operands-below t,
-      explain-operands.Post,
-    )
+    close μ-explain-cell μ-explain-operands (λ t. explain-cell-lts.spec (cell-calls t)
     (explain-cell-at t)
     explain-cell.Post
     (explain-cell-add-result t)
@@ -293,7 +199,7 @@ pub +explain-cell+explain-operands-spec : {M : Type 1} → statement M
     (explain-cell-same-length t)
     (explain-cell-returns-2 t))
     λ t. explain-operands-lts.spec
-    (explain-cell-below t, explain-cell.Post)
+    (operands-calls t)
     (explain-operands-at t)
     explain-operands.Post
     (explain-operands-enum-told t)

@@ -1,6 +1,7 @@
 -- `explain` meets its contract: the families of all nodes are made, the set is looked up, its steps are written and counted. Assumes nothing.
 use Prim.Native.Nat.{ℕ, _*_, _≤_}
 use mathlib.Core.Path.{_≡_, refl, sym, _∙_}
+use mathlib.Core.Bool.{true}
 use mathlib.Core.List.{List, _++_}
 use native.Mathlib.Omega.{arith}
 use borrow.Author.Needs.{needs}
@@ -13,7 +14,7 @@ use Rattle.rules.specs.Slices.{workBytes}
 use Rattle.netlists.specs.declared.Netlist.{Netlist}
 use Rattle.netlists.specs.Netlists.{flatOf, Formed, Ready}
 use Rattle.netlists.proofs.Netlists.{few-nodes}
-use Rattle.derivation_rules.specs.Derivations.{derived}
+use Rattle.derivation_rules.specs.Derivations.{inFamily, derived}
 use Rattle.derivations.specs.Written.{Known}
 use Rattle.derivations.proofs.Known.{claim-held}
 use Rattle.derivations.proofs.Told.{not-in-family, too-many, they-fit, told-refused, told-steps, over-all, fit-all, count-all, bytes-all}
@@ -46,15 +47,20 @@ in-family-requires c κs =
 returns : tie.Need-returns
 returns c = λ n e. told-refused _ _ _ _ _ _ _ (not-in-family _ _ _ _ _ (sym (c .before .in-family .ensures n e) ∙ not-true _ (c .if1 .taken))) refl
 
+-- the set that was asked for is in the family
+found : (c : tie.Else1) (n : R.Netlist) → c .before .before .before .before .before .before .before .args .netlist ≡ flatOf n
+    → let claim = c .before .before .before .before .before .before .before .args .claim in inFamily n (claim .node) (claim .layer) (claim .set) ≡ true
+found c n e = sym (c .before .in-family .ensures n e) ∙ not-false _ (c .if1 .left)
+
 slice-aggregate-explain-cell : tie.Need-slice-aggregate-explain-cell
 slice-aggregate-explain-cell c = search needs
 
 explain-cell-requires : tie.Need-explain-cell-requires
 explain-cell-requires c κs =
     let (formed, there, _, long, few) = c .before .before .before .before .before .before .before .before .before .pre in
-    let known = all-known formed _ _ (sym (slice-aggregate-in-family (c .before .before .before .before))) (c .before .before .before .before .before .before .all-families .ensures) in
-    let holds = sym (c .before .before .before .in-family .ensures (known .formed .netlist) (known .formed .is)) ∙ not-false _ (c .before .before .if1 .left) in
-    (known, claim-held known _ there holds, long, few)
+    let made = c .before .before .before .before .before .before .all-families .ensures in
+    let known = all-known formed _ _ (sym (slice-aggregate-in-family (c .before .before .before .before))) made in
+    (known, claim-held known _ there (found (c .before .before) (known .formed .netlist) (known .formed .is)), long, few)
 
 same-length : tie.Need-same-length
 same-length c = search needs
@@ -62,7 +68,7 @@ same-length c = search needs
 returns-2 : tie.Need-returns-2
 unfolding derived
 returns-2 c = λ n e.
-    let holds = sym (c .before .before .before .before .before .before .before .in-family .ensures n e) ∙ not-false _ (c .before .before .before .before .before .before .if1 .left) in
+    let holds = found (c .before .before .before .before .before .before) n e in
     let all = c .before .before .before .explain-cell .ensures n e in
     told-refused _ _ _ _ _ _ _ (too-many _ _ _ _ _ holds (over-all all (c .if2 .taken))) refl
 
@@ -72,7 +78,7 @@ same-length-2 c = search needs
 returns-3 : tie.Need-returns-3
 unfolding derived
 returns-3 c = λ n e.
-    let holds = sym (c .before .before .before .before .before .before .before .in-family .ensures n e) ∙ not-false _ (c .before .before .before .before .before .before .if1 .left) in
+    let holds = found (c .before .before .before .before .before .before) n e in
     let all = c .before .before .before .explain-cell .ensures n e in
     let fits = fit-all all (c .if2 .left) in
     rw (count-all all fits) (told-steps _ _ _ _ n (they-fit _ _ _ _ _ holds fits) fits (bytes-all all fits))
