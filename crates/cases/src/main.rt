@@ -10,12 +10,14 @@
 //     points NODE : BLOCK                   the points that feed a node alone
 //     list BYTES : BLOCK : NAME             the listing, its length, and from where on the text is as it was
 //     node NODE : BLOCK : NAME              the reply, the node's record and its two families, set by set
+//     derive NODE LAYER SET BYTES : BLOCK : NAME    the reply, the first steps of the derivation, each as node, layer, rule and set, and from
+//                                           where on the slice is as it was
 //     edits ENTRIES BYTES : BLOCK : EDITS : NAME    the block is opened in slices that hold every block, then each edit is made in slices
 //                                           of these lengths; of the opening and of each edit the reply, how many variables and nodes the
 //                                           state then has, and from where to where entries and work bytes change
 //
 // A block is written in hexadecimal digits, with a blank before each record; `200*020000` is a record 200 times. A number is
-// decimal: at most 200 ENTRIES, 51200 BYTES of work and 3654 of text, and any usize elsewhere. A line that starts with `=` is
+// decimal: at most 200 ENTRIES, 51200 BYTES of work, 3654 of text and 2565 of steps, and any usize elsewhere. A line that starts with `=` is
 // printed without that sign and the blank behind it. An edit is `+` and a record in hexadecimal digits, or `-` and a node. Empty lines, and lines that start with `#`, are for the reader. What the
 // program does not understand it prints, as `not understood: ` and the line or the word.
 ghost use Prim.Native.Nat.{_+_, _*_, _≤_, _<_};
@@ -24,6 +26,7 @@ ghost use Rattle.rules.specs.Records.{most-nodes};
 ghost use Rattle.rules.specs.Listing.{most-text};
 ghost use Rattle.families.specs.Parts.{HasPart};
 use check::same;
+use derivations::Derived;
 use edit_trial::SeenEdit;
 use families::SETS;
 use libc::STDIN_FILENO;
@@ -48,7 +51,7 @@ use tools::print_refusal;
 use tools::print_reply;
 
 // The most bytes of standard input, and of a block.
-const MOST_INPUT: usize = 32768;
+const MOST_INPUT: usize = 65536;
 
 const MOST_BLOCK: usize = 1024;
 
@@ -56,6 +59,11 @@ const MOST_BLOCK: usize = 1024;
 const MOST_DIGITS: usize = 2048;
 
 const NO_BLOCK: usize = 2049;
+
+// The most bytes for steps, with room for one step more than there may be; and how many steps are printed.
+const MOST_STEPS: usize = 2565;
+
+const SHOWN: usize = 8;
 
 // ---- printing
 
@@ -152,9 +160,10 @@ fn decimal(word: &[u8]) -> usize {
     value
 }
 
-// How many numbers a command has, and the last three of them.
+// How many numbers a command has, and the last four of them.
 struct Numbers {
     count: usize,
+    node: usize,
     limit: usize,
     first: usize,
     last: usize,
@@ -163,6 +172,7 @@ struct Numbers {
 // The numbers of a command, with a blank before each.
 fn numbers_of(words: &[u8]) -> Numbers {
     let mut count: usize = 0;
+    let mut node = 0;
     let mut limit = 0;
     let mut first = 0;
     let mut last = 0;
@@ -173,6 +183,7 @@ fn numbers_of(words: &[u8]) -> Numbers {
         if from == at {
             continue;
         }
+        node = limit;
         limit = first;
         first = last;
         last = decimal(&words[from..at]);
@@ -180,6 +191,7 @@ fn numbers_of(words: &[u8]) -> Numbers {
     }
     Numbers {
         count,
+        node,
         limit,
         first,
         last,
@@ -410,6 +422,57 @@ fn node(bytes: &[u8], i: usize)
     print_families(&work, i);
 }
 
+fn wide(x: u8) -> usize
+    ensures { λ r. ⌜ r < 256 ⌝ }
+{
+    x as usize
+}
+
+// A step, of five bytes from `from` on.
+fn print_step(steps: &[u8], from: usize)
+    requires { ⌜ from + 5 ≤ length (now steps) ⌝ }
+{
+    print_number(wide(steps[from]));
+    print_number(wide(steps[from + 1]));
+    print_number(wide(steps[from + 2]));
+    print_number(wide(steps[from + 3]) + 256 * wide(steps[from + 4]));
+    print_byte(b',');
+}
+
+// So many steps, from the first on.
+fn print_steps(steps: &[u8], count: usize) {
+    let whole = least(count, steps.len() / 5);
+    let mut at = 0;
+    while at < whole {
+        print_step(steps, 5 * at);
+        at += 1;
+    }
+}
+
+fn derive(bytes: &[u8], node: usize, layer: usize, set: usize, room: usize)
+    requires { ⌜ room ≤ 2565 ⌝ }
+{
+    let mut most = [0u8; MOST_STEPS];
+    let steps = &mut most[0..room];
+    trial::fill(steps);
+    let reply = derivations::derive(bytes, node, layer, set, steps);
+    print_byte(b':');
+    match reply {
+        Derived::Refused(refusal) => {
+            print_refusal(refusal);
+            print_byte(b',');
+        }
+        Derived::Steps(count) => {
+            print_counts(b" steps#:", &[count]);
+            print_steps(steps, least(count, SHOWN));
+            if count > SHOWN {
+                print(b" ..,");
+            }
+        }
+    }
+    print_counts(b" kept from#", &[trial::work_kept_from(steps)]);
+}
+
 // ---- edits of an open block
 
 // A block that is open: its state, and what both slices hold.
@@ -568,7 +631,25 @@ fn edits(bytes: [u8; MOST_BLOCK], digits: usize, words: &[u8], entries: usize, r
 
 // ---- lines
 
-// Runs a command of three numbers; answers whether there is such a command, and the numbers are within its limits.
+// Runs a command of four numbers; answers whether there is such a command, and the numbers are within its limits.
+fn run_four(command: &[u8], bytes: &[u8], numbers: Numbers) -> bool {
+    if same(command, b"derive") {
+        if numbers.last > MOST_STEPS {
+            return false;
+        }
+        derive(
+            bytes,
+            numbers.node,
+            numbers.limit,
+            numbers.first,
+            numbers.last,
+        );
+        return true;
+    }
+    false
+}
+
+// The same of three numbers.
 fn run_three(command: &[u8], bytes: &[u8], limit: usize, first: usize, last: usize) -> bool {
     if same(command, b"pairs") {
         if first > MOST_NODES {
@@ -644,6 +725,7 @@ fn run_command(command: &[u8], numbers: Numbers, bytes: [u8; MOST_BLOCK], digits
         1 => run_one(command, block, numbers.last),
         2 => run_two(command, block, numbers.first, numbers.last),
         3 => run_three(command, block, numbers.limit, numbers.first, numbers.last),
+        4 => run_four(command, block, numbers),
         _ => false,
     }
 }
@@ -721,7 +803,7 @@ fn run_line(line: &[u8]) {
 }
 
 fn run_lines(text: &[u8])
-    requires { ⌜ length (now text) ≤ 32768 ⌝ }
+    requires { ⌜ length (now text) ≤ 65536 ⌝ }
 {
     let mut at = 0;
     while at < text.len() {

@@ -6,10 +6,10 @@ use Rattle.cases.proofs.numbers_of.Statement.{statement}
 use Rattle.cases.proofs.numbers_of.Tie as tie
 
 abbrev Inv-loop : tie.InvT-loop
-Inv-loop words count₀ limit₀ first₀ last₀ at₀ count limit first last at = (count ≤ at) × (at ≤ length words)
+Inv-loop words count₀ node₀ limit₀ first₀ last₀ at₀ count node limit first last at = (count ≤ at) × (at ≤ length words)
 
 abbrev μ-loop : tie.MeasureT-loop
-μ-loop words count₀ limit₀ first₀ last₀ at₀ count limit first last at = length words - at
+μ-loop words count₀ node₀ limit₀ first₀ last₀ at₀ count node limit first last at = length words - at
 
 loop-holds : tie.Need-loop-holds Inv-loop μ-loop
 loop-holds c = search needs
