@@ -61,7 +61,7 @@ const DEEPEST: usize = 10;
 
 const LONGEST: usize = 11;
 
-// Claims that are refused with 15 where there is room to spare, and in the shortest slice; and those that are refused with 16.
+// Refusals with 15 of more than 512 steps, and of fewer; and those with 16.
 const REFUSED: usize = 12;
 
 const WRONG: usize = 15;
@@ -354,33 +354,55 @@ fn holds_other(slice: &Slice, steps: &Slice, many: usize) -> bool {
     other
 }
 
-// Asks for a claim in the first `lent` bytes of a slice, where this reply is expected, with these steps if it is an answer. What is answered in the
-// longest slice is judged. Gives the number of the reply.
+// The reply to a claim whose derivation has so many steps, or none where it is not true, in a slice of so many bytes.
+fn expected_reply(claim: usize, many: usize, bytes: usize) -> Reply {
+    let fits = least(bytes / 5, MOST);
+    if many == 0 {
+        return Reply {
+            number: 16,
+            value: claim % SETS,
+        };
+    }
+    Reply {
+        number: number_if(many > fits, 15),
+        value: least(many, fits),
+    }
+}
+
+// Judges an answer of so many steps.
+fn judge_answer(tally: &mut Tally, block: Block, slice: &Slice, many: usize, claim: usize) {
+    let depth = judge(tally, block, slice, many, claim);
+    count(tally, DERIVED, 1);
+    count(tally, WRONG, one_if(depth == 0));
+    tally[DEEPEST] = most(tally[DEEPEST], depth);
+    tally[LONGEST] = most(tally[LONGEST], many);
+}
+
+// Asks for a claim in the first `lent` bytes of a slice, where its derivation has these steps, so many. What is answered in the longest slice is
+// judged.
 fn try_in(
     tally: &mut Tally,
     bytes: &[u8],
     block: Block,
     claim: usize,
     lent: usize,
-    expected: Reply,
+    many: usize,
     steps: &Slice,
-) -> usize {
+) {
     let mut slice = [BEFORE; ROOM];
     let length = lent % 2566;
     let reply = ask(bytes, claim, &mut slice[0..length]);
-    let written = number_if(expected.number == 0, expected.value);
+    let expected = expected_reply(claim, many, length);
     let different = (reply.number != expected.number)
         | (reply.value != expected.value)
-        | holds_other(&slice, steps, written);
+        | holds_other(&slice, steps, number_if(expected.number == 0, many));
+    let short = number_if(many <= MOST, 1);
     count(tally, DIFFERENCES, one_if(different));
+    count(tally, REFUSED + short, one_if(reply.number == 15));
+    count(tally, REFUSED + 2, one_if(reply.number == 16));
     if (reply.number == 0) & (length == ROOM) {
-        let depth = judge(tally, block, &slice, reply.value, claim);
-        count(tally, DERIVED, 1);
-        count(tally, WRONG, one_if(depth == 0));
-        tally[DEEPEST] = most(tally[DEEPEST], depth);
-        tally[LONGEST] = most(tally[LONGEST], reply.value);
+        judge_answer(tally, block, &slice, reply.value, claim);
     }
-    reply.number
 }
 
 // Asks for a claim. One that is true is asked for with room to spare, in a slice that just takes its steps, or 512 where they are more, and in one a
@@ -388,37 +410,22 @@ fn try_in(
 fn try_claim(tally: &mut Tally, bytes: &[u8], block: Block, families: &Families, claim: usize) {
     let mut steps = [BEFORE; ROOM];
     if !families[claim % CLAIMS] {
-        let none = Reply {
-            number: 16,
-            value: claim % SETS,
-        };
-        let number = try_in(tally, bytes, block, claim, claim % ROOM, none, &steps);
-        count(tally, REFUSED + 2, one_if(number == 16));
+        try_in(tally, bytes, block, claim, claim % ROOM, 0, &steps);
         return;
     }
     let many = expected_steps(block, families, claim, &mut steps);
-    let fits = least(many, MOST);
-    let fewer = fits - least(fits, 1);
-    let expected = Reply {
-        number: number_if(many > MOST, 15),
-        value: fits,
-    };
-    let long = try_in(tally, bytes, block, claim, ROOM, expected, &steps);
-    try_in(tally, bytes, block, claim, 5 * fits, expected, &steps);
-    let short = try_in(
+    let enough = 5 * least(many, MOST);
+    try_in(tally, bytes, block, claim, ROOM, many, &steps);
+    try_in(tally, bytes, block, claim, enough, many, &steps);
+    try_in(
         tally,
         bytes,
         block,
         claim,
-        5 * fewer + 4,
-        Reply {
-            number: 15,
-            value: fewer,
-        },
+        enough - least(enough, 1),
+        many,
         &steps,
     );
-    count(tally, REFUSED, one_if(long == 15));
-    count(tally, REFUSED + 1, one_if(short == 15));
     count_ways(tally, block, families, claim);
 }
 
@@ -453,6 +460,18 @@ fn try_block(tally: &mut Tally, bytes: &[u8]) {
     }
 }
 
+fn mix_of(turn: usize) -> usize {
+    match turn % 8 {
+        0 => generator::EVEN,
+        1 => generator::MASKED,
+        2 => generator::DENSE,
+        3 => generator::REGISTERED,
+        4 => generator::LONG,
+        5 => XORS,
+        _ => generator::GATES,
+    }
+}
+
 // Makes a block of two to five variables, and tries it; gives the generator's next state. One block in eight is mostly XORs of nodes close by, with
 // long derivations; one is a row of gates, each of an input and the gate before it, with two variables more and large families; and a few blocks
 // have ten variables.
@@ -463,22 +482,12 @@ fn try_random(tally: &mut Tally, seed: u32, turn: usize) -> u32 {
     let row = turn % 8 == 7;
     let large = turn % 128 == 2;
     let variables = number_if(!large, 2 + pick(seed, 4)) + number_if(row, 2) + number_if(large, 10);
-    let mixes = [
-        generator::EVEN,
-        generator::MASKED,
-        generator::DENSE,
-        generator::REGISTERED,
-        generator::LONG,
-        XORS,
-        generator::GATES,
-        generator::GATES,
-    ];
     let made = generator::block(Shape {
         seed: next(third),
         variables,
         labels: variables,
         nodes: 6 + pick(second, 10 - number_if(large, 8)),
-        mix: mixes[turn % 8],
+        mix: mix_of(turn),
         near: number_if(!row, 1 + pick(third, 4 - number_if(chain, 2))) + number_if(row, 3),
         open: number_if(row, 2),
     });
