@@ -7,19 +7,17 @@ use mathlib.Core.List.{List, [], _∷_, _++_}
 use native.Mathlib.Omega.{arith}
 use borrow.Author.Tests.{leb-false, ltb-true, ltb-false, not-false}
 use lib.Dec.{T, ltb, ltb→lt}
-use lib.ListN.{length, getD, take, drop, length-append}
-use lib.Seq.{take-at, take-length}
-use Rattle.rules.specs.Lists.{member}
+use lib.ListN.{length, take, drop, length-append}
+use lib.Seq.{take-at}
 use Rattle.rules.specs.Records.{Netlist}
-use Rattle.rules.specs.Families.{familiesAt}
-use Rattle.rules.specs.Checks.{Outcome, answered, refused, andThen, judged, read, nodeCheck, numberCheck, queriedWith}
+use Rattle.rules.specs.Checks.{Outcome, answered, refused, andThen, read, nodeCheck, queriedWith}
 use Rattle.rules.specs.Slices.{filled}
 use Rattle.rules.specs.Paper.{numberOf, placeOf}
 use Rattle.rules.specs.declared.Refusal.{Refusal}
 use Rattle.rules.proofs.Tests.{pass, and-left, and-right}
 use Rattle.rules.proofs.Records.{passes, answer}
 use Rattle.rules.proofs.Reading.{read-well-formed}
-use Rattle.derivation_rules.specs.Derivations.{familyIn, Step, stepBytes, step-size, stepsOut, layerOf, inFamily, derived, setCheck, stepsCheck, most-steps, fitting, explainable, derivable, stepsReply, stepsAfter, Certificate}
+use Rattle.derivation_rules.specs.Derivations.{Step, stepBytes, step-size, stepsOut, layerOf, inFamily, derived, setCheck, most-steps, fitting, explainable, derivable, stepsReply, stepsAfter, Certificate}
 use Rattle.derivation_rules.proofs.Follows.{derivation-follows}
 use Rattle.derivations.specs.declared.Derived.{Derived}
 use Rattle.derivations.specs.declared.Derived.the-variants.{Refused, Steps}

@@ -1,16 +1,16 @@
 -- What is known of a claim that is to be explained: it is true of the netlist that the work bytes hold the families of, its set is one of those that there
 -- may be, its node's record can be looked at; and the way that is chosen by the bytes is the first rule that works, whose needs are such claims
 -- again. Assumes nothing.
-use Prim.Native.Nat.{ℕ, _+_, _*_, _≤_, _<_}
-use mathlib.Core.Path.{_≡_, refl, sym, ap, _∙_}
+use Prim.Native.Nat.{ℕ, _+_, _≤_, _<_}
+use mathlib.Core.Path.{_≡_, sym, ap, _∙_}
 use mathlib.Core.Bool.{true}
-use mathlib.Core.List.{List, [], _∷_, _++_}
+use mathlib.Core.List.{List, _∷_, _++_}
 use native.Mathlib.Omega.{arith}
 use lib.Dec.{T, ltb, ltb→lt}
 use lib.ListN.{length, getD}
 use Rattle.rules.specs.Lists.{member}
 use Rattle.rules.specs.Records as R
-use Rattle.rules.specs.Records.{WellFormed, input, most-nodes, most-sets, operands}
+use Rattle.rules.specs.Records.{WellFormed, input, most-nodes, most-sets}
 use Rattle.rules.specs.Families.{constant, families, familiesAt}
 use Rattle.rules.specs.Slices.{entry, workBytes}
 use Rattle.rules.proofs.Tests.{pass, and-left, and-right}
@@ -18,15 +18,15 @@ use Rattle.rules.proofs.Members.{All}
 use Rattle.rules.proofs.Bounds.{families-small}
 use Rattle.netlists.specs.declared.Netlist.{Netlist}
 use Rattle.netlists.specs.Netlists.{blank, flatOf}
-use Rattle.netlists.proofs.Netlists.{value-count, value-entry, few-nodes, one-netlist, well-formed}
+use Rattle.netlists.proofs.Netlists.{value-count, value-entry, few-nodes, one-netlist}
 use Rattle.families.proofs.Work.{Alike, settled-there, glitch-there}
-use Rattle.nodes.specs.Work.{soFar, familiesIn, Placed}
+use Rattle.nodes.specs.Work.{soFar, Placed}
 use Rattle.nodes.proofs.Nodes.{so-far-at, placed}
 use Rattle.derivation_steps.specs.declared.Claim.{Claim}
 use Rattle.derivation_steps.specs.declared.Needs.{Needs}
 use Rattle.derivation_steps.specs.declared.Needs.the-variants.{Nothing, One, Two}
 use Rattle.derivation_steps.specs.declared.Way.{Way}
-use Rattle.derivation_rules.specs.Derivations.{Layer, settled, glitch, familyIn, Step, step, claimed, chosen, explained, derivation, layerOf, inFamily}
+use Rattle.derivation_rules.specs.Derivations.{Layer, settled, glitch, familyIn, step, claimed, chosen, explained, derivation, layerOf, inFamily}
 use Rattle.derivation_steps.specs.Meaning.{claimOf, needsOf, wayOf, Layered}
 use Rattle.derivation_rules.proofs.Choice.{same-choice}
 use Rattle.derivation_rules.proofs.Derivation.{NeedsHeld, needs-held, derivation-unfolds}

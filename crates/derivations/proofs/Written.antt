@@ -1,7 +1,7 @@
 -- Steps behind the front of a slice that takes so many: none, one that does not fit, one with others behind it, and two runs of them, one behind the
 -- other. Assumes nothing.
 use Prim.Native.Nat.{ℕ, _+_, _*_, _≤_, _<_}
-use mathlib.Core.Path.{_≡_, refl, sym, _∙_}
+use mathlib.Core.Path.{_≡_, refl, sym}
 use mathlib.Core.Logic.{_⊎_, inl, inr}
 use mathlib.Core.List.{List, [], _∷_, _++_, append-nil, append-assoc}
 use native.Mathlib.Omega.{arith}
@@ -26,20 +26,18 @@ appended-at e f a = rw (e, f) at a
 pub written-none : (slice : List ℕ) (at room : ℕ) → Written slice slice at room at []
 unfolding stepsOut
 written-none slice at room = record {
-  long = refl;
   fits = λ h. (omega arith, appended-at refl (omega arith) (appended-none slice (step-size * at)));
   over = λ h. omega arith;
 }
 
 -- there is no room for one more
 pub written-full : (slice : List ℕ) (at room : ℕ) (steps : List Step) → room ≤ at → 0 < length steps → Written slice slice at room (room + 1) steps
-written-full slice at room steps full some = record { long = refl; fits = λ h. absurd (omega arith); over = λ h. omega arith }
+written-full slice at room steps full some = record { fits = λ h. absurd (omega arith); over = λ h. omega arith }
 
 -- two runs of steps
 pub written-more : {before between after : List ℕ} {at room next end : ℕ} {firsts seconds : List Step} → Written before between at room next firsts
     → Written between after next room end seconds → Written before after at room end (firsts ++ seconds)
 written-more {before} {between} {after} {at} {room} {next} {end} {firsts} {seconds} a b = record {
-  long = b .long ∙ a .long;
   fits = λ h.
       let (n, first) = a .fits (omega (arith, length-append firsts seconds)) in
       let (e, second) = b .fits (omega (arith, length-append firsts seconds)) in (
@@ -59,7 +57,6 @@ written-one : {before after : List ℕ} {at room : ℕ} (s : Step) → at < room
     → Appended before after (step-size * at) (step-size * (at + 1)) (stepBytes s) → Written before after at room (at + 1) (s ∷ [])
 unfolding stepsOut
 written-one s h a = record {
-  long = a .long;
   fits = λ _. (refl, appended-as (sym (append-nil (stepBytes s))) a);
   over = λ over. absurd (omega arith);
 }

@@ -42,7 +42,6 @@ HeldEach value bound (Two c d) = Held value bound c × Held value bound d
 -- Steps go behind the first `at` steps of a slice that takes `room` steps: where they fit they stand there, and `next` steps stand in all; where
 -- they do not, `next` tells so.
 pub record Written (before after : List ℕ) (at room next : ℕ) (steps : List Step) : Type 0 where
-  pub long : length after ≡ length before
   pub fits : at + length steps ≤ room → (next ≡ at + length steps) × Appended before after (step-size * at) (step-size * (at + length steps)) (stepsOut steps)
   pub over : room < at + length steps → room < next
 

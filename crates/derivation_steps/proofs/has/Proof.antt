@@ -1,10 +1,7 @@
 -- `has` meets its contract: it looks into the part that holds the node's family in the layer. Assumes nothing.
-use Prim.Native.Nat.{_*_, _+_}
-use mathlib.Core.Path.{_≡_, sym, ap, _∙_}
-use native.Mathlib.Omega.{arith}
+use mathlib.Core.Path.{sym, ap, _∙_}
 use borrow.Author.Needs.{needs}
 use Rattle.rules.specs.Lists.{member}
-use Rattle.rules.specs.Families.{Family}
 use Rattle.derivation_rules.specs.Derivations.{claimed}
 use Rattle.derivation_steps.proofs.Claims.{part-of}
 use Rattle.derivation_steps.proofs.has.Statement.{statement}

@@ -1,13 +1,12 @@
 -- `lowest_set` meets its contract: the walk over the sets stops at the first that works, so no lower one does. Assumes nothing.
-use Prim.Native.Nat.{ℕ, _+_, _-_, _≤_, _<_}
-use mathlib.Core.Path.{_≡_, refl, sym, ap, _∙_}
+use Prim.Native.Nat.{ℕ, _-_, _≤_, _<_}
+use mathlib.Core.Path.{_≡_, sym, _∙_}
 use mathlib.Core.Bool.{Bool, true, false, _&&_}
 use mathlib.Core.List.{List}
 use native.Mathlib.Omega.{arith}
 use borrow.Author.Needs.{needs}
 use borrow.Author.Count as count
 use lib.Bits.{bitXor}
-use lib.Dec.{T}
 use lib.ListN.{getD}
 use Rattle.rules.specs.Records.{most-nodes, most-sets}
 use Rattle.rules.specs.Families.{constant}

@@ -1,8 +1,7 @@
 -- `put_step` meets its contract: five stores, one behind the other. Assumes nothing.
-use Prim.Native.Nat.{_+_, _*_, _≤_}
 use native.Mathlib.Omega.{arith}
 use borrow.Author.Needs.{needs}
-use lib.ListN.{length, length-set}
+use lib.ListN.{length-set}
 use Rattle.derivation_rules.specs.Derivations.{stepBytes}
 use Rattle.derivation_steps.proofs.Claims.{layer-number}
 use Rattle.derivation_steps.proofs.Bytes.{five-bytes}

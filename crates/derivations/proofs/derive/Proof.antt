@@ -1,10 +1,10 @@
 -- `derive` meets its contract: the steps stand at the front of an array that has room for as many as there may be, and are copied to the slice where they
 -- fit. Assumes nothing.
 use Prim.Native.Nat.{ℕ, _*_, _≤_}
-use mathlib.Core.Path.{_≡_, refl, sym, _∙_}
+use mathlib.Core.Path.{_≡_, sym}
 use native.Mathlib.Omega.{arith}
 use borrow.Author.Needs.{needs}
-use lib.ListN.{length, take}
+use lib.ListN.{length}
 use lib.Seq.{length-take-le, take-length}
 use Rattle.derivation_rules.specs.Derivations.{step-size, fitting, derivable}
 use Rattle.derivations.specs.declared.Derived.the-variants.{Steps}

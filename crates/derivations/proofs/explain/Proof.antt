@@ -1,5 +1,5 @@
 -- `explain` meets its contract: the families of all nodes are made, the set is looked up, its steps are written and counted. Assumes nothing.
-use Prim.Native.Nat.{ℕ, _*_, _≤_}
+use Prim.Native.Nat.{ℕ}
 use mathlib.Core.Path.{_≡_, refl, sym, _∙_}
 use mathlib.Core.Bool.{true}
 use mathlib.Core.List.{List, _++_}
