@@ -155,7 +155,8 @@ module _ (n : Netlist) (formed : WellFormed n) where
   gate-lower {a = a} {b} (or-gate is) = (operand-lower is a (member-head a _), operand-lower is b (second-in a b))
 
   -- each set is one of those that there may be
-  small : (ℓ : Layer) (a : ℕ) → All (λ A. A < most-sets) (familyIn ℓ (familiesAt n a))
+  -- a node's family in either layer is of sets that there may be
+  pub small : (ℓ : Layer) (a : ℕ) → All (λ A. A < most-sets) (familyIn ℓ (familiesAt n a))
   unfolding familyIn
   small settled a = families-small n formed a .0
   small glitch a = families-small n formed a .1

@@ -14,8 +14,6 @@ use Rattle.rules.specs.Records.{WellFormed, input, most-nodes, most-sets}
 use Rattle.rules.specs.Families.{constant, families, familiesAt}
 use Rattle.rules.specs.Slices.{entry, workBytes}
 use Rattle.rules.proofs.Tests.{pass, and-left, and-right}
-use Rattle.rules.proofs.Members.{All}
-use Rattle.rules.proofs.Bounds.{families-small}
 use Rattle.netlists.specs.declared.Netlist.{Netlist}
 use Rattle.netlists.specs.Netlists.{blank, flatOf}
 use Rattle.netlists.proofs.Netlists.{value-count, value-entry, few-nodes, one-netlist}
@@ -29,14 +27,8 @@ use Rattle.derivation_steps.specs.declared.Way.{Way}
 use Rattle.derivation_rules.specs.Derivations.{Layer, settled, glitch, familyIn, step, claimed, chosen, explained, derivation, layerOf, inFamily}
 use Rattle.derivation_steps.specs.Meaning.{claimOf, needsOf, wayOf, Layered}
 use Rattle.derivation_rules.proofs.Choice.{same-choice}
-use Rattle.derivation_rules.proofs.Derivation.{NeedsHeld, needs-held, derivation-unfolds}
+use Rattle.derivation_rules.proofs.Derivation.{small, NeedsHeld, needs-held, derivation-unfolds}
 use Rattle.derivations.specs.Written.{Known, Held, HeldEach}
-
--- a family of every netlist that obeys the record rules is of sets that there may be
-small : (n : R.Netlist) → WellFormed n → (ℓ : Layer) (i : ℕ) → All (λ A. A < most-sets) (familyIn ℓ (familiesAt n i))
-unfolding familyIn
-small n formed settled i = families-small n formed i .0
-small n formed glitch i = families-small n formed i .1
 
 -- a record that can stand at a number can stand at a higher one
 placed-higher : {i j : ℕ} {node : _} → i ≤ j → Placed i node → Placed j node
