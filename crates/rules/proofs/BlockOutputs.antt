@@ -6,12 +6,13 @@ use mathlib.Core.Bool.{true, false, xor}
 use mathlib.Core.List.{List, [], _∷_}
 use lib.ListN.{replicate}
 use Rattle.rules.specs.declared.Node.{Node}
+use Rattle.rules.specs.declared.NodeRecord.{NodeRecord}
 use Rattle.rules.specs.Lists.{tabulate}
 use Rattle.rules.specs.Records.{most-nodes, bits}
 use Rattle.rules.specs.Values.{exclusiveOr, valueRule, values, feedingRule, feedings, feeding}
 use Rattle.rules.specs.Families.{familiesAt}
 use Rattle.rules.specs.Checks.{answered, refused, nodeCheck, numberCheck, queried, queriedWith}
-use Rattle.rules.specs.Slices.{entry, filled, nodesAfter}
+use Rattle.rules.specs.Slices.{entry, markNumber, nodeRecord, nodeRecords, filled, nodesAfter}
 use Rattle.rules.specs.Listing.{word, digits, decimal, line, kindName, nodeLines, halfLine, netlistText, textOf, listing}
 use Rattle.rules.specs.Queries.{Given, given, valueQuery, feedingQuery, membershipQuery}
 use Rattle.rules.specs.Blocks.{P3, P9, P10}
@@ -37,15 +38,35 @@ texts = (refl, refl, refl)
 
 -- ---- the node records
 
-abbrev node : (kind first second set : ℕ) → Node
-node k a b s = record { kind = k; first = a; second = b; set = s }
+-- a node, with its settled and its glitch mark
+abbrev node : (kind first second set settled glitch : ℕ) → NodeRecord
+node k a b s m g = record { node = record { kind = k; first = a; second = b; set = s }; settled = m; glitch = g }
 
--- the entries of a netlist of seven nodes in a slice of nine, whose last two stay; and on a refusal all stay
-pub records : (nodesAfter each-kind (replicate 9 (node 9 9 9 9)) 1792
-    ≡ node 2 0 0 3 ∷ node 2 0 0 4 ∷ node 3 1 0 0 ∷ node 4 2 0 0 ∷ node 5 3 1 0 ∷ node 6 4 0 0 ∷ node 7 5 0 0 ∷ replicate 2 (node 9 9 9 9))
-    × (nodesAfter each-kind (replicate 9 (node 9 9 9 9)) 1791 ≡ replicate 9 (node 9 9 9 9))
-unfolding replyTo entry filled nodesAfter
+abbrev stays : NodeRecord
+stays = node 9 9 9 9 9 9
+
+-- the entries of a netlist of seven nodes, none of which reports a set, in a slice of nine, whose last two stay; and on a refusal all stay
+pub records : (nodesAfter each-kind (replicate 9 stays) 1792
+    ≡ node 2 0 0 3 0 0 ∷ node 2 0 0 4 0 0 ∷ node 3 1 0 0 0 0 ∷ node 4 2 0 0 0 0 ∷ node 5 3 1 0 0 0 ∷ node 6 4 0 0 0 0 ∷ node 7 5 0 0 0 0
+    ∷ replicate 2 stays)
+    × (nodesAfter each-kind (replicate 9 stays) 1791 ≡ replicate 9 stays)
+unfolding replyTo entry markNumber nodeRecord nodeRecords tabulate filled nodesAfter
 records = (refl, refl)
+
+-- Several suspects in each layer: a secret and a mask; input 0 is the bare secret and has no mark, input 1 both; 2 XOR(0,1), the mask, is marked
+-- for glitches alone; 3 NOT 0 and 4 register 3 are marked in both layers; 5 XOR(2,1), the secret again, is too; 6 XOR(1,1), nothing, in neither,
+-- though its settled family is that of the empty set; 7 is a register of 2, of which no mark is left, since nothing passes it but the settled mask.
+abbrev pub marked : List ℕ
+marked =
+    0x01 ∷ 0x00 ∷ 0x01 ∷ 0x01
+    ∷ 0x02 ∷ 0x01 ∷ 0x00 ∷ 0x02 ∷ 0x03 ∷ 0x00
+    ∷ 0x04 ∷ 0x00 ∷ 0x01 ∷ 0x03 ∷ 0x00 ∷ 0x07 ∷ 0x03 ∷ 0x04 ∷ 0x02 ∷ 0x01 ∷ 0x04 ∷ 0x01 ∷ 0x01 ∷ 0x07 ∷ 0x02
+    ∷ 0x00 ∷ []
+
+pub marked-records : nodesAfter marked (replicate 8 stays) 2048
+    ≡ node 2 0 0 1 0 0 ∷ node 2 0 0 3 0 0 ∷ node 4 0 1 0 0 1 ∷ node 3 0 0 0 1 1 ∷ node 7 3 0 0 1 1 ∷ node 4 2 1 0 1 1 ∷ node 4 1 1 0 0 0 ∷ node 7 2 0 0 0 0 ∷ []
+unfolding replyTo entry markNumber nodeRecord nodeRecords tabulate filled nodesAfter
+marked-records = refl
 
 -- ---- queries
 

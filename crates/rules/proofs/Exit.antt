@@ -1,20 +1,21 @@
 -- The lent slices at exit, entry by entry and bit by bit: the node records, the two families of each node, and beyond them what stood there;
 -- on a refusal all that stood there. Both are as long as at entry, since what is written fits, by checks 10 and 11. Assumes nothing.
 use Prim.Native.Nat.{ℕ, _+_, _*_, _-_, _/_, _%_, _^_, _≤_, _<_}
-use mathlib.Core.Path.{_≡_, refl, ap, _∙_}
+use mathlib.Core.Path.{_≡_, refl, ap, ap₂, _∙_}
 use mathlib.Core.List.{List, []}
 use native.Mathlib.Omega.{arith}
-use lib.ListN.{length, getD, drop, length-append, length-drop, length-map, List·getD-append, List·getD-map}
+use lib.ListN.{length, getD, drop, length-append, length-drop, List·getD-append}
 use lib.Seq.{getD-append-add, getD-drop}
-use Rattle.rules.specs.declared.Node.{Node}
+use Rattle.rules.specs.declared.NodeRecord.{NodeRecord}
 use Rattle.rules.specs.Lists.{member}
 use Rattle.rules.specs.Records.{input, Netlist, odd, most-sets}
-use Rattle.rules.specs.Families.{familiesRule, families, familiesAt}
+use Rattle.rules.specs.Families.{familiesRule, families, familiesAt, mark}
 use Rattle.rules.specs.Checks.{Outcome, answered, refused, admitted}
-use Rattle.rules.specs.Slices.{entry, workBytes, filled, nodesAfter, workAfter}
+use Rattle.rules.specs.Slices.{nodeRecord, nodeRecords, workBytes, filled, nodesAfter, workAfter}
 use Rattle.rules.proofs.Tables.{table-length}
 use Rattle.rules.proofs.Room.{admitted-says}
-use Rattle.rules.proofs.Packing.{work-length, settled-bit, glitch-bit}
+use Rattle.rules.proofs.Packing.{tabulate-length, tabulate-at, work-length, settled-bit, glitch-bit}
+use Rattle.rules.proofs.Halves.{layer-mark}
 
 -- ---- a slice that an answer fills and a refusal keeps
 
@@ -42,30 +43,39 @@ module _ {ℓ} {A : Type ℓ} (f : Netlist → List A) (before : List A) where
 
 -- ---- the node records
 
-module _ (bytes : List ℕ) (before : List Node) (work : ℕ) where
+-- one entry a node
+pub records-length : (n : Netlist) → length (nodeRecords n) ≡ length (n .nodes)
+unfolding nodeRecords
+records-length n = tabulate-length _ (length (n .nodes))
+
+module _ (bytes : List ℕ) (before : List NodeRecord) (work : ℕ) where
   pub nodes-refused : (k p : ℕ) → admitted bytes (length before) work ≡ refused k p → nodesAfter bytes before work ≡ before
   unfolding nodesAfter
   nodes-refused k p e = filled-refused _ before (admitted bytes (length before) work) k p e
 
-  -- one entry a node
-  pub nodes-written : (n : Netlist) → admitted bytes (length before) work ≡ answered n → (i : ℕ) → i < length (n .nodes)
-      → getD (nodesAfter bytes before work) i (entry (input 0)) ≡ entry (getD (n .nodes) i (input 0))
-  unfolding nodesAfter
-  nodes-written n e i h =
-      filled-front _ before (admitted bytes (length before) work) n e i (entry (input 0)) (simp length-map h)
-      ∙ List·getD-map entry (n .nodes) i (input 0)
+  -- each is that of the node's cell and of what it reports in each layer
+  pub nodes-written : (n : Netlist) → admitted bytes (length before) work ≡ answered n → (i : ℕ) (d : NodeRecord) → i < length (n .nodes)
+      → getD (nodesAfter bytes before work) i d
+      ≡ nodeRecord (getD (n .nodes) i (input 0))
+      (mark (n .variables) (getD (n .nodes) i (input 0)) (familiesAt n i .settled))
+      (mark (n .variables) (getD (n .nodes) i (input 0)) (familiesAt n i .glitch))
+  unfolding nodesAfter nodeRecords
+  nodes-written n e i d h =
+      filled-front _ before (admitted bytes (length before) work) n e i d (omega (arith, records-length n))
+      ∙ tabulate-at _ (length (n .nodes)) i d h
+      ∙ ap₂ (nodeRecord (getD (n .nodes) i (input 0))) (layer-mark (λ F. F .settled) n i) (layer-mark (λ F. F .glitch) n i)
 
   -- entries beyond these keep their contents
-  pub nodes-beyond : (n : Netlist) → admitted bytes (length before) work ≡ answered n → (i : ℕ) (d : Node) → length (n .nodes) ≤ i
+  pub nodes-beyond : (n : Netlist) → admitted bytes (length before) work ≡ answered n → (i : ℕ) (d : NodeRecord) → length (n .nodes) ≤ i
       → getD (nodesAfter bytes before work) i d ≡ getD before i d
   unfolding nodesAfter
-  nodes-beyond n e i d h = filled-beyond _ before (admitted bytes (length before) work) n e i d (simp length-map h)
+  nodes-beyond n e i d h = filled-beyond _ before (admitted bytes (length before) work) n e i d (omega (arith, records-length n))
 
   pub nodes-after-length : length (nodesAfter bytes before work) ≡ length before
   unfolding nodesAfter
   nodes-after-length =
       filled-length _ before (admitted bytes (length before) work)
-      (λ n e. simp length-map (admitted-says bytes (length before) work n e .room .enough-entries))
+      (λ n e. omega (arith, records-length n, admitted-says bytes (length before) work n e .room .enough-entries))
 
 -- ---- the work slice
 

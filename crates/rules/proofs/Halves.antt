@@ -13,7 +13,7 @@ use lib.Dec.{T, T-not}
 use lib.ListN.{length, getD, List·getD-eq-default, List·getD-map, length-map}
 use Rattle.rules.specs.Lists.{member}
 use Rattle.rules.specs.Records.{Class, Cell, input, Netlist, variableCount}
-use Rattle.rules.specs.Families.{Family, Families, constant, familiesRule, families, familiesAt, suspect, tested, earlier, better, reported, Finding, clear, suspectAt, mark, marks, lowest, half, findings}
+use Rattle.rules.specs.Families.{Family, Families, constant, familiesRule, families, familiesAt, suspect, tested, earlier, better, reported, Finding, clear, suspectAt, mark, marks, layerMarks, lowest, half, findings}
 use Rattle.rules.specs.Checks.{Outcome, answered, refused, andThen, admitted}
 use Rattle.rules.specs.Slices.{reply}
 use Rattle.rules.specs.Demands.{GlitchClear, TestedNode, NoSuspect, NothingSuspect}
@@ -187,29 +187,27 @@ Says layer n clear =
 Says layer n (suspectAt i A) = NamesLowest layer n i A
 
 -- what the nodes report, one by one
-reports : (Families → Family) → Netlist → List (Option ℕ)
-reports layer n = marks (n .variables) (n .nodes) (map layer (families n))
+pub layer-mark : (layer : Families → Family) (n : Netlist) (i : ℕ)
+    → getD (layerMarks layer n) i none ≡ mark (n .variables) (getD (n .nodes) i (input 0)) (layer (familiesAt n i))
+unfolding layerMarks familiesAt
+layer-mark layer n i =
+    rw (
+      marks-at (n .variables) (n .nodes) (map layer (families n)) (layer constant) i
+          (unfold families in (omega (arith, length-map (families n) layer, table-length familiesRule [] (n .nodes)))),
+      List·getD-map layer (families n) i constant,
+    )
 
-node-says : (layer : Families → Family) (n : Netlist) (i : ℕ) (o : Option ℕ) → getD (reports layer n) i none ≡ o
+node-says : (layer : Families → Family) (n : Netlist) (i : ℕ) (o : Option ℕ) → getD (layerMarks layer n) i none ≡ o
     → Marking (n .variables) (getD (n .nodes) i (input 0)) (layer (familiesAt n i)) o
-unfolding reports familiesAt
 node-says layer n i o e =
-    subst (Marking (n .variables) (getD (n .nodes) i (input 0)) (layer (familiesAt n i))) (sym at-node ∙ e)
+    subst (Marking (n .variables) (getD (n .nodes) i (input 0)) (layer (familiesAt n i))) (sym (layer-mark layer n i) ∙ e)
     (marking (n .variables) (getD (n .nodes) i (input 0)) (layer (familiesAt n i)))
-  where
-    at-node : getD (reports layer n) i none ≡ mark (n .variables) (getD (n .nodes) i (input 0)) (layer (familiesAt n i))
-    at-node =
-        rw (
-          marks-at (n .variables) (n .nodes) (map layer (families n)) (layer constant) i
-              (unfold families in (omega (arith, length-map (families n) layer, table-length familiesRule [] (n .nodes)))),
-          List·getD-map layer (families n) i constant,
-        )
 
 half-says : (layer : Families → Family) (n : Netlist) → Says layer n (half layer n)
-unfolding half reports
-half-says layer n = go (lowest 0 (reports layer n)) (lowest-says 0 (reports layer n))
+unfolding half
+half-says layer n = go (lowest 0 (layerMarks layer n)) (lowest-says 0 (layerMarks layer n))
   where
-    go : (f : Finding) → Lowest 0 (reports layer n) f → Says layer n f
+    go : (f : Finding) → Lowest 0 (layerMarks layer n) f → Says layer n f
     go clear r = λ i t. node-says layer n i none (r (suc i) i (le-refl (suc i))) (t .isTested)
     go (suspectAt i A) (k, e, s, before) =
         let (t, r) = node-says layer n k (some A) s in

@@ -8,23 +8,24 @@ pub mod Lists
 pub mod Members
 pub mod Tables
 pub mod Entries
--- reading a file; the lent slices at exit; what replies say
+-- reading a file; what replies say
 pub mod Records
 pub mod Reading
 pub mod Written
 pub mod Room
 pub mod Sets
 pub mod Packing
-pub mod Exit
 pub mod Decimal
 pub mod Listing
 pub mod Paper
--- families, feeding points and the two halves of the answer
+-- families, feeding points and the two halves of the answer; the lent slices at exit, and the marks in them
 pub mod Once
 pub mod Bounds
 pub mod Feeding
 pub mod ReportOrder
 pub mod Halves
+pub mod Exit
+pub mod Marks
 -- demand 3, and counts on points
 pub mod Points
 pub mod Settings

@@ -124,9 +124,13 @@ lowest i [] = clear
 lowest i (none ∷ rest) = lowest (suc i) rest
 lowest i (some A ∷ rest) = suspectAt i A
 
--- one half of the answer, over one of the two families
+-- what all nodes report over one of the two families
+unfoldable pub layerMarks : (Families → Family) → Netlist → List (Option ℕ)
+layerMarks layer n = marks (n .variables) (n .nodes) (map layer (families n))
+
+-- one half of the answer
 unfoldable pub half : (Families → Family) → Netlist → Finding
-half layer n = lowest 0 (marks (n .variables) (n .nodes) (map layer (families n)))
+half layer n = lowest 0 (layerMarks layer n)
 
 -- the answer: both halves, and the counts of variables and nodes
 pub record Findings : Type 0 where

@@ -9,13 +9,21 @@ pub const MOST_NODES: usize = 200;
 // How many work bytes hold the families of every netlist, 256 a node.
 pub const MOST_WORK: usize = 256 * MOST_NODES;
 
-// A node record: the kind, the first and second operand (0 where the kind has none) and an input's
+// A node by value: the kind, the first and second operand (0 where the kind has none) and an input's
 // set (0 for every other kind).
 pub struct Node {
     pub kind: u8,
     pub first: u8,
     pub second: u8,
     pub set: u16,
+}
+
+// A node record of the lent slice: the node and its two marks, the set that it reports for settled signals and that for glitching
+// ones, or 0 for none. The empty set is number 0 and is never suspect, so no reported set is 0.
+pub struct NodeRecord {
+    pub node: Node,
+    pub settled: u16,
+    pub glitch: u16,
 }
 
 // One half of the answer: clear, or the lowest suspect node and the set that it reports: of its suspect sets the one with fewest
