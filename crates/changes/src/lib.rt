@@ -1,5 +1,6 @@
-// An edit of an open block by value, over its work bytes: a new node at the end, or a node given up. An addition works out the families
-// of the new node and of no other; a removal moves those behind the node down and works out none; then the answer is looked for.
+// An edit of an open block by value with its marks, over its work bytes: a new node at the end, or a node given up. An addition works out the
+// families and the marks of the new node and of no other; a removal moves those behind the node down and works out none; the answer is read from
+// the marks.
 ghost use Prim.Native.Nat.{_<_};
 ghost use lib.ListN.{length};
 ghost use Rattle.rules.specs.Records.{most-nodes};
@@ -9,6 +10,7 @@ ghost use Rattle.open_blocks.specs.Edits as Edits;
 ghost use Rattle.open_blocks.specs.Meaning.{editOf};
 ghost use Rattle.changes.specs.Changes.{Limited, Adds, GivesUp, Changes};
 use checker::Examined;
+use marks::Marks;
 use netlists::Netlist;
 use open_blocks::Edit;
 use open_blocks::Offer;
@@ -17,12 +19,24 @@ use rules::MOST_VARIABLES;
 use rules::Node;
 use rules::Refusal;
 
+// A block by value, and its marks.
+pub struct Loaded {
+    pub block: Netlist,
+    pub marks: Marks,
+}
+
 // ---- a new node
 
 // The answer for a block with a node more, which can stand at its number, or the refusal of slices that are too short for it.
-fn add_offered(block: Netlist, node: Node, entries: usize, work: &mut [u8]) -> Examined
+fn add_offered(
+    block: Netlist,
+    marks: Marks,
+    node: Node,
+    entries: usize,
+    work: &mut [u8],
+) -> Examined
     requires { ⌜ Limited block × (block .count < most-nodes) × Placed (block .count) node ⌝ }
-    ensures { λ r. ⌜ Adds block node entries r (now (work .entry)) (now (work .exit)) ⌝ }
+    ensures { λ r. ⌜ Adds block marks node entries r (now (work .entry)) (now (work .exit)) ⌝ }
 {
     let count = block.count;
     let needed = count + 1;
@@ -34,26 +48,33 @@ fn add_offered(block: Netlist, node: Node, entries: usize, work: &mut [u8]) -> E
         return checker::refused(Refusal::ShortWork(bytes));
     }
     nodes::node_families(work, count, node);
-    checker::look(netlists::with_node(block, node), work)
+    let longer = netlists::with_node(block, node);
+    checker::look(longer, marks::with_last(longer, marks, work))
 }
 
 // A new node at the end of a block: its record is judged before both slices.
-fn add_node(block: Netlist, bytes: &[u8], entries: usize, work: &mut [u8]) -> Examined
+fn add_node(
+    block: Netlist,
+    marks: Marks,
+    bytes: &[u8],
+    entries: usize,
+    work: &mut [u8],
+) -> Examined
     requires { ⌜ Limited block ⌝ }
-    ensures { λ r. ⌜ Changes block (Edits.add (now (bytes .entry))) entries r (now (work .entry)) (now (work .exit)) ⌝ }
+    ensures { λ r. ⌜ Changes block marks (Edits.add (now (bytes .entry))) entries r (now (work .entry)) (now (work .exit)) ⌝ }
 {
     match open_blocks::offered(bytes, block.variables, block.count) {
         Offer::Refused(refusal) => checker::refused(refusal),
-        Offer::Node(node) => add_offered(block, node, entries, work),
+        Offer::Node(node) => add_offered(block, marks, node, entries, work),
     }
 }
 
 // ---- a node given up
 
 // The answer for a block without one of its nodes, or the refusal where another node names it.
-fn give_up(block: Netlist, gone: usize, work: &mut [u8]) -> Examined
+fn give_up(block: Netlist, marks: Marks, gone: usize, work: &mut [u8]) -> Examined
     requires { ⌜ Sized block (length (now work)) × (gone < block .count) ⌝ }
-    ensures { λ r. ⌜ GivesUp block gone r (now (work .entry)) (now (work .exit)) ⌝ }
+    ensures { λ r. ⌜ GivesUp block marks gone r (now (work .entry)) (now (work .exit)) ⌝ }
 {
     let count = block.count;
     let by = open_blocks::naming(block, gone);
@@ -61,13 +82,20 @@ fn give_up(block: Netlist, gone: usize, work: &mut [u8]) -> Examined
         return checker::refused(Refusal::StillNamed(by));
     }
     open_blocks::move_down(work, gone, count);
-    checker::look(open_blocks::without_node(block, gone), work)
+    let fewer = open_blocks::without_marks(marks, gone, count);
+    checker::look(open_blocks::without_node(block, gone), fewer)
 }
 
 // A node given up: 12, then both slices for the nodes that the block has, then 14.
-fn remove_node(block: Netlist, gone: usize, entries: usize, work: &mut [u8]) -> Examined
+fn remove_node(
+    block: Netlist,
+    marks: Marks,
+    gone: usize,
+    entries: usize,
+    work: &mut [u8],
+) -> Examined
     requires { ⌜ Limited block ⌝ }
-    ensures { λ r. ⌜ Changes block (Edits.remove gone) entries r (now (work .entry)) (now (work .exit)) ⌝ }
+    ensures { λ r. ⌜ Changes block marks (Edits.remove gone) entries r (now (work .entry)) (now (work .exit)) ⌝ }
 {
     let count = block.count;
     let bytes = 256 * count;
@@ -80,16 +108,25 @@ fn remove_node(block: Netlist, gone: usize, entries: usize, work: &mut [u8]) -> 
     if work.len() < bytes {
         return checker::refused(Refusal::ShortWork(bytes));
     }
-    give_up(block, gone, work)
+    give_up(block, marks, gone, work)
 }
 
 // ---- an edit
 
-// An edit of a block by value, in slices of so many entries and of these work bytes. No block has more variables or nodes than there
+// An edit of a block by value with its marks, in slices of so many entries and of these work bytes. No block has more variables or nodes than there
 // may be: a state that says so is nobody's, and is refused.
-pub fn change(block: Netlist, edit: Edit, bytes: &[u8], entries: usize, work: &mut [u8]) -> Examined
-    ensures { λ r. ⌜ Changes block (editOf edit (now (bytes .entry))) entries r (now (work .entry)) (now (work .exit)) ⌝ }
+pub fn change(
+    loaded: Loaded,
+    edit: Edit,
+    bytes: &[u8],
+    entries: usize,
+    work: &mut [u8],
+) -> Examined
+    ensures { λ r. ⌜ Changes (loaded .block) (loaded .marks) (editOf edit (now (bytes .entry))) entries r
+        (now (work .entry)) (now (work .exit)) ⌝ }
 {
+    let block = loaded.block;
+    let marks = loaded.marks;
     if MOST_VARIABLES < block.variables {
         return checker::refused(Refusal::OverLimit(block.count));
     }
@@ -97,7 +134,7 @@ pub fn change(block: Netlist, edit: Edit, bytes: &[u8], entries: usize, work: &m
         return checker::refused(Refusal::OverLimit(block.count));
     }
     match edit {
-        Edit::Add => add_node(block, bytes, entries, work),
-        Edit::Remove(node) => remove_node(block, node, entries, work),
+        Edit::Add => add_node(block, marks, bytes, entries, work),
+        Edit::Remove(node) => remove_node(block, marks, node, entries, work),
     }
 }

@@ -10,38 +10,42 @@ ghost use Rattle.rules.specs.Slices.{nodesAfter, workAfter, reply};
 ghost use Rattle.rules.specs.Checks.{answered, slicesFit, admitted};
 ghost use Rattle.rules.specs.Demands.{GlitchClear, NothingSuspect, OneProbe};
 ghost use Rattle.rules.specs.Paper.{replyOf};
-ghost use Rattle.netlists.specs.Netlists.{blank, flatOf, Formed, Ready, Sized, kept};
-ghost use Rattle.checker.specs.Work.{Examines, Looks, stored};
+ghost use Rattle.netlists.specs.Netlists.{flatOf, Formed, Ready, kept};
+ghost use Rattle.marks.specs.Marks.{marksOf};
+ghost use Rattle.checker.specs.Work.{Examines, Looks, recordIn, stored, unwritten};
+use marks::Marks;
 use netlists::Netlist;
 use rules::Answer;
-use rules::Node;
+use rules::NodeRecord;
 use rules::QueryOutcome;
 use rules::Refusal;
 use rules::Reply;
 
-// What is examined: the reply, and the netlist by value, which is empty on a refusal.
+// What is examined: the reply, and the netlist and its marks by value, which are those of no nodes on a refusal.
 pub struct Examined {
     pub reply: Reply,
     pub netlist: Netlist,
+    pub marks: Marks,
 }
 
 // A refusal, with nothing kept.
 pub fn refused(refusal: Refusal) -> Examined
-    ensures { λ r. ⌜ (r .reply ≡ Reply.Refused refusal) × (r .netlist ≡ flatOf Records.empty) ⌝ }
+    ensures { λ r. ⌜ (r .reply ≡ Reply.Refused refusal) × (r .netlist ≡ flatOf Records.empty) × (r .marks ≡ marksOf Records.empty) ⌝ }
 {
     Examined {
         reply: Reply::Refused(refusal),
         netlist: netlists::no_records(),
+        marks: marks::no_marks(),
     }
 }
 
-// The answer for a netlist whose families stand in the work bytes.
-pub fn look(netlist: Netlist, work: &[u8]) -> Examined
-    requires { ⌜ Sized netlist (length (now work)) ⌝ }
-    ensures { λ r. ⌜ Looks netlist (now (work .entry)) r ⌝ }
+// The answer for a netlist with its marks, from which it is read.
+pub fn look(netlist: Netlist, marks: Marks) -> Examined
+    requires { ⌜ netlist .count ≤ most-nodes ⌝ }
+    ensures { λ r. ⌜ Looks netlist marks r ⌝ }
 {
-    let settled = suspects::scan(netlist, 0, work);
-    let glitch = suspects::scan(netlist, 1, work);
+    let settled = marks::lowest_marked(marks.settled, netlist.count);
+    let glitch = marks::lowest_marked(marks.glitch, netlist.count);
     let answer = Answer {
         variables: netlist.variables,
         nodes: netlist.count,
@@ -51,6 +55,7 @@ pub fn look(netlist: Netlist, work: &[u8]) -> Examined
     Examined {
         reply: Reply::Answered(answer),
         netlist,
+        marks,
     }
 }
 
@@ -61,7 +66,7 @@ fn answer(netlist: Netlist, work: &mut [u8]) -> Examined
         Examines (answered n) r (now (work .entry)) (now (work .exit))) ⌝ }
 {
     nodes::all_families(netlist, work);
-    look(netlist, work)
+    look(netlist, marks::all_marks(netlist, work))
 }
 
 // The answer for a netlist that was read, or the refusal of slices that are too short for it.
@@ -81,10 +86,11 @@ fn admit(netlist: Netlist, entries: usize, work: &mut [u8]) -> Examined
     answer(netlist, work)
 }
 
-// The same as `check` for a slice of so many entries, with the node records by value.
+// The same as `check` for a slice of so many entries, with the netlist and its marks by value.
 pub fn examine(bytes: &[u8], entries: usize, work: &mut [u8]) -> Examined
     ensures reply { λ r. ⌜ replyOf (r .reply) ≡ reply (now (bytes .entry)) entries (length (now (work .entry))) ⌝ }
     ensures netlist { λ r. ⌜ r .netlist ≡ flatOf (kept (admitted (now (bytes .entry)) entries (length (now (work .entry))))) ⌝ }
+    ensures marks { λ r. ⌜ r .marks ≡ marksOf (kept (admitted (now (bytes .entry)) entries (length (now (work .entry))))) ⌝ }
     ensures work { λ _. ⌜ now (work .exit) ≡ workAfter (now (bytes .entry)) entries (now (work .entry)) ⌝ }
     ensures clear { λ r. ⌜ GlitchClear (replyOf (r .reply)) ↔
         NothingSuspect (now (bytes .entry)) entries (length (now (work .entry))) ⌝ }
@@ -109,12 +115,17 @@ fn count_of(examined: Examined) -> usize
     netlist.count
 }
 
-fn record_of(examined: Examined, i: usize) -> Node
+fn record_of(examined: Examined, i: usize) -> NodeRecord
     requires { ⌜ i < most-nodes ⌝ }
-    ensures { λ r. ⌜ r ≡ getD (examined .netlist .nodes) i blank ⌝ }
+    ensures { λ r. ⌜ r ≡ recordIn examined i ⌝ }
 {
     let netlist = examined.netlist;
-    netlist.nodes[i]
+    let marks = examined.marks;
+    NodeRecord {
+        node: netlist.nodes[i],
+        settled: marks.settled[i],
+        glitch: marks.glitch[i],
+    }
 }
 
 fn reply_of(examined: Examined) -> Reply
@@ -124,9 +135,9 @@ fn reply_of(examined: Examined) -> Reply
 }
 
 // Writes the node records that were examined to the front of the slice.
-pub fn store(nodes: &mut [Node], examined: Examined)
+pub fn store(nodes: &mut [NodeRecord], examined: Examined)
     requires { ⌜ (examined .netlist .count ≤ length (now nodes)) × (examined .netlist .count ≤ most-nodes) ⌝ }
-    ensures { λ _. ⌜ now (nodes .exit) ≡ stored (examined .netlist .nodes) (now (nodes .entry)) (examined .netlist .count) ⌝ }
+    ensures { λ _. ⌜ now (nodes .exit) ≡ stored (recordIn examined) (now (nodes .entry)) (examined .netlist .count) ⌝ }
 {
     let count = count_of(examined);
     let mut i = 0;
@@ -137,18 +148,18 @@ pub fn store(nodes: &mut [Node], examined: Examined)
 }
 
 // The node record at an entry.
-pub fn node_at(nodes: &[Node], i: usize) -> Node
+pub fn node_at(nodes: &[NodeRecord], i: usize) -> NodeRecord
     requires { ⌜ i < length (now nodes) ⌝ }
-    ensures { λ r. ⌜ r ≡ getD (now (nodes .entry)) i blank ⌝ }
+    ensures { λ r. ⌜ r ≡ getD (now (nodes .entry)) i unwritten ⌝ }
 {
     nodes[i]
 }
 
-// Checks netlist bytes: the reply, the node records at the front of `nodes` and the families at the front of `work`. A
+// Checks netlist bytes: the reply, the node records with their marks at the front of `nodes` and the families at the front of `work`. A
 // refusal leaves both slices as they were. The glitch half is clear exactly when nothing is refused and no tested node's
 // glitch family holds a suspect set; and then one probe on any gate or register sees each pattern of settled values as
 // often for one setting of the secrets as for another.
-pub fn check(bytes: &[u8], nodes: &mut [Node], work: &mut [u8]) -> Reply
+pub fn check(bytes: &[u8], nodes: &mut [NodeRecord], work: &mut [u8]) -> Reply
     ensures reply { λ r. ⌜ replyOf r ≡ reply (now (bytes .entry)) (length (now (nodes .entry))) (length (now (work .entry))) ⌝ }
     ensures nodes { λ _. ⌜ now (nodes .exit) ≡
         nodesAfter (now (bytes .entry)) (now (nodes .entry)) (length (now (work .entry))) ⌝ }

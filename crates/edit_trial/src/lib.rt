@@ -13,19 +13,19 @@ use edits::Edited;
 use open_blocks::Edit;
 use open_blocks::State;
 use rules::MOST_NODES;
-use rules::Node;
+use rules::NodeRecord;
 
 // What opening a block or an edit of it leaves: what the call gives, and all entries.
 pub struct SeenEdit {
     pub edited: Edited,
-    pub nodes: [Node; MOST_NODES],
+    pub nodes: [NodeRecord; MOST_NODES],
 }
 
 // Opens a block over the first `entries` of 200 entries (or over all where there are not so many), which hold `nodes`.
 pub fn open_over(
     bytes: &[u8],
     entries: usize,
-    nodes: [Node; MOST_NODES],
+    nodes: [NodeRecord; MOST_NODES],
     work: &mut [u8],
 ) -> SeenEdit
     ensures reply { λ r. ⌜ replyOf (r .edited .reply) ≡ reply (now (bytes .entry)) (min entries most-nodes) (length (now (work .entry))) ⌝ }
@@ -49,7 +49,7 @@ pub fn edit_over(
     edit: Edit,
     bytes: &[u8],
     entries: usize,
-    nodes: [Node; MOST_NODES],
+    nodes: [NodeRecord; MOST_NODES],
     work: &mut [u8],
 ) -> SeenEdit
     ensures { λ r. ⌜ ((n : Records.Netlist) → IsOpen n state (take (min entries most-nodes) nodes) (now (work .entry)) →

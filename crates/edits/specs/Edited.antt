@@ -1,28 +1,42 @@
 -- What a call gives beside both slices, and what holds of a call whatever it was handed. Cited by the contracts of this crate. Assumes nothing.
 use Prim.Native.Nat.{ℕ}
 use mathlib.Core.Path.{_≡_}
-use mathlib.Core.List.{List}
+use mathlib.Core.List.{List, []}
 use lib.ListN.{length, set, replicate}
-use Rattle.rules.specs.declared.Node.{Node}
+use Rattle.rules.specs.declared.NodeRecord.{NodeRecord}
 use Rattle.rules.specs.declared.Reply.{Reply}
 use Rattle.rules.specs.declared.Reply.the-variants.{Refused, Answered}
 use Rattle.rules.specs.Records.{most-nodes}
 use Rattle.rules.specs.Checks as Checks
 use Rattle.rules.specs.Paper.{replyOf}
-use Rattle.netlists.specs.declared.Netlist.{Netlist}
 use Rattle.netlists.specs.Netlists.{blank}
+use Rattle.marks.specs.Marks.{marksIn}
 use Rattle.checker.specs.declared.Examined.{Examined}
 use Rattle.open_blocks.specs.declared.State.{State}
-use Rattle.open_blocks.specs.Work.{stateIn}
+use Rattle.open_blocks.specs.Work.{stateIn, loaded, loadedMarks}
+use Rattle.changes.specs.declared.Loaded.{Loaded}
 use Rattle.edits.specs.declared.Edited.{Edited}
 
--- a block by value of this state, with no node records yet; and one with a node record in its place
-abbrev pub unloadedOf : State → Netlist
-unloadedOf state = record { variables = state .variables; count = state .count; classes = state .classes; nodes = replicate most-nodes blank }
+-- a block by value and its marks, of a state and a slice of node records; one with no node records yet; and one with a node record in its place
+unfoldable pub loadedOf : State → List NodeRecord → Loaded
+loadedOf state nodes = record { block = loaded state nodes; marks = loadedMarks state nodes }
 
-abbrev pub withEntry : Netlist → (i : ℕ) → Node → Netlist
-withEntry block i node =
-    record { variables = block .variables; count = block .count; classes = block .classes; nodes = set (block .nodes) i node }
+abbrev pub unloadedOf : State → Loaded
+unloadedOf state = record {
+  block = record { variables = state .variables; count = state .count; classes = state .classes; nodes = replicate most-nodes blank };
+  marks = marksIn [] [];
+}
+
+abbrev pub withEntry : Loaded → (i : ℕ) → NodeRecord → Loaded
+withEntry to i r = record {
+  block = record {
+    variables = to .block .variables;
+    count = to .block .count;
+    classes = to .block .classes;
+    nodes = set (to .block .nodes) i (r .node);
+  };
+  marks = record { settled = set (to .marks .settled) i (r .settled); glitch = set (to .marks .glitch) i (r .glitch) };
+}
 
 -- the state to hand in next: a refused edit gives the state that it got
 abbrev pub nextState : Reply → (state after : State) → State
@@ -38,7 +52,7 @@ openedOf examined = record { reply = examined .reply; state = stateIn (examined 
 
 -- Whatever state and slices an edit is handed: both slices keep their lengths, and a refusal gives the state that was handed in and leaves
 -- both slices as they were.
-pub record Kept (state : State) (given : Edited) (nodes nodes′ : List Node) (work work′ : List ℕ) : Type 0 where
+pub record Kept (state : State) (given : Edited) (nodes nodes′ : List NodeRecord) (work work′ : List ℕ) : Type 0 where
   pub entries : length nodes′ ≡ length nodes
   pub bytes : length work′ ≡ length work
   pub refused : (k p : ℕ) → replyOf (given .reply) ≡ Checks.refused k p → (given .state ≡ state) × (nodes′ ≡ nodes) × (work′ ≡ work)

@@ -1,5 +1,5 @@
 // Open blocks: `open` checks a block and gives the state of it, `edit` takes a new node at the end or gives one up. The state goes in and
-// comes back by value; node records and families stay in the two lent slices. Request A3 is in `open_blocks/specs/`.
+// comes back by value; node records with their marks, and families, stay in the two lent slices. Request A3 is in `open_blocks/specs/`.
 ghost use mathlib.Core.Path.{_≡_};
 ghost use mathlib.Core.Logic.{_↔_};
 ghost use Prim.Native.Nat.{ℕ, _<_, min};
@@ -13,14 +13,15 @@ ghost use Rattle.rules.specs.Paper.{replyOf};
 ghost use Rattle.netlists.specs.Netlists.{kept};
 ghost use Rattle.open_blocks.specs.Edits.{fits, netlistAfter, replyAfter, recordsAfter, bytesAfter, NothingSuspectAfter};
 ghost use Rattle.open_blocks.specs.Meaning.{editOf, stateOf, IsOpen};
-ghost use Rattle.open_blocks.specs.Work.{loaded};
-ghost use Rattle.edits.specs.Edited.{unloadedOf, withEntry, editedOf, openedOf, Kept};
+ghost use Rattle.edits.specs.Edited.{loadedOf, unloadedOf, withEntry, editedOf, openedOf, Kept};
+use changes::Loaded;
 use checker::Examined;
 use netlists::Netlist;
 use open_blocks::Edit;
 use open_blocks::State;
 use rules::MOST_NODES;
 use rules::Node;
+use rules::NodeRecord;
 use rules::Reply;
 
 // What a call gives: the reply, and the state to hand in next.
@@ -31,12 +32,12 @@ pub struct Edited {
 
 // ---- a block by value
 
-// A block of this state, with no node records yet.
-fn unloaded(state: State) -> Netlist
+// A block of this state, with no node records and no marks yet.
+fn unloaded(state: State) -> Loaded
     ensures { λ r. ⌜ r ≡ unloadedOf state ⌝ }
 {
     let classes = state.classes;
-    Netlist {
+    let block = Netlist {
         variables: state.variables,
         count: state.count,
         classes,
@@ -46,6 +47,10 @@ fn unloaded(state: State) -> Netlist
             second: 0,
             set: 0,
         }; MOST_NODES],
+    };
+    Loaded {
+        block,
+        marks: marks::no_marks(),
     }
 }
 
@@ -64,28 +69,31 @@ fn to_load(state: State, entries: usize) -> usize
     most
 }
 
-// The block with one node record in its place.
-fn with_entry(block: Netlist, i: usize, node: Node) -> Netlist
+// The block with one node record in its place: the node, and its marks.
+fn with_entry(loaded: Loaded, i: usize, record: NodeRecord) -> Loaded
     requires { ⌜ i < most-nodes ⌝ }
-    ensures { λ r. ⌜ r ≡ withEntry block i node ⌝ }
+    ensures { λ r. ⌜ r ≡ withEntry loaded i record ⌝ }
 {
-    let mut next = block;
-    next.nodes[i] = node;
-    next
+    let mut block = loaded.block;
+    let mut marks = loaded.marks;
+    block.nodes[i] = record.node;
+    marks.settled[i] = record.settled;
+    marks.glitch[i] = record.glitch;
+    Loaded { block, marks }
 }
 
-// The block of a state, by value, with the node records at the front of the slice.
-fn load(state: State, nodes: &[Node]) -> Netlist
-    ensures { λ r. ⌜ r ≡ loaded state (now (nodes .entry)) ⌝ }
+// The block of a state, by value with its marks, from the node records at the front of the slice.
+fn load(state: State, nodes: &[NodeRecord]) -> Loaded
+    ensures { λ r. ⌜ r ≡ loadedOf state (now (nodes .entry)) ⌝ }
 {
     let count = to_load(state, nodes.len());
-    let mut block = unloaded(state);
+    let mut loaded = unloaded(state);
     let mut i = 0;
     while i < count {
-        block = with_entry(block, i, checker::node_at(nodes, i));
+        loaded = with_entry(loaded, i, checker::node_at(nodes, i));
         i += 1;
     }
-    block
+    loaded
 }
 
 // ---- what a call gives
@@ -113,7 +121,7 @@ fn edited_of(state: State, examined: Examined) -> Edited
 
 // Checks netlist bytes as `check` does, with the same reply and both slices at exit the same, and gives the state of the open block beside
 // the reply. On a refusal that is the state of no variables and no nodes.
-pub fn open(bytes: &[u8], nodes: &mut [Node], work: &mut [u8]) -> Edited
+pub fn open(bytes: &[u8], nodes: &mut [NodeRecord], work: &mut [u8]) -> Edited
     ensures reply { λ r. ⌜ replyOf (r .reply) ≡ reply (now (bytes .entry)) (length (now (nodes .entry))) (length (now (work .entry))) ⌝ }
     ensures state { λ r. ⌜ r .state ≡
         stateOf (kept (admitted (now (bytes .entry)) (length (now (nodes .entry))) (length (now (work .entry))))) ⌝ }
@@ -130,8 +138,8 @@ pub fn open(bytes: &[u8], nodes: &mut [Node], work: &mut [u8]) -> Edited
 }
 
 // Edits an open block: a new node at the end, which is one record's bytes, or a node given up, for which those bytes are not looked at.
-// The state is the last one returned for these slices, and the slices are as that call left them: then reply, state, node records and
-// families are those of the block as it now is, and its glitch half is clear exactly when no tested node's glitch family there holds a
+// The state is the last one returned for these slices, and the slices are as that call left them: then reply, state, node records
+// with their marks and families are those of the block as it now is, and its glitch half is clear exactly when no tested node's glitch family there holds a
 // suspect set; and then one probe on any gate or register of it sees each pattern of settled values as often for one setting of the
 // secrets as for another. A refusal gives the state that was handed in.
 //
@@ -139,7 +147,7 @@ pub fn open(bytes: &[u8], nodes: &mut [Node], work: &mut [u8]) -> Edited
 // slices hold, and the counting of mask settings with them. What still holds then: the call returns and does nothing undefined, both
 // slices keep their lengths, and a refusal leaves both as they were (`kept`); and the refusals that go by the state and the lengths alone
 // are those of any netlist that has this state (`early`).
-pub fn edit(state: State, edit: Edit, bytes: &[u8], nodes: &mut [Node], work: &mut [u8]) -> Edited
+pub fn edit(state: State, edit: Edit, bytes: &[u8], nodes: &mut [NodeRecord], work: &mut [u8]) -> Edited
     ensures reply { λ r. ⌜ ((n : Records.Netlist) → IsOpen n state (now (nodes .entry)) (now (work .entry)) →
         replyOf (r .reply) ≡ replyAfter n (editOf edit (now (bytes .entry))) (length (now (nodes .entry))) (length (now (work .entry)))) ⌝ }
     ensures state { λ r. ⌜ ((n : Records.Netlist) → IsOpen n state (now (nodes .entry)) (now (work .entry)) →
@@ -157,8 +165,8 @@ pub fn edit(state: State, edit: Edit, bytes: &[u8], nodes: &mut [Node], work: &m
         replyOf (r .reply) ≡ refused number place) ⌝ }
     ensures kept { λ r. ⌜ Kept state r (now (nodes .entry)) (now (nodes .exit)) (now (work .entry)) (now (work .exit)) ⌝ }
 {
-    let block = load(state, nodes);
-    let examined = changes::change(block, edit, bytes, nodes.len(), work);
+    let loaded = load(state, nodes);
+    let examined = changes::change(loaded, edit, bytes, nodes.len(), work);
     checker::store(nodes, examined);
     edited_of(state, examined)
 }

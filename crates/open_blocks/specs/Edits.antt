@@ -7,12 +7,12 @@ use mathlib.Core.Bool.{Bool, cond, _||_}
 use mathlib.Core.List.{List, [], _∷_, _++_, map}
 use lib.Dec.{leb, ltb}
 use lib.ListN.{length, getD, take, drop}
-use Rattle.rules.specs.declared.Node.{Node}
+use Rattle.rules.specs.declared.NodeRecord.{NodeRecord}
 use Rattle.rules.specs.Lists.{member}
 use Rattle.rules.specs.Records.{Cell, input, NOT, XOR, AND, OR, register, Record, end, variable, node, Netlist, WellFormed, withNode, last-kind, said, size, operands, writtenOut}
 use Rattle.rules.specs.Families.{families, Findings, findings}
 use Rattle.rules.specs.Checks.{Outcome, answered, refused, andThen, check, judged, overLimit, undeclaredSet, badOperand, slicesFit, nodeCheck}
-use Rattle.rules.specs.Slices.{entry, workBytes, filled, reply, nodesAfter, workAfter}
+use Rattle.rules.specs.Slices.{nodeRecords, workBytes, filled, reply, nodesAfter, workAfter}
 use Rattle.rules.specs.Demands.{NoSuspect}
 
 -- a new node, offered as one record's bytes; or a node to give up
@@ -110,16 +110,16 @@ netlistAfter n e entries work = otherwise n (edited n e entries work)
 unfoldable pub replyAfter : Netlist → Edit → (entries work : ℕ) → Outcome Findings
 replyAfter n e entries work = andThen (edited n e entries work) (λ m. answered (findings m))
 
--- both slices at exit: the node records and the families of the block as it now is, and beyond them what stood there
-unfoldable pub recordsAfter : Netlist → Edit → (before : List Node) → (work : ℕ) → List Node
-recordsAfter n e before work = filled (λ m. map entry (m .nodes)) (edited n e (length before) work) before
+-- both slices at exit: the node records, marks included, and the families of the block as it now is, and beyond them what stood there
+unfoldable pub recordsAfter : Netlist → Edit → (before : List NodeRecord) → (work : ℕ) → List NodeRecord
+recordsAfter n e before work = filled nodeRecords (edited n e (length before) work) before
 
 unfoldable pub bytesAfter : Netlist → Edit → (entries : ℕ) → (before : List ℕ) → List ℕ
 bytesAfter n e entries before = filled (λ m. workBytes (families m)) (edited n e entries (length before)) before
 
 -- both slices hold a netlist's node records and families at their front
-pub record Holds (n : Netlist) (nodes : List Node) (work : List ℕ) : Type 0 where
-  pub records : take (length (n .nodes)) nodes ≡ map entry (n .nodes)
+pub record Holds (n : Netlist) (nodes : List NodeRecord) (work : List ℕ) : Type 0 where
+  pub records : take (length (n .nodes)) nodes ≡ nodeRecords n
   pub families : take (256 * length (n .nodes)) work ≡ workBytes (families n)
 
 -- the edit is made, and in the block as it now is no tested node's glitch family holds a suspect set
@@ -133,7 +133,7 @@ pub record NothingSuspectAfter (n : Netlist) (e : Edit) (entries work : ℕ) : T
 -- an open block: its netlist, and what both slices hold
 pub record Block : Type 0 where
   pub netlist : Netlist
-  pub nodes : List Node
+  pub nodes : List NodeRecord
   pub work : List ℕ
 
 -- after one edit, and after a run of them, refused ones among them

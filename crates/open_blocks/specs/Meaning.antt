@@ -3,7 +3,7 @@ use Prim.Native.Nat.{ℕ}
 use mathlib.Core.Path.{_≡_}
 use mathlib.Core.List.{List, map}
 use lib.ListN.{length}
-use Rattle.rules.specs.declared.Node.{Node}
+use Rattle.rules.specs.declared.NodeRecord.{NodeRecord}
 use Rattle.rules.specs.Records.{Netlist, WellFormed, classByte, most-variables}
 use Rattle.netlists.specs.Netlists.{padded}
 use Rattle.open_blocks.specs.declared.State.{State}
@@ -26,7 +26,7 @@ stateOf n = record {
 
 -- An open block: its netlist obeys the record rules, the state is the netlist's, and both slices hold its node records and families at
 -- their front.
-pub record IsOpen (n : Netlist) (state : State) (nodes : List Node) (work : List ℕ) : Type 0 where
+pub record IsOpen (n : Netlist) (state : State) (nodes : List NodeRecord) (work : List ℕ) : Type 0 where
   pub obeys : WellFormed n
   pub itsState : state ≡ stateOf n
   pub holds : Holds n nodes work

@@ -1,5 +1,5 @@
 // The checker with two probes: `check_pairs` over netlist bytes, both lent slices and a limit on pairs. `examine_pairs` is the
-// same over flat forms: it takes the number of entries, and answers the node records by value.
+// same over flat forms: it takes the number of entries, and answers the netlist and its marks by value.
 ghost use mathlib.Core.Path.{_≡_};
 ghost use mathlib.Core.Logic.{_↔_};
 ghost use lib.ListN.{length};
@@ -9,6 +9,7 @@ ghost use Rattle.rules.specs.Checks.{admitted};
 ghost use Rattle.rules.specs.Demands.{GlitchClear, NothingSuspect, OneProbe};
 ghost use Rattle.rules.specs.Paper.{findingOf};
 ghost use Rattle.netlists.specs.Netlists.{flatOf, Ready, kept};
+ghost use Rattle.marks.specs.Marks.{marksOf};
 ghost use Rattle.pair_search.specs.Pairs.{pairs, searchFrom, unlessSingle, pairsReply, oneProbeReply, NoPair, NothingSuspectInPairs, TwoProbes};
 ghost use Rattle.pair_search.specs.Meaning.{searchedOf};
 ghost use Rattle.pair_search.specs.Work.{reportIn};
@@ -19,7 +20,7 @@ use pair_search::Found;
 use pair_search::Search;
 use rules::Answer;
 use rules::Half;
-use rules::Node;
+use rules::NodeRecord;
 use rules::Refusal;
 use rules::Reply;
 
@@ -56,10 +57,11 @@ fn search_unless(glitch: Half, netlist: Netlist, work: &[u8], limit: usize) -> S
     }
 }
 
-// The same as `check_pairs` for a slice of so many entries, with the node records by value.
+// The same as `check_pairs` for a slice of so many entries, with the netlist and its marks by value.
 pub fn examine_pairs(bytes: &[u8], entries: usize, work: &mut [u8], limit: usize) -> ExaminedPairs
     ensures reply { λ r. ⌜ pairsReplyOf (r .reply) ≡ pairsReply (now (bytes .entry)) entries (length (now (work .entry))) limit ⌝ }
     ensures netlist { λ r. ⌜ r .examined .netlist ≡ flatOf (kept (admitted (now (bytes .entry)) entries (length (now (work .entry))))) ⌝ }
+    ensures marks { λ r. ⌜ r .examined .marks ≡ marksOf (kept (admitted (now (bytes .entry)) entries (length (now (work .entry))))) ⌝ }
     ensures work { λ _. ⌜ now (work .exit) ≡ workAfter (now (bytes .entry)) entries (now (work .entry)) ⌝ }
     ensures clear { λ r. ⌜ GlitchClear (oneProbeReply (pairsReplyOf (r .reply))) ↔
         NothingSuspect (now (bytes .entry)) entries (length (now (work .entry))) ⌝ }
@@ -107,7 +109,7 @@ fn reply_of(examined: ExaminedPairs) -> PairsReply
 // of tested nodes are looked at, in their order. The slices at exit are those of `check`, and so is the answer. Where no pair is
 // found, two probes on any two tested nodes see each pattern of settled values as often for one setting of the secrets as
 // for another.
-pub fn check_pairs(bytes: &[u8], nodes: &mut [Node], work: &mut [u8], limit: usize) -> PairsReply
+pub fn check_pairs(bytes: &[u8], nodes: &mut [NodeRecord], work: &mut [u8], limit: usize) -> PairsReply
     ensures reply { λ r. ⌜ pairsReplyOf r ≡
         pairsReply (now (bytes .entry)) (length (now (nodes .entry))) (length (now (work .entry))) limit ⌝ }
     ensures nodes { λ _. ⌜ now (nodes .exit) ≡

@@ -1,5 +1,5 @@
-// The scan of the work bytes for the lowest suspect node and the set that it reports, and that of one part for its set. Both walk through a part's
-// sets in the order of their report.
+// The scan of the work bytes, from any node on, for the lowest suspect node and the set that it reports, and that of one part for its set. Both
+// walk through a part's sets in the order of their report.
 ghost use mathlib.Core.Path.{_≡_};
 ghost use mathlib.Core.Bool.{_&&_, cond};
 ghost use mathlib.Core.List.{List};
@@ -12,7 +12,7 @@ ghost use Rattle.rules.specs.Families.{suspect, tested, reported};
 ghost use Rattle.rules.specs.Paper.{findingOf};
 ghost use Rattle.netlists.specs.Netlists.{flatOf, Sized};
 ghost use Rattle.families.specs.Parts.{HasPart, familyAt};
-ghost use Rattle.suspects.specs.Suspects.{variablesOf, reportOf, found};
+ghost use Rattle.suspects.specs.Suspects.{variablesOf, reportOf, reportsIn, foundFrom, Within};
 use families::SETS;
 use netlists::Netlist;
 use report_order::sets_in_order;
@@ -90,16 +90,17 @@ fn first_place(kind: u8) -> usize
     if is_tested(kind) { 0 } else { SETS }
 }
 
-// The lowest suspect node of a layer (settled 0, glitch 1) and the set that it reports.
-pub fn scan(netlist: Netlist, layer: usize, work: &[u8]) -> Half
-    requires { ⌜ Sized netlist (length (now work)) × (layer < 2) ⌝ }
-    ensures { λ r. ⌜ ((n : Records.Netlist) → netlist ≡ flatOf n → findingOf r ≡ found n layer (now (work .entry))) ⌝ }
+// From a node on, the lowest suspect node of a layer (settled 0, glitch 1) and the set that it reports.
+pub fn scan(netlist: Netlist, layer: usize, from: usize, work: &[u8]) -> Half
+    requires { ⌜ Sized netlist (length (now work)) × (layer < 2) × (from ≤ netlist .count) ⌝ }
+    ensures { λ r. ⌜ ((n : Records.Netlist) → netlist ≡ flatOf n → findingOf r ≡ foundFrom from (reportsIn n layer (now (work .entry)))) ⌝ }
+    ensures within { λ r. ⌜ Within from (netlist .count) r ⌝ }
 {
     let secrets = variables_of(netlist, 0);
     let masks = variables_of(netlist, 1);
     let order = sets_in_order();
     let count = netlist.count;
-    let mut i = 0;
+    let mut i = from;
     let mut set = 0;
     'nodes: while i < count {
         let node = netlist.nodes[i];

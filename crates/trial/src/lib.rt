@@ -9,26 +9,31 @@ ghost use Rattle.rules.specs.Lists.{tabulate};
 ghost use Rattle.rules.specs.Records.{most-nodes};
 ghost use Rattle.rules.specs.Slices.{nodesAfter, workAfter, reply};
 ghost use Rattle.rules.specs.Paper.{replyOf};
-ghost use Rattle.netlists.specs.Netlists.{blank};
+ghost use Rattle.checker.specs.Work.{unwritten};
 ghost use Rattle.pair_search.specs.Pairs.{pairsReply};
 ghost use Rattle.pairs.specs.Meaning.{pairsReplyOf};
 ghost use Rattle.trial.specs.Before.{entryBefore, byteBefore, isBefore, keptFrom};
 use pairs::PairsReply;
 use rules::MOST_NODES;
 use rules::Node;
+use rules::NodeRecord;
 use rules::Reply;
 
 // ---- what stands in the slices before a check
 
 // What each entry holds before a check; no node has such a record.
-pub fn entry_before() -> Node
+pub fn entry_before() -> NodeRecord
     ensures { λ r. ⌜ r ≡ entryBefore ⌝ }
 {
-    Node {
-        kind: 9,
-        first: 8,
-        second: 7,
-        set: 6,
+    NodeRecord {
+        node: Node {
+            kind: 9,
+            first: 8,
+            second: 7,
+            set: 6,
+        },
+        settled: 5,
+        glitch: 4,
     }
 }
 
@@ -50,14 +55,18 @@ pub fn fill(work: &mut [u8])
     }
 }
 
-fn is_before(node: Node) -> bool
-    ensures { λ r. ⌜ r ≡ isBefore node ⌝ }
+fn is_before(record: NodeRecord) -> bool
+    ensures { λ r. ⌜ r ≡ isBefore record ⌝ }
 {
-    node.kind == 9 && (node.first == 8 && (node.second == 7 && node.set == 6))
+    let node = record.node;
+    node.kind == 9
+        && (node.first == 8
+            && (node.second == 7
+                && (node.set == 6 && (record.settled == 5 && record.glitch == 4))))
 }
 
 // The lowest number from which on all entries are as they were, and the same of the work bytes.
-pub fn entries_kept_from(nodes: [Node; MOST_NODES]) -> usize
+pub fn entries_kept_from(nodes: [NodeRecord; MOST_NODES]) -> usize
     ensures { λ r. ⌜ r ≡ keptFrom (λ k. isBefore (getD nodes k entryBefore)) most-nodes ⌝ }
 {
     let mut from = 0;
@@ -90,12 +99,12 @@ pub fn work_kept_from(work: &[u8]) -> usize
 // What a check leaves, and one with two probes: the reply, and all entries.
 pub struct Seen {
     pub reply: Reply,
-    pub nodes: [Node; MOST_NODES],
+    pub nodes: [NodeRecord; MOST_NODES],
 }
 
 pub struct SeenPairs {
     pub reply: PairsReply,
-    pub nodes: [Node; MOST_NODES],
+    pub nodes: [NodeRecord; MOST_NODES],
 }
 
 // How many of 200 entries are lent.
@@ -110,7 +119,7 @@ pub fn at_most(entries: usize) -> usize
 
 // Checks a block over the first `entries` of 200 entries (or over all where there are not so many), each of which holds
 // `before`. Gives the reply and all 200 entries at exit.
-pub fn check_over(bytes: &[u8], entries: usize, before: Node, work: &mut [u8]) -> Seen
+pub fn check_over(bytes: &[u8], entries: usize, before: NodeRecord, work: &mut [u8]) -> Seen
     ensures reply { λ r. ⌜ replyOf (r .reply) ≡ reply (now (bytes .entry)) (min entries most-nodes) (length (now (work .entry))) ⌝ }
     ensures nodes { λ r. ⌜ r .nodes ≡
         nodesAfter (now (bytes .entry)) (replicate (min entries most-nodes) before) (length (now (work .entry)))
@@ -127,7 +136,7 @@ pub fn check_over(bytes: &[u8], entries: usize, before: Node, work: &mut [u8]) -
 pub fn check_pairs_over(
     bytes: &[u8],
     entries: usize,
-    before: Node,
+    before: NodeRecord,
     work: &mut [u8],
     limit: usize,
 ) -> SeenPairs
@@ -147,9 +156,9 @@ pub fn check_pairs_over(
 // ---- one record
 
 // The record at one of the entries that a check leaves, read through a lent slice.
-pub fn entry_at(nodes: [Node; MOST_NODES], i: usize) -> Node
+pub fn entry_at(nodes: [NodeRecord; MOST_NODES], i: usize) -> NodeRecord
     requires { ⌜ i < most-nodes ⌝ }
-    ensures { λ r. ⌜ r ≡ getD nodes i blank ⌝ }
+    ensures { λ r. ⌜ r ≡ getD nodes i unwritten ⌝ }
 {
     checker::node_at(&nodes, i)
 }

@@ -1,0 +1,2 @@
+-- Marks by value.
+pub mod Marks

@@ -1,0 +1,114 @@
+// Marks by value: in each layer the set that a node reports, or 0 for none. A layer's marks are those of a scan that goes on from behind the last
+// node that it found; those of a node at the end are found by scanning that node alone; and a half of the answer is read from a layer's marks.
+ghost use mathlib.Core.Path.{_≡_};
+ghost use mathlib.Core.List.{[], map};
+ghost use mathlib.Core.Option.{none};
+ghost use Prim.Native.Nat.{_-_, _<_, _≤_};
+ghost use lib.ListN.{length, getD, take};
+ghost use Rattle.rules.specs.Records as Records;
+ghost use Rattle.rules.specs.Records.{most-nodes};
+ghost use Rattle.rules.specs.Families.{lowest};
+ghost use Rattle.rules.specs.Slices.{markNumber, markOf};
+ghost use Rattle.rules.specs.Paper.{findingOf};
+ghost use Rattle.netlists.specs.Netlists.{flatOf, Sized};
+ghost use Rattle.suspects.specs.Suspects.{reportsIn};
+ghost use Rattle.marks.specs.Marks.{flatMarks, marksIn, withMarks};
+use netlists::Netlist;
+use rules::Half;
+use rules::MOST_NODES;
+
+// The marks of both layers, by node number. Beyond the nodes all are 0.
+pub struct Marks {
+    pub settled: [u16; MOST_NODES],
+    pub glitch: [u16; MOST_NODES],
+}
+
+// No node is marked.
+pub fn no_marks() -> Marks
+    ensures { λ r. ⌜ r ≡ marksIn [] [] ⌝ }
+{
+    Marks {
+        settled: [0u16; MOST_NODES],
+        glitch: [0u16; MOST_NODES],
+    }
+}
+
+// ---- all nodes, and the last one
+
+// The marks of one layer: the scan goes on from behind the last node that it found.
+fn layer_marks(netlist: Netlist, layer: usize, work: &[u8]) -> [u16; MOST_NODES]
+    requires { ⌜ Sized netlist (length (now work)) × (layer < 2) ⌝ }
+    ensures { λ r. ⌜ ((n : Records.Netlist) → netlist ≡ flatOf n → r ≡ flatMarks (reportsIn n layer (now (work .entry)))) ⌝ }
+{
+    let count = netlist.count;
+    let mut marks = [0u16; MOST_NODES];
+    let mut from = 0;
+    while from < count {
+        match suspects::scan(netlist, layer, from, work) {
+            Half::Clear => {
+                from = count;
+            }
+            Half::Suspect(node, set) => {
+                marks[node] = set as u16;
+                from = node + 1;
+            }
+        }
+    }
+    marks
+}
+
+// The marks of all nodes.
+pub fn all_marks(netlist: Netlist, work: &[u8]) -> Marks
+    requires { ⌜ Sized netlist (length (now work)) ⌝ }
+    ensures { λ r. ⌜ ((n : Records.Netlist) → netlist ≡ flatOf n →
+        r ≡ marksIn (reportsIn n 0 (now (work .entry))) (reportsIn n 1 (now (work .entry)))) ⌝ }
+{
+    Marks {
+        settled: layer_marks(netlist, 0, work),
+        glitch: layer_marks(netlist, 1, work),
+    }
+}
+
+// The mark of the last node in one layer: no other is scanned.
+fn last_mark(netlist: Netlist, layer: usize, work: &[u8]) -> u16
+    requires { ⌜ Sized netlist (length (now work)) × (layer < 2) × (0 < netlist .count) ⌝ }
+    ensures { λ r. ⌜ ((n : Records.Netlist) → netlist ≡ flatOf n →
+        r ≡ markNumber (getD (reportsIn n layer (now (work .entry))) (netlist .count - 1) none)) ⌝ }
+{
+    match suspects::scan(netlist, layer, netlist.count - 1, work) {
+        Half::Clear => 0,
+        Half::Suspect(_, set) => set as u16,
+    }
+}
+
+// The marks of a netlist whose nodes but the last one have these.
+pub fn with_last(netlist: Netlist, marks: Marks, work: &[u8]) -> Marks
+    requires { ⌜ Sized netlist (length (now work)) × (0 < netlist .count) ⌝ }
+    ensures { λ r. ⌜ ((n : Records.Netlist) → netlist ≡ flatOf n →
+        r ≡ withMarks marks (netlist .count - 1)
+        (getD (reportsIn n 0 (now (work .entry))) (netlist .count - 1) none) (getD (reportsIn n 1 (now (work .entry))) (netlist .count - 1) none)) ⌝ }
+{
+    let last = netlist.count - 1;
+    let mut longer = marks;
+    longer.settled[last] = last_mark(netlist, 0, work);
+    longer.glitch[last] = last_mark(netlist, 1, work);
+    longer
+}
+
+// ---- the answer
+
+// The lowest marked node of one layer with its mark, of so many nodes.
+pub fn lowest_marked(marks: [u16; MOST_NODES], count: usize) -> Half
+    requires { ⌜ count ≤ most-nodes ⌝ }
+    ensures { λ r. ⌜ findingOf r ≡ lowest 0 (map markOf (take count marks)) ⌝ }
+{
+    let mut i = 0;
+    while i < count {
+        let set = marks[i] as usize;
+        if set != 0 {
+            return Half::Suspect(i, set);
+        }
+        i += 1;
+    }
+    Half::Clear
+}
