@@ -53,13 +53,7 @@ fn add_offered(
 }
 
 // A new node at the end of a block: its record is judged before both slices.
-fn add_node(
-    block: Netlist,
-    marks: Marks,
-    bytes: &[u8],
-    entries: usize,
-    work: &mut [u8],
-) -> Examined
+fn add_node(block: Netlist, marks: Marks, bytes: &[u8], entries: usize, work: &mut [u8]) -> Examined
     requires { ⌜ Limited block ⌝ }
     ensures { λ r. ⌜ Changes block marks (Edits.add (now (bytes .entry))) entries r (now (work .entry)) (now (work .exit)) ⌝ }
 {
@@ -115,13 +109,7 @@ fn remove_node(
 
 // An edit of a block by value with its marks, in slices of so many entries and of these work bytes. No block has more variables or nodes than there
 // may be: a state that says so is nobody's, and is refused.
-pub fn change(
-    loaded: Loaded,
-    edit: Edit,
-    bytes: &[u8],
-    entries: usize,
-    work: &mut [u8],
-) -> Examined
+pub fn change(loaded: Loaded, edit: Edit, bytes: &[u8], entries: usize, work: &mut [u8]) -> Examined
     ensures { λ r. ⌜ Changes (loaded .block) (loaded .marks) (editOf edit (now (bytes .entry))) entries r
         (now (work .entry)) (now (work .exit)) ⌝ }
 {

@@ -70,15 +70,15 @@ fn to_load(state: State, entries: usize) -> usize
 }
 
 // The block with one node record in its place: the node, and its marks.
-fn with_entry(loaded: Loaded, i: usize, record: NodeRecord) -> Loaded
+fn with_entry(loaded: Loaded, i: usize, taken: NodeRecord) -> Loaded
     requires { ⌜ i < most-nodes ⌝ }
-    ensures { λ r. ⌜ r ≡ withEntry loaded i record ⌝ }
+    ensures { λ r. ⌜ r ≡ withEntry loaded i taken ⌝ }
 {
     let mut block = loaded.block;
     let mut marks = loaded.marks;
-    block.nodes[i] = record.node;
-    marks.settled[i] = record.settled;
-    marks.glitch[i] = record.glitch;
+    block.nodes[i] = taken.node;
+    marks.settled[i] = taken.settled;
+    marks.glitch[i] = taken.glitch;
     Loaded { block, marks }
 }
 
@@ -147,7 +147,13 @@ pub fn open(bytes: &[u8], nodes: &mut [NodeRecord], work: &mut [u8]) -> Edited
 // slices hold, and the counting of mask settings with them. What still holds then: the call returns and does nothing undefined, both
 // slices keep their lengths, and a refusal leaves both as they were (`kept`); and the refusals that go by the state and the lengths alone
 // are those of any netlist that has this state (`early`).
-pub fn edit(state: State, edit: Edit, bytes: &[u8], nodes: &mut [NodeRecord], work: &mut [u8]) -> Edited
+pub fn edit(
+    state: State,
+    edit: Edit,
+    bytes: &[u8],
+    nodes: &mut [NodeRecord],
+    work: &mut [u8],
+) -> Edited
     ensures reply { λ r. ⌜ ((n : Records.Netlist) → IsOpen n state (now (nodes .entry)) (now (work .entry)) →
         replyOf (r .reply) ≡ replyAfter n (editOf edit (now (bytes .entry))) (length (now (nodes .entry))) (length (now (work .entry)))) ⌝ }
     ensures state { λ r. ⌜ ((n : Records.Netlist) → IsOpen n state (now (nodes .entry)) (now (work .entry)) →

@@ -109,7 +109,12 @@ fn reply_of(examined: ExaminedPairs) -> PairsReply
 // of tested nodes are looked at, in their order. The slices at exit are those of `check`, and so is the answer. Where no pair is
 // found, two probes on any two tested nodes see each pattern of settled values as often for one setting of the secrets as
 // for another.
-pub fn check_pairs(bytes: &[u8], nodes: &mut [NodeRecord], work: &mut [u8], limit: usize) -> PairsReply
+pub fn check_pairs(
+    bytes: &[u8],
+    nodes: &mut [NodeRecord],
+    work: &mut [u8],
+    limit: usize,
+) -> PairsReply
     ensures reply { λ r. ⌜ pairsReplyOf r ≡
         pairsReply (now (bytes .entry)) (length (now (nodes .entry))) (length (now (work .entry))) limit ⌝ }
     ensures nodes { λ _. ⌜ now (nodes .exit) ≡

@@ -55,14 +55,13 @@ pub fn fill(work: &mut [u8])
     }
 }
 
-fn is_before(record: NodeRecord) -> bool
-    ensures { λ r. ⌜ r ≡ isBefore record ⌝ }
+fn is_before(held: NodeRecord) -> bool
+    ensures { λ r. ⌜ r ≡ isBefore held ⌝ }
 {
-    let node = record.node;
+    let node = held.node;
     node.kind == 9
         && (node.first == 8
-            && (node.second == 7
-                && (node.set == 6 && (record.settled == 5 && record.glitch == 4))))
+            && (node.second == 7 && (node.set == 6 && (held.settled == 5 && held.glitch == 4))))
 }
 
 // The lowest number from which on all entries are as they were, and the same of the work bytes.
