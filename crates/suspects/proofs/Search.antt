@@ -1,19 +1,20 @@
--- The scan of one layer of the work bytes: a node is passed or reports by the sets looked at so far, in the order of report, and the first node
--- that reports is what the scan finds; over the bytes of a netlist's families that is the rules' half of the answer. Assumes nothing.
-use Prim.Native.Nat.{ℕ, zero, suc, _+_, _*_, _<_, _≤_}
-use mathlib.Core.Path.{_≡_, refl, sym, ap, ap₂, _∙_}
+-- The scan of one layer of the work bytes from a node on: a node is passed or reports by the sets looked at so far, in the order of report, and the
+-- first node that reports is what the scan finds; over the bytes of a netlist's families the nodes report what the rules say. Assumes nothing.
+use Prim.Native.Nat.{ℕ, zero, suc, _+_, _*_, _-_, _<_, _≤_}
+use mathlib.Core.Path.{_≡_, refl, sym, ap₂, _∙_}
 use mathlib.Core.Logic.{⊎-elim}
 use mathlib.Core.Bool.{Bool, true, false, not, _&&_, cond}
 use mathlib.Core.List.{List, [], _∷_, _++_, map}
 use mathlib.Core.Option.{Option, none, some}
-use native.Mathlib.Nat.{suc-add, add-suc, add-zero, zero-add, lt-of-lt-of-le}
+use native.Mathlib.Nat.{suc-add, add-suc, add-zero, lt-of-lt-of-le}
 use native.Mathlib.Omega.{arith}
 use borrow.Author.Count.{below-more}
 use lib.Dec.{T, eqb}
-use lib.ListN.{length, getD, length-map, List·getD-map, List·getD-eq-default}
+use lib.ListN.{length, getD, drop, length-map, List·getD-map, List·getD-eq-default}
+use lib.Seq.{getD-drop}
 use Rattle.rules.specs.Lists.{member, tabulate}
 use Rattle.rules.specs.Records.{Class, Cell, input, NOT, XOR, AND, OR, register, kindOf, Netlist, WellFormed, most-sets}
-use Rattle.rules.specs.Families.{Family, Families, constant, families, familiesAt, suspect, tested, reported, clear, suspectAt, mark, marks, lowest, half}
+use Rattle.rules.specs.Families.{Family, Families, constant, families, familiesAt, suspect, tested, reported, clear, suspectAt, mark, marks, layerMarks, lowest}
 use Rattle.rules.specs.Slices.{workBytes}
 use Rattle.rules.proofs.Tests.{pass, lt-or-le}
 use Rattle.rules.proofs.Halves.{marks-at}
@@ -23,7 +24,7 @@ use Rattle.families.specs.Parts.{familyAt}
 use Rattle.families.proofs.Parts.{below-at}
 use Rattle.families.proofs.Work.{Alike, settled-there, glitch-there}
 use Rattle.report_order.specs.Order.{setAt}
-use Rattle.suspects.specs.Suspects.{found}
+use Rattle.suspects.specs.Suspects.{reportsIn, foundFrom}
 use Rattle.suspects.proofs.Suspects.{reported-same, reported-nothing, reported-first}
 
 -- ---- the lowest node that reports
@@ -111,9 +112,9 @@ module _ (n : Netlist) (layer : ℕ) (bytes : List ℕ) (i : ℕ) where
 
 -- ---- all nodes
 
--- the nodes below i report nothing
-abbrev pub Passed : Netlist → (layer : ℕ) → List ℕ → (i : ℕ) → Type 0
-Passed n layer bytes i = (j : ℕ) → j < i → reports n layer bytes j ≡ none
+-- the nodes from `from` on and below i report nothing
+abbrev pub Passed : Netlist → (layer : ℕ) → List ℕ → (from i : ℕ) → Type 0
+Passed n layer bytes from i = (j : ℕ) → from ≤ j → j < i → reports n layer bytes j ≡ none
 
 module _ (n : Netlist) (layer : ℕ) (bytes : List ℕ) where
   -- the families, and the reports of the nodes one by one
@@ -121,29 +122,35 @@ module _ (n : Netlist) (layer : ℕ) (bytes : List ℕ) where
   layerFamilies = tabulate (λ i. familyAt bytes (2 * i + layer)) (length (n .nodes))
 
   report-at : (j : ℕ)
-      → getD (marks (n .variables) (n .nodes) layerFamilies) j none ≡ mark (n .variables) (getD (n .nodes) j (input 0)) (getD layerFamilies j [])
-  unfolding layerFamilies
+      → getD (reportsIn n layer bytes) j none ≡ mark (n .variables) (getD (n .nodes) j (input 0)) (getD layerFamilies j [])
+  unfolding layerFamilies reportsIn
   report-at j =
       marks-at (n .variables) (n .nodes) layerFamilies [] j (sym (tabulate-length (λ i. familyAt bytes (2 * i + layer)) (length (n .nodes))))
 
-  report-there : (j : ℕ) → j < length (n .nodes) → getD (marks (n .variables) (n .nodes) layerFamilies) j none ≡ reports n layer bytes j
+  report-there : (j : ℕ) → j < length (n .nodes) → getD (reportsIn n layer bytes) j none ≡ reports n layer bytes j
   unfolding reports layerFamilies
   report-there j h = report-at j ∙ rw (tabulate-at (λ i. familyAt bytes (2 * i + layer)) (length (n .nodes)) j [] h)
 
-  report-beyond : (j : ℕ) → length (n .nodes) ≤ j → getD (marks (n .variables) (n .nodes) layerFamilies) j none ≡ none
+  report-beyond : (j : ℕ) → length (n .nodes) ≤ j → getD (reportsIn n layer bytes) j none ≡ none
   unfolding mark tested
   report-beyond j h = report-at j ∙ rw (List·getD-eq-default (n .nodes) (input 0) {n = j} h)
 
-  pub found-suspect : (i A : ℕ) → i < length (n .nodes) → Passed n layer bytes i → reports n layer bytes i ≡ some A
-      → found n layer bytes ≡ suspectAt i A
-  unfolding found layerFamilies
-  found-suspect i A h passed here =
-      lowest-suspect 0 i A _ (report-there i h ∙ here) (λ j l. report-there j (omega arith) ∙ passed j l) ∙ rw (zero-add i)
+  pub found-suspect : (from i A : ℕ) → from ≤ i → i < length (n .nodes) → Passed n layer bytes from i → reports n layer bytes i ≡ some A
+      → foundFrom from (reportsIn n layer bytes) ≡ suspectAt i A
+  unfolding foundFrom
+  found-suspect from i A l h passed here =
+      let there : from + (i - from) ≡ i = omega arith in
+      lowest-suspect from (i - from) A (drop from (reportsIn n layer bytes))
+      (getD-drop from (reportsIn n layer bytes) (i - from) none ∙ rw there (report-there i h ∙ here))
+      (λ j k. getD-drop from (reportsIn n layer bytes) j none ∙ report-there (from + j) (omega arith) ∙ passed (from + j) (omega arith) (omega arith))
+      ∙ rw there
 
-  pub found-clear : Passed n layer bytes (length (n .nodes)) → found n layer bytes ≡ clear
-  unfolding found layerFamilies
-  found-clear passed =
-      lowest-clear 0 _ (λ j. ⊎-elim (λ l. report-there j l ∙ passed j l) (report-beyond j) (lt-or-le j (length (n .nodes))))
+  pub found-clear : (from : ℕ) → Passed n layer bytes from (length (n .nodes)) → foundFrom from (reportsIn n layer bytes) ≡ clear
+  unfolding foundFrom
+  found-clear from passed =
+      lowest-clear from (drop from (reportsIn n layer bytes)) (λ j.
+      getD-drop from (reportsIn n layer bytes) j none
+      ∙ ⊎-elim (λ l. report-there (from + j) l ∙ passed (from + j) (omega arith) l) (report-beyond (from + j)) (lt-or-le (from + j) (length (n .nodes))))
 
 -- ---- over the bytes of a netlist's families
 
@@ -158,26 +165,25 @@ marks-same variables (c ∷ cells) (F ∷ Fs) (G ∷ Gs) d p q h =
     ap₂ {C = List (Option ℕ)} _∷_ (rw (reported-same variables F G (h 0 (omega arith) .same)))
     (marks-same variables cells Fs Gs d (omega arith) (omega arith) (λ i l. h (suc i) (omega arith)))
 
--- where a layer holds the sets of one of the two families of each node, the scan finds that half
-layer-half : (n : Netlist) (layer : ℕ) (bytes : List ℕ) (pick : Families → Family)
+-- where a layer holds the sets of one of the two families of each node, the nodes report what they report over that family
+layer-reports : (n : Netlist) (layer : ℕ) (bytes : List ℕ) (pick : Families → Family)
     → ((i : ℕ) → i < length (n .nodes) → Alike (familyAt bytes (2 * i + layer)) (pick (familiesAt n i)))
-    → found n layer bytes ≡ half pick n
-unfolding found half familiesAt
-layer-half n layer bytes pick held =
-    ap (lowest 0)
-    (marks-same (n .variables) (n .nodes) (tabulate at (length (n .nodes))) (map pick (families n)) (pick constant)
+    → reportsIn n layer bytes ≡ layerMarks pick n
+unfolding reportsIn layerMarks familiesAt
+layer-reports n layer bytes pick held =
+    marks-same (n .variables) (n .nodes) (tabulate at (length (n .nodes))) (map pick (families n)) (pick constant)
     (tabulate-length at (length (n .nodes)))
     (length-map (families n) pick ∙ families-length n)
-    (λ i h. rw (tabulate-at at (length (n .nodes)) i (pick constant) h, List·getD-map pick (families n) i constant) (held i h)))
+    (λ i h. rw (tabulate-at at (length (n .nodes)) i (pick constant) h, List·getD-map pick (families n) i constant) (held i h))
   where
     at : ℕ → Family
     at i = familyAt bytes (2 * i + layer)
 
--- both layers of the bytes of the families are the two halves
-pub found-half : (n : Netlist) → WellFormed n → (rest : List ℕ)
-    → (found n 0 (workBytes (families n) ++ rest) ≡ half (λ F. F .settled) n)
-    × (found n 1 (workBytes (families n) ++ rest) ≡ half (λ F. F .glitch) n)
-found-half n formed rest = (
-  layer-half n 0 _ (λ F. F .settled) (λ i h. rw (add-zero (2 * i)) (settled-there n formed rest i h)),
-  layer-half n 1 _ (λ F. F .glitch) (glitch-there n formed rest),
+-- in both layers of the bytes of the families the nodes report what the rules say
+pub reports-are : (n : Netlist) → WellFormed n → (rest : List ℕ)
+    → (reportsIn n 0 (workBytes (families n) ++ rest) ≡ layerMarks (λ F. F .settled) n)
+    × (reportsIn n 1 (workBytes (families n) ++ rest) ≡ layerMarks (λ F. F .glitch) n)
+reports-are n formed rest = (
+  layer-reports n 0 _ (λ F. F .settled) (λ i h. rw (add-zero (2 * i)) (settled-there n formed rest i h)),
+  layer-reports n 1 _ (λ F. F .glitch) (glitch-there n formed rest),
 )

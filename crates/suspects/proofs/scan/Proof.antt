@@ -1,4 +1,4 @@
--- `suspects::scan` meets its contract. The nodes' loop: the nodes passed report nothing. The loop in it: the sets at the places passed are not
+-- `suspects::scan` meets its contract. The nodes' loop: the nodes passed, from the first one scanned on, report nothing. The loop in it: the sets at the places passed are not
 -- suspect members of the node's family. Each measure is what is left to pass. Assumes nothing.
 use Prim.Native.Nat.{ℕ, _-_, _≤_, _<_}
 use mathlib.Core.Path.{_≡_, refl, sym, ap, _∙_}
@@ -12,30 +12,31 @@ use borrow.Author.Needs.{needs}
 use lib.ListN.{length, getD}
 use Rattle.rules.specs.Records as Records
 use Rattle.rules.specs.Records.{secret, mask, input, kindOf, classByte, most-variables, most-nodes, most-sets}
+use mathlib.Core.Option.{none}
 use Rattle.rules.specs.Families.{suspectAt}
 use Rattle.rules.specs.Slices.{entry}
 use Rattle.netlists.specs.Netlists.{blank, flatOf}
 use Rattle.netlists.proofs.Netlists.{flat-entry-at}
 use Rattle.report_order.specs.Order.{setAt}
 use Rattle.report_order.proofs.Order.{set-low}
-use Rattle.suspects.specs.Suspects.{found}
-use Rattle.suspects.proofs.Search.{suspectIn, Searched, search-start, search-more, search-none, search-some, Passed, found-suspect, found-clear}
+use Rattle.suspects.specs.Suspects.{reportsIn, foundFrom}
+use Rattle.suspects.proofs.Search.{reports, suspectIn, Searched, search-start, search-more, search-none, search-some, Passed, found-suspect, found-clear}
 use Rattle.suspects.proofs.scan.Statement.{statement}
 use Rattle.suspects.proofs.scan.Tie as tie
 
 abbrev Inv-loop : tie.InvT-loop
-Inv-loop layer work netlist secrets masks order count i set₀ part place₀ set place =
+Inv-loop layer from work netlist secrets masks order count i set₀ part place₀ set place =
     (n : Records.Netlist) → netlist ≡ flatOf n → Searched n layer work i place
 
 abbrev μ-loop : tie.MeasureT-loop
-μ-loop layer work netlist secrets masks order count i set₀ part place₀ set place = most-sets - place
+μ-loop layer from work netlist secrets masks order count i set₀ part place₀ set place = most-sets - place
 
 abbrev Inv-nodes : tie.InvT-nodes
-Inv-nodes layer work netlist secrets masks order count i₀ set₀ i set =
-    (i ≤ count) × ((n : Records.Netlist) → netlist ≡ flatOf n → Passed n layer work i)
+Inv-nodes layer from work netlist secrets masks order count i₀ set₀ i set =
+    (from ≤ i) × (i ≤ count) × ((n : Records.Netlist) → netlist ≡ flatOf n → Passed n layer work from i)
 
 abbrev μ-nodes : tie.MeasureT-nodes
-μ-nodes layer work netlist secrets masks order count i₀ set₀ i set = count - i
+μ-nodes layer from work netlist secrets masks order count i₀ set₀ i set = count - i
 
 -- where a turn of the nodes' loop began, and where the function did
 abbrev turn : tie.After-suspect-in Inv-loop μ-loop Inv-nodes μ-nodes → tie.At-nodes Inv-loop μ-loop Inv-nodes μ-nodes
@@ -58,7 +59,7 @@ sets-in-order-requires : tie.Need-sets-in-order-requires Inv-loop μ-loop Inv-no
 sets-in-order-requires c κs = search needs
 
 nodes-holds : tie.Need-nodes-holds Inv-loop μ-loop Inv-nodes μ-nodes
-nodes-holds c = (search needs, λ n e j l. absurd (omega arith))
+nodes-holds c = (omega arith, c .before .before .before .before .pre .2, λ n e j h l. absurd (omega arith))
 
 mul-node : tie.Need-mul-node Inv-loop μ-loop Inv-nodes μ-nodes
 mul-node c = omega (arith, few (start (c .before)))
@@ -133,59 +134,64 @@ nodes-less c = omega arith
 
 nodes-again : tie.Need-nodes-again Inv-loop μ-loop Inv-nodes μ-nodes
 nodes-again c = (
+  omega (arith, c .before .before .before .before .before .nodes .inv .0),
   omega arith,
-  λ n e.
-      below-more _ _ (c .before .before .before .before .before .nodes .inv .1 n e)
-      (search-none n _ _ _ (c .before .loop .place) (c .loop-test .left) (c .before .loop .inv n e)),
+  λ n e j h l.
+      below-more (λ j. start (c .before .before .before .before .before) .args .from ≤ j → reports n _ _ j ≡ none) _
+      (λ k m g. c .before .before .before .before .before .nodes .inv .2 n e k g m)
+      (λ g. search-none n _ _ _ (c .before .loop .place) (c .loop-test .left) (c .before .loop .inv n e)) j l h,
 )
 
 -- where a set breaks both loops off, it is what is found
 broken-off : (c : tie.After-suspect-in Inv-loop μ-loop Inv-nodes μ-nodes) → c .suspect-in .result ≡ true
     → (n : Records.Netlist) → start (turn c) .args .t1 ≡ flatOf n
     → suspectAt (turn c .nodes .i) (getD (turn c .before .sets-in-order .result) (c .before .before .loop .place) 0)
-    ≡ found n (start (turn c) .args .layer) (now (start (turn c) .args .work))
+    ≡ foundFrom (start (turn c) .args .from) (reportsIn n (start (turn c) .args .layer) (now (start (turn c) .args .work)))
 unfolding flatOf
 broken-off c hit n e =
     ap (λ (A : ℕ). suspectAt (turn c .nodes .i) A) (set-there (c .before))
     ∙ sym
-    (found-suspect n _ _ _ _ (rw e at (c .before .before .before .before .before .nodes-test .taken)) (turn c .nodes .inv .1 n e)
+    (found-suspect n _ _ _ _ _ (turn c .nodes .inv .0) (rw e at (c .before .before .before .before .before .nodes-test .taken)) (turn c .nodes .inv .2 n e)
     (search-some n _ _ _ _ (c .before .loop-test .taken) (c .before .before .loop .inv n e) (sym (tested-set c n e) ∙ hit)))
 
 returns : tie.Need-returns Inv-loop μ-loop Inv-nodes μ-nodes
 returns c =
-    λ n e.
     ⊎-elim (λ w. absurd (omega arith))
     (λ w.
-    ap (λ (A : ℕ). suspectAt (c .before .before .nodes .i) A) (w .7)
-    ∙ broken-off
-    record {
-      before = record {
-        before = record {
+    let way : tie.After-suspect-in Inv-loop μ-loop Inv-nodes μ-nodes =
+        record {
           before = record {
-            before = record { before = record { before = c .before .before; nodes-test = w .0 }; node = w .1 };
-            first-place = w .2;
+            before = record {
+              before = record {
+                before = record { before = record { before = c .before .before; nodes-test = w .0 }; node = w .1 };
+                first-place = w .2;
+              };
+              loop = w .3;
+            };
+            loop-test = w .4;
           };
-          loop = w .3;
-        };
-        loop-test = w .4;
-      };
-      suspect-in = w .5;
-    }
-    (w .6 .taken) n e)
+          suspect-in = w .5;
+        } in
+    (
+      λ n e. ap (λ (A : ℕ). suspectAt (c .before .before .nodes .i) A) (w .7) ∙ broken-off way (w .6 .taken) n e,
+      (c .before .before .nodes .inv .0, omega arith, rw (w .7) (set-low (set-there (way .before)) (w .4 .taken))),
+    ))
     (c .before .nodes-test .came)
 
 returns-2 : tie.Need-returns-2 Inv-loop μ-loop Inv-nodes μ-nodes
 unfolding flatOf
-returns-2 c =
-    λ n e.
-    let i = c .before .before .nodes .i in
-    ⊎-elim
-    (λ w.
-    let within : i ≤ start (c .before .before) .args .t1 .count = c .before .before .nodes .inv .0 in
-    let all : i ≡ length (n .nodes) = omega (arith, rw e at within, rw e at (w .0 .left)) in
-    sym (found-clear n _ _ (rw all at (c .before .before .nodes .inv .1 n e))))
-    (λ w. absurd (omega arith))
-    (c .before .nodes-test .came)
+returns-2 c = (
+  λ n e.
+      let i = c .before .before .nodes .i in
+      ⊎-elim
+      (λ w.
+      let within : i ≤ start (c .before .before) .args .t1 .count = c .before .before .nodes .inv .1 in
+      let all : i ≡ length (n .nodes) = omega (arith, rw e at within, rw e at (w .0 .left)) in
+      sym (found-clear n _ _ _ (rw all at (c .before .before .nodes .inv .2 n e))))
+      (λ w. absurd (omega arith))
+      (c .before .nodes-test .came),
+  tt,
+)
 
 pub scan-spec : {M : Type 1} → statement M
 scan-spec =
