@@ -64,7 +64,7 @@ module _ {ℓ κ} {A : Type ℓ} {B : Type κ} (f : A → B) (k : ℕ) (rest : B
   made-set xs x h =
       rw (map-append, ← (length-map xs f)) (padded-set k rest (map f xs) (f x) (omega (arith, length-map xs f)))
 
-  made-at : (xs : List A) (i : ℕ) (d : A) → i < length xs → getD (padded k rest (map f xs)) i rest ≡ f (getD xs i d)
+  pub made-at : (xs : List A) (i : ℕ) (d : A) → i < length xs → getD (padded k rest (map f xs)) i rest ≡ f (getD xs i d)
   made-at xs i d h = padded-at k rest (map f xs) i rest (omega (arith, length-map xs f)) ∙ map-at xs i h
     where
       map-at : (xs : List A) (i : ℕ) → i < length xs → getD (map f xs) i rest ≡ f (getD xs i d)

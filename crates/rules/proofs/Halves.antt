@@ -113,11 +113,11 @@ reported-exactly variables F A = (
 -- ---- the lowest that reports
 
 -- the first k report nothing
-abbrev NoneBefore : List (Option ℕ) → ℕ → Type 0
+abbrev pub NoneBefore : List (Option ℕ) → ℕ → Type 0
 NoneBefore reports k = (j : ℕ) → j < k → getD reports j none ≡ none
 
 -- what `lowest` tells of reports that count from `first`: that all are none, or that node i has the first that is not
-abbrev Lowest : ℕ → List (Option ℕ) → Finding → Type 0
+abbrev pub Lowest : ℕ → List (Option ℕ) → Finding → Type 0
 Lowest first reports clear = (k : ℕ) → NoneBefore reports k
 Lowest first reports (suspectAt i A) = (k : ℕ) × (i ≡ first + k) × (getD reports k none ≡ some A) × NoneBefore reports k
 
@@ -125,7 +125,7 @@ behind-none : (rest : List (Option ℕ)) (k : ℕ) → NoneBefore rest k → Non
 behind-none rest k before zero h = refl
 behind-none rest k before (suc j) h = before j (le-of-suc-le-suc h)
 
-lowest-says : (first : ℕ) (reports : List (Option ℕ)) → Lowest first reports (lowest first reports)
+pub lowest-says : (first : ℕ) (reports : List (Option ℕ)) → Lowest first reports (lowest first reports)
 unfolding lowest
 lowest-says first [] = λ k j h. refl
 lowest-says first (none ∷ rest) = go (lowest (suc first) rest) (lowest-says (suc first) rest)

@@ -1,0 +1,2 @@
+-- What is proved of marks by value.
+pub mod Layers
