@@ -1,19 +1,19 @@
 -- Marks by value: what stands at a node's number, one mark more, and what a scan that goes on has marked so far; over work bytes that hold the
 -- families of a netlist, they are the netlist's marks, from which both halves of its answer are read. Assumes nothing.
 use Prim.Native.Nat.{ℕ, zero, suc, _+_, _-_, _≤_, _<_}
-use mathlib.Core.Path.{_≡_, refl, sym, ap, ap₂, _∙_}
-use mathlib.Core.Logic.{⊎-elim}
+use mathlib.Core.Path.{_≡_, refl, sym, ap, ap₂, subst, _∙_}
+use mathlib.Core.Logic.{_≢_, ⊎-elim}
 use mathlib.Core.List.{List, [], _∷_, _++_, map}
 use mathlib.Core.Option.{Option, none, some}
-use native.Mathlib.Nat.{eq-or-lt-of-le}
+use native.Mathlib.Numerals.{add-one}
 use native.Mathlib.Omega.{arith}
-use lib.ListN.{length, getD, take, drop, set, length-append, length-map, length-set, length-replicate, List·getD-map, List·getD-eq-default}
-use lib.Seq.{take-at, getD-take, getD-drop, getD-set-same, getD-set-other, ext-getD}
+use lib.ListN.{length, getD, take, drop, set, replicate, length-append, length-map, length-take, length-replicate, List·getD-map, List·getD-eq-default}
+use lib.Seq.{length-take-le, take-at, take-suc, getD-take, getD-drop, ext-getD}
 use Rattle.rules.specs.Records.{Netlist, WellFormed, most-nodes}
 use Rattle.rules.specs.Families.{Family, Families, families, Finding, clear, suspectAt, layerMarks, lowest, half}
 use Rattle.rules.specs.Slices.{markNumber, markOf, workBytes}
 use Rattle.rules.proofs.Tests.{lt-or-le}
-use Rattle.rules.proofs.Halves.{layer-mark, Lowest, lowest-says}
+use Rattle.rules.proofs.Halves.{layer-mark, NoneBefore, Lowest, lowest-says}
 use Rattle.rules.proofs.Marks.{mark-told, layer-marks-length}
 use Rattle.netlists.specs.Netlists.{padded}
 use Rattle.netlists.proofs.Netlists.{padded-same, made-set}
@@ -23,15 +23,33 @@ use Rattle.marks.specs.Marks.{flatMarks, marksIn, marksOf}
 
 -- ---- one layer
 
+-- marks written and read, at any number
+mark-written : (reports : List (Option ℕ)) (i : ℕ) → getD (map markNumber reports) i 0 ≡ markNumber (getD reports i none)
+unfolding markNumber
+mark-written reports i = List·getD-map markNumber reports i none
+
+pub mark-read : (marks : List ℕ) (i : ℕ) → getD (map markOf marks) i none ≡ markOf (getD marks i 0)
+unfolding markOf
+mark-read marks i = List·getD-map markOf marks i 0
+
+-- what is not 0 is read as a set
+pub mark-some : (A : ℕ) → A ≢ 0 → markOf A ≡ some A
+unfolding markOf
+mark-some zero h = absurd (h refl)
+mark-some (suc A) h = refl
+
 module _ (reports : List (Option ℕ)) where
   pub flat-length : length reports ≤ most-nodes → length (flatMarks reports) ≡ most-nodes
   unfolding flatMarks padded
-  flat-length h = ?
+  flat-length h =
+      let many = length-map reports markNumber in
+      length-append (map markNumber reports) (replicate (most-nodes - length (map markNumber reports)) 0)
+      ∙ rw (length-replicate {A = ℕ} (most-nodes - length (map markNumber reports)) 0) (omega arith)
 
   -- the mark at a node's number
   pub flat-at : (i : ℕ) → getD (flatMarks reports) i 0 ≡ markNumber (getD reports i none)
-  unfolding flatMarks markNumber
-  flat-at i = padded-same most-nodes 0 (map markNumber reports) i ∙ List·getD-map markNumber reports i none
+  unfolding flatMarks
+  flat-at i = padded-same most-nodes 0 (map markNumber reports) i ∙ mark-written reports i
 
   -- one mark more
   pub flat-more : (o : Option ℕ) → length reports < most-nodes → set (flatMarks reports) (length reports) (markNumber o) ≡ flatMarks (reports ++ (o ∷ []))
@@ -40,21 +58,101 @@ module _ (reports : List (Option ℕ)) where
 
 -- ---- a scan that goes on
 
--- where a scan from a node on finds no other, all marks are found
-pub all-found : (reports : List (Option ℕ)) (from : ℕ) → length reports ≤ most-nodes → foundFrom from reports ≡ clear
-    → flatMarks (take from reports) ≡ flatMarks reports
-all-found reports from few e = ?
+-- what the first `from` nodes report, at any number
+taken-at : (reports : List (Option ℕ)) (from j : ℕ) → j < from → getD (flatMarks (take from reports)) j 0 ≡ markNumber (getD reports j none)
+taken-at reports from j h = flat-at (take from reports) j ∙ ap markNumber (getD-take from reports j none h)
 
--- where it finds a node, the marks up to that one are found
-pub next-found : (reports : List (Option ℕ)) (from i A : ℕ) → length reports ≤ most-nodes → foundFrom from reports ≡ suspectAt i A
+beyond-taken : (reports : List (Option ℕ)) (from j : ℕ) → from ≤ j → getD (flatMarks (take from reports)) j 0 ≡ 0
+unfolding markNumber
+beyond-taken reports from j h =
+    flat-at (take from reports) j
+    ∙ ap markNumber (List·getD-eq-default (take from reports) none {n = j} (omega (arith, length-take from reports)))
+
+taken-few : (reports : List (Option ℕ)) (from : ℕ) → length reports ≤ most-nodes → length (flatMarks (take from reports)) ≡ most-nodes
+taken-few reports from few = flat-length (take from reports) (omega (arith, length-take from reports))
+
+-- the nodes from `from` on and below i report nothing
+abbrev NoneFrom : List (Option ℕ) → (from i : ℕ) → Type 0
+NoneFrom reports from i = (j : ℕ) → from ≤ j → j < i → getD reports j none ≡ none
+
+-- so that the marks up to i are those up to `from`
+none-more : (reports : List (Option ℕ)) (from i : ℕ) → length reports ≤ most-nodes → from ≤ i → NoneFrom reports from i
+    → flatMarks (take from reports) ≡ flatMarks (take i reports)
+unfolding markNumber
+none-more reports from i few h nothing =
+    ext-getD 0 (flatMarks (take from reports)) (flatMarks (take i reports)) (taken-few reports from few ∙ sym (taken-few reports i few)) (λ j l.
+    ⊎-elim (λ m. taken-at reports from j m ∙ sym (taken-at reports i j (omega arith)))
+    (λ m.
+    beyond-taken reports from j m
+    ∙ ⊎-elim (λ k. sym (taken-at reports i j k ∙ ap markNumber (nothing j m k))) (λ k. sym (beyond-taken reports i j k)) (lt-or-le j i))
+    (lt-or-le j from))
+
+-- and one more, where node i reports A
+one-more : (reports : List (Option ℕ)) (i A : ℕ) → length reports ≤ most-nodes → i < length reports → getD reports i none ≡ some A
+    → set (flatMarks (take i reports)) i A ≡ flatMarks (take (i + 1) reports)
+unfolding markNumber
+one-more reports i A few h here =
+    let many = length-take-le i reports (omega arith) in
+    ap (λ (k : ℕ). set (flatMarks (take i reports)) k A) (sym many)
+    ∙ flat-more (take i reports) (some A) (omega arith)
+    ∙ ap flatMarks (sym (rw (here) at (take-suc reports i none h)) ∙ rw (add-one i))
+
+-- what a scan from a node on tells
+scan-says : (reports : List (Option ℕ)) (from : ℕ) (f : Finding) → foundFrom from reports ≡ f → Lowest from (drop from reports) f
+unfolding foundFrom
+scan-says reports from f e = subst (Lowest from (drop from reports)) e (lowest-says from (drop from reports))
+
+none-before : (reports : List (Option ℕ)) (from k : ℕ) → NoneBefore (drop from reports) k → NoneFrom reports from (from + k)
+none-before reports from k before j h l =
+    let there : from + (j - from) ≡ j = omega arith in
+    rw there at (sym (getD-drop from reports (j - from) none) ∙ before (j - from) (omega arith))
+
+-- where it finds no other, all marks are found
+pub all-found : (reports : List (Option ℕ)) (from : ℕ) → length reports ≤ most-nodes → from ≤ length reports → foundFrom from reports ≡ clear
+    → flatMarks (take from reports) ≡ flatMarks (take (length reports) reports)
+all-found reports from few h e =
+    none-more reports from (length reports) few h
+    (λ j m l. none-before reports from (length reports) (scan-says reports from clear e (length reports)) j m (omega arith))
+
+-- where it finds a node, the marks up to that one are
+pub next-found : (reports : List (Option ℕ)) (from i A : ℕ) → length reports ≤ most-nodes → i < length reports → foundFrom from reports ≡ suspectAt i A
     → set (flatMarks (take from reports)) i A ≡ flatMarks (take (i + 1) reports)
-next-found reports from i A few e = ?
+next-found reports from i A few h e =
+    let (k, at, is, before) = scan-says reports from (suspectAt i A) e in
+    let here : getD reports i none ≡ some A = rw (← at) at (sym (getD-drop from reports k none) ∙ is) in
+    let nothing : NoneFrom reports from i = rw (← at) at (none-before reports from k before) in
+    ap (λ (ms : List ℕ). set ms i A) (none-more reports from i few (omega arith) nothing) ∙ one-more reports i A few h here
+-- a scan from a node on that finds no node leaves that one without a mark, and where it finds that one it tells its mark
+pub last-none : (reports : List (Option ℕ)) (from : ℕ) → foundFrom from reports ≡ clear → 0 ≡ markNumber (getD reports from none)
+unfolding markNumber
+last-none reports from e =
+    ap markNumber (sym (none-before reports from 1 (scan-says reports from clear e 1) from (omega arith) (omega arith)))
+
+pub last-found : (reports : List (Option ℕ)) (from A : ℕ) → foundFrom from reports ≡ suspectAt from A → A ≡ markNumber (getD reports from none)
+unfolding markNumber
+last-found reports from A e =
+    let (k, at, is, before) = scan-says reports from (suspectAt from A) e in
+    let here : from + k ≡ from = sym at in
+    ap markNumber (sym (rw here at (sym (getD-drop from reports k none) ∙ is)))
 
 -- ---- the marks of a netlist
 
 -- what stands at a node's number says what it reports
 layer-said : (layer : Families → Family) (n : Netlist) → map markOf (take (length (n .nodes)) (flatMarks (layerMarks layer n))) ≡ layerMarks layer n
-layer-said layer n = ?
+unfolding flatMarks padded
+layer-said layer n =
+    ap (map markOf)
+    (take-at (map markNumber (layerMarks layer n)) _ (length (n .nodes)) (length-map (layerMarks layer n) markNumber ∙ layer-marks-length layer n))
+    ∙ ext-getD none (map markOf (map markNumber (layerMarks layer n))) (layerMarks layer n) many (λ i h. told i)
+  where
+    many : length (map markOf (map markNumber (layerMarks layer n))) ≡ length (layerMarks layer n)
+    many = length-map (map markNumber (layerMarks layer n)) markOf ∙ length-map (layerMarks layer n) markNumber
+
+    told : (i : ℕ) → getD (map markOf (map markNumber (layerMarks layer n))) i none ≡ getD (layerMarks layer n) i none
+    told i =
+        mark-read (map markNumber (layerMarks layer n)) i
+        ∙ ap markOf (mark-written (layerMarks layer n) i)
+        ∙ rw (layer-mark layer n i) (mark-told _ _ _)
 
 -- each half is read from the marks
 pub halves : (n : Netlist)

@@ -20,6 +20,7 @@ use Rattle.rules.proofs.Tests.{pass, lt-or-le}
 use Rattle.rules.proofs.Halves.{marks-at}
 use Rattle.rules.proofs.Packing.{tabulate-length, tabulate-at}
 use Rattle.rules.proofs.Exit.{families-length}
+use Rattle.rules.proofs.Marks.{marks-length}
 use Rattle.families.specs.Parts.{familyAt}
 use Rattle.families.proofs.Parts.{below-at}
 use Rattle.families.proofs.Work.{Alike, settled-there, glitch-there}
@@ -29,13 +30,13 @@ use Rattle.suspects.proofs.Suspects.{reported-same, reported-nothing, r
 
 -- ---- the lowest node that reports
 
-lowest-clear : (first : ℕ) (reports : List (Option ℕ)) → ((j : ℕ) → getD reports j none ≡ none) → lowest first reports ≡ clear
+pub lowest-clear : (first : ℕ) (reports : List (Option ℕ)) → ((j : ℕ) → getD reports j none ≡ none) → lowest first reports ≡ clear
 unfolding lowest
 lowest-clear first [] h = refl
 lowest-clear first (none ∷ rest) h = lowest-clear (suc first) rest (λ j. h (suc j))
 lowest-clear first (some A ∷ rest) h = let z : _≡_ {A = ℕ} 0 1 = cc (h 0) in absurd (omega arith)
 
-lowest-suspect : (first i A : ℕ) (reports : List (Option ℕ)) → getD reports i none ≡ some A → ((j : ℕ) → j < i → getD reports j none ≡ none)
+pub lowest-suspect : (first i A : ℕ) (reports : List (Option ℕ)) → getD reports i none ≡ some A → ((j : ℕ) → j < i → getD reports j none ≡ none)
     → lowest first reports ≡ suspectAt (first + i) A
 unfolding lowest
 lowest-suspect first i A [] e h = let z : _≡_ {A = ℕ} 0 1 = cc in absurd (omega arith)
@@ -120,6 +121,11 @@ module _ (n : Netlist) (layer : ℕ) (bytes : List ℕ) where
   -- the families, and the reports of the nodes one by one
   layerFamilies : List Family
   layerFamilies = tabulate (λ i. familyAt bytes (2 * i + layer)) (length (n .nodes))
+
+  pub reports-length : length (reportsIn n layer bytes) ≡ length (n .nodes)
+  unfolding reportsIn
+  reports-length =
+      marks-length (n .variables) (n .nodes) _ (sym (tabulate-length (λ i. familyAt bytes (2 * i + layer)) (length (n .nodes))))
 
   report-at : (j : ℕ)
       → getD (reportsIn n layer bytes) j none ≡ mark (n .variables) (getD (n .nodes) j (input 0)) (getD layerFamilies j [])

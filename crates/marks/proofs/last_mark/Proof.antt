@@ -1,34 +1,36 @@
+-- `marks::last_mark` meets its contract: a scan from the last node on finds that node or none. Assumes nothing.
+use Prim.Native.Nat.{ℕ, _-_, _<_}
+use mathlib.Core.Path.{_≡_, sym, ap, _∙_}
+use native.Mathlib.Omega.{arith}
 use borrow.Author.Needs.{needs}
+use Rattle.marks.proofs.Layers.{last-none, last-found}
 use Rattle.marks.proofs.last_mark.Statement.{statement}
 use Rattle.marks.proofs.last_mark.Tie as tie
 
--- src/lib.rt:78:42
 sub-scan : tie.Need-sub-scan
 sub-scan c = search needs
 
--- src/lib.rt:78:11
 scan-requires : tie.Need-scan-requires
 scan-requires c κs = search needs
 
--- src/lib.rt:79:24
 enum-told : tie.Need-enum-told
 enum-told c = search needs
 
--- src/lib.rt:80:26
 enum-known-set : tie.Need-enum-known-set
 enum-known-set c = search needs
 
--- src/lib.rt:80:34
 cast-result : tie.Need-cast-result
-cast-result c = ?
+cast-result c = omega (arith, rw (c .before .set .given .1) at (c .before .before .before .scan .ensures .1))
 
--- src/lib.rt:73:1
 returns : tie.Need-returns
-returns c = ?
+returns c = λ n e. last-none _ _ (sym (c .before .before .scan .ensures .0 n e) ∙ rw (c .enum-told .given .1))
 
--- src/lib.rt:73:1
 returns-2 : tie.Need-returns-2
-returns-2 c = ?
+returns-2 c =
+    λ n e.
+    let within = rw (c .before .set .given .1) at (c .before .before .before .scan .ensures .1) in
+    let last : c .before .set .given .0 .0 ≡ c .before .before .before .before .before .before .args .netlist .count - 1 = omega arith in
+    last-found _ _ _ (sym (c .before .before .before .scan .ensures .0 n e) ∙ rw (c .before .set .given .1, last))
 
 pub last-mark-spec : {M : Type 1} → statement M
 last-mark-spec =
