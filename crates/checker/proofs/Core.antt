@@ -1,15 +1,15 @@
 -- What the core's functions cite: each way through reading and the slices examines the outcome that the rules give, and from that follow the
 -- promises of `examine`. Assumes nothing.
-use mathlib.Core.Path.{_≡_, refl, sym, ap, subst, _∙_}
+use mathlib.Core.Path.{_≡_, refl, sym, subst, _∙_}
 use mathlib.Core.Logic.{_↔_}
-use mathlib.Core.List.{List, _++_}
+use mathlib.Core.List.{List, _++_, map}
 use Prim.Native.Nat.{ℕ, _*_, _<_, _≤_}
 use native.Mathlib.Omega.{arith}
-use lib.ListN.{length, drop}
+use lib.ListN.{length, take, drop}
 use borrow.Author.Tests.{lt-ltb, le-ltb}
-use Rattle.rules.specs.Records.{Netlist, empty, WellFormed}
-use Rattle.rules.specs.Families.{families, findings}
-use Rattle.rules.specs.Slices.{workBytes, filled, workAfter, reply}
+use Rattle.rules.specs.Records.{Netlist}
+use Rattle.rules.specs.Families.{families, lowest, half, findings}
+use Rattle.rules.specs.Slices.{markOf, workBytes, filled, workAfter, reply}
 use Rattle.rules.specs.Checks.{answered, refused, andThen, judged, read, slicesFit, admitted}
 use Rattle.rules.specs.Demands.{GlitchClear, NothingSuspect, OneProbe}
 use Rattle.rules.specs.Paper.{numberOf, placeOf, findingOf, replyOf}
@@ -20,56 +20,59 @@ use Rattle.rules.specs.declared.Reply.the-variants.{Refused, Answered}
 use Rattle.rules.proofs.Halves.{exactly-when}
 use Rattle.rules.proofs.Probe.{one-probe}
 use Rattle.netlists.specs.declared.Netlist as Value
-use Rattle.netlists.specs.Netlists.{flatOf, Ready, kept}
-use Rattle.netlists.proofs.Netlists.{value-variables, value-count, well-formed}
-use Rattle.suspects.specs.Suspects.{found}
-use Rattle.suspects.proofs.Search.{found-half}
+use Rattle.netlists.specs.Netlists.{flatOf, kept}
+use Rattle.netlists.proofs.Netlists.{value-variables, value-count}
+use Rattle.marks.specs.declared.Marks.{Marks}
+use Rattle.marks.specs.Marks.{marksOf}
+use Rattle.marks.proofs.Layers.{halves}
 use Rattle.checker.specs.declared.Examined.{Examined}
-use Rattle.checker.specs.Work.{Examines, Looks}
+use Rattle.checker.specs.Work.{NothingKept, Examines, Looks}
 
 -- a refusal, with nothing kept and nothing written
 pub refusal : (r : Refusal) (k p : ℕ) (examined : Examined) (work : List ℕ) → numberOf r ≡ k → placeOf r ≡ p
-    → examined .reply ≡ Refused r → examined .netlist ≡ flatOf empty → Examines (refused k p) examined work work
+    → examined .reply ≡ Refused r → NothingKept examined → Examines (refused k p) examined work work
 unfolding andThen kept filled
-refusal r k p examined work n w e t =
-    record { reply = subst (λ x. replyOf x ≡ refused k p) (sym e) (rw (n, w)); netlist = t; work = refl }
+refusal r k p examined work n w e (t, m) =
+    record { reply = subst (λ x. replyOf x ≡ refused k p) (sym e) (rw (n, w)); netlist = t; marks = m; work = refl }
 
--- what the scans of both layers find is the answer
-pub looks : (value : Value.Netlist) (work : List ℕ) (settled glitch : Half)
-    → ((n : Netlist) → value ≡ flatOf n → findingOf settled ≡ found n 0 work) → ((n : Netlist) → value ≡ flatOf n → findingOf glitch ≡ found n 1 work)
-    → Looks value work (record {
+-- what is read from the marks of both layers is the answer
+pub looks : (value : Value.Netlist) (marks : Marks) (settled glitch : Half)
+    → findingOf settled ≡ lowest 0 (map markOf (take (value .count) (marks .settled)))
+    → findingOf glitch ≡ lowest 0 (map markOf (take (value .count) (marks .glitch)))
+    → Looks value marks (record {
       reply = Answered (record { variables = value .variables; nodes = value .count; settled = settled; glitch = glitch });
       netlist = value;
+      marks = marks;
     })
 unfolding findings
-looks value work settled glitch s g =
-    record { netlist = refl; stands = λ k p e. let z : _≡_ {A = ℕ} 0 1 = cc in omega arith; finds = answer }
+looks value marks settled glitch s g =
+    record { netlist = refl; itsMarks = refl; stands = λ k p e. let z : _≡_ {A = ℕ} 0 1 = cc in omega arith; finds = answer }
   where
-    answer : (n : Netlist) → WellFormed n → value ≡ flatOf n → (rest : List ℕ) → work ≡ workBytes (families n) ++ rest
+    answer : (n : Netlist) → value ≡ flatOf n → marks ≡ marksOf n
         → answered (record { variables = value .variables; nodes = value .count; settled = findingOf settled; glitch = findingOf glitch }) ≡ answered (findings n)
-    answer n formed e rest w =
-        let halves = found-half n formed rest in
-        let first = s n e ∙ ap (found n 0) w ∙ halves .0 in
-        let second = g n e ∙ ap (found n 1) w ∙ halves .1 in
-        let variables = value-variables n e in
+    answer n e m =
         let nodes = value-count n e in
+        let variables = value-variables n e in
+        let read = halves n in
+        let first : findingOf settled ≡ half (λ F. F .settled) n = rw (nodes, m) at s ∙ read .0 in
+        let second : findingOf glitch ≡ half (λ F. F .glitch) n = rw (nodes, m) at g ∙ read .1 in
         rw (first, second, variables, nodes)
 
--- the answer of a netlist whose families stand in the work slice
-pub answers : (value : Value.Netlist) {work : ℕ} → Ready value work → (n : Netlist) → value ≡ flatOf n → (examined : Examined) (before : List ℕ) {after : List ℕ}
-    → after ≡ workBytes (families n) ++ drop (length (workBytes (families n))) before → Looks value after examined → Examines (answered n) examined before after
+-- the answer of a netlist whose families stand in the work slice, and its marks
+pub answers : (value : Value.Netlist) (n : Netlist) → value ≡ flatOf n → (marks : Marks) → marks ≡ marksOf n → (examined : Examined) (before : List ℕ) {after : List ℕ}
+    → after ≡ workBytes (families n) ++ drop (length (workBytes (families n))) before → Looks value marks examined → Examines (answered n) examined before after
 unfolding andThen kept filled
-answers value ready n e examined before w l =
-    record { reply = l .finds n (well-formed (ready .formed) n e) e _ w; netlist = l .netlist ∙ e; work = w }
+answers value n e marks m examined before w l =
+    record { reply = l .finds n e m; netlist = l .netlist ∙ e; marks = l .itsMarks ∙ m; work = w }
 
 -- the slices are too short, or hold a netlist of so many nodes
 module _ (entries count : ℕ) (n : Netlist) (examined : Examined) (before : List ℕ) (same : count ≡ length (n .nodes)) where
-  pub few-entries : entries < count → examined .reply ≡ Refused (FewEntries count) → examined .netlist ≡ flatOf empty
+  pub few-entries : entries < count → examined .reply ≡ Refused (FewEntries count) → NothingKept examined
       → Examines (slicesFit entries (length before) n) examined before before
   unfolding slicesFit judged
   few-entries h r t = rw (← same, lt-ltb _ _ h) (refusal _ _ _ examined before refl refl r t)
 
-  pub short-work : count ≤ entries → length before < 256 * count → examined .reply ≡ Refused (ShortWork (256 * count)) → examined .netlist ≡ flatOf empty
+  pub short-work : count ≤ entries → length before < 256 * count → examined .reply ≡ Refused (ShortWork (256 * count)) → NothingKept examined
       → Examines (slicesFit entries (length before) n) examined before before
   unfolding slicesFit judged
   short-work h l r t = rw (← same, le-ltb _ _ h, lt-ltb _ _ l) (refusal _ _ _ examined before refl refl r t)
@@ -87,7 +90,7 @@ module _ (bytes : List ℕ) (entries : ℕ) where
   of-read n examined before after e x = rw e x
 
   pub of-refused : (r : Refusal) (examined : Examined) (before : List ℕ) → read bytes ≡ refused (numberOf r) (placeOf r)
-      → examined .reply ≡ Refused r → examined .netlist ≡ flatOf empty → Examines (admitted bytes entries (length before)) examined before before
+      → examined .reply ≡ Refused r → NothingKept examined → Examines (admitted bytes entries (length before)) examined before before
   unfolding admitted andThen
   of-refused r examined before e q t = rw e (refusal r _ _ examined before refl refl q t)
 
@@ -95,9 +98,10 @@ module _ (bytes : List ℕ) (entries : ℕ) where
   pub promises : (examined : Examined) (before after : List ℕ) → Examines (admitted bytes entries (length before)) examined before after
       → (replyOf (examined .reply) ≡ reply bytes entries (length before))
       × ((examined .netlist ≡ flatOf (kept (admitted bytes entries (length before))))
+      × ((examined .marks ≡ marksOf (kept (admitted bytes entries (length before))))
       × ((after ≡ workAfter bytes entries before)
       × ((GlitchClear (replyOf (examined .reply)) ↔ NothingSuspect bytes entries (length before))
-      × (GlitchClear (replyOf (examined .reply)) → OneProbe bytes))))
+      × (GlitchClear (replyOf (examined .reply)) → OneProbe bytes)))))
   unfolding reply workAfter
   promises examined before after e =
       let is : replyOf (examined .reply) ≡ reply bytes entries (length before) = e .reply in (
@@ -105,10 +109,13 @@ module _ (bytes : List ℕ) (entries : ℕ) where
         (
           e .netlist,
           (
-            e .work,
+            e .marks,
             (
-              subst (λ r. GlitchClear r ↔ NothingSuspect bytes entries (length before)) (sym is) (exactly-when bytes entries (length before)),
-              subst (λ r. GlitchClear r → OneProbe bytes) (sym is) (one-probe bytes entries (length before)),
+              e .work,
+              (
+                subst (λ r. GlitchClear r ↔ NothingSuspect bytes entries (length before)) (sym is) (exactly-when bytes entries (length before)),
+                subst (λ r. GlitchClear r → OneProbe bytes) (sym is) (one-probe bytes entries (length before)),
+              ),
             ),
           ),
         ),

@@ -35,16 +35,17 @@ use denote.Triple.Call.{calls-at}
 use denote.Triple.Clauses.{Ended, Clauses, Lasts, AtExit, atExit, lasts, closing}
 use denote.Triple.Walked.{says}
 use Rattle.rules.specs.Records.{most-nodes}
-use Rattle.rules.specs.declared.Node.{Node}
+use Rattle.rules.specs.declared.NodeRecord.{NodeRecord}
 use Rattle.rules.specs.Slices.{nodesAfter, workAfter, reply}
 use Rattle.rules.specs.Checks.{admitted}
 use Rattle.rules.specs.Demands.{GlitchClear, NothingSuspect, OneProbe}
 use Rattle.rules.specs.Paper.{replyOf}
 use Rattle.netlists.specs.Netlists.{flatOf, kept}
 use Rattle.netlists.specs.declared.Netlist.{Netlist}
-use Rattle.rules.proofs.Node as T
+use Rattle.rules.proofs.NodeRecord as T
 use Rattle.checker.specs.declared.Examined.{Examined}
-use Rattle.checker.specs.Work.{stored}
+use Rattle.marks.specs.Marks.{marksOf}
+use Rattle.checker.specs.Work.{recordIn, stored}
 use Rattle.checker.proofs.Examined as E
 use Rattle.checker.proofs.Examined.Laws as E′
 use Rattle.checker.proofs.Stored.{kept-fits, kept-stored}
@@ -139,8 +140,8 @@ module _ {M : Type 1} (𝓤 : URA M) (H : Heap 𝓤) (A : Atoms 𝓤) (mem : Mem
   abbrev pub Store : Contract 𝓤
   Store = tripleOf 𝓤 H A store.signature (store.spec 𝓤 H A mem run)
 
-module _ {M : Type 1} (𝓤 : URA M) (H : Heap 𝓤) (A : Atoms 𝓤) (W : Given 𝓤 H A) (mem : Memory → SProp 𝓤) (run : Routine → Fun 𝓤) (κ : Lft) (q : Share) (nodes : RefT (List Node)) (e : Examined) (v : Val) (is-e : Is E.the-row e (v ∷ [])) where
-  abbrev ys : List Node
+module _ {M : Type 1} (𝓤 : URA M) (H : Heap 𝓤) (A : Atoms 𝓤) (W : Given 𝓤 H A) (mem : Memory → SProp 𝓤) (run : Routine → Fun 𝓤) (κ : Lft) (q : Share) (nodes : RefT (List NodeRecord)) (e : Examined) (v : Val) (is-e : Is E.the-row e (v ∷ [])) where
+  abbrev ys : List NodeRecord
   ys = nodes .now
 
   abbrev s₁ : Val
@@ -161,7 +162,7 @@ module _ {M : Type 1} (𝓤 : URA M) (H : Heap 𝓤) (A : Atoms 𝓤) (W : Given
   -- the call of `store` with what was examined: the borrow of nodes is passed on, and its last list has the records at its front
   pub calls-stores : {K : Type 0} {Γ : List (Item 𝓤)} {En : Env 𝓤 H} {C : Calls 𝓤 H} {f : Name} {os : List Opd} {Λ : Loops 𝓤 H} {Q : Post 𝓤 H} {d : Place} {rest : Body} → K → FmC 𝓤 H (W .laws) C → Triple 𝓤 (C f) (Store 𝓤 H A mem run)
       → (e .netlist .count ≤ length ys) × (e .netlist .count ≤ most-nodes) → Opds K W (raw (Store 𝓤 H A mem run .pre to-store) ∷ Γ) En os (s₁ ∷ v ∷ [])
-      → ((o : Val) (ns : List Node) → Holds (hasTy tyUnit o) × WT o → ns ≡ stored (e .netlist .nodes) ys (e .netlist .count) → length ns ≡ length ys
+      → ((o : Val) (ns : List NodeRecord) → Holds (hasTy tyUnit o) × WT o → ns ≡ stored (recordIn e) ys (e .netlist .count) → length ns ≡ length ys
       → Seq K W ((‵ (flft κ q) ⊛ ‵ ftrue) ∷ ‵ (finally T.the-row (nodes .name) ns) ∷ Γ) (lands C Λ En d o rest Q))
       → Seq K W (‵ (flft κ q) ∷ ‵ Own₁ ∷ Γ) (runs C Λ En (seq (call f os d) rest) Q)
   calls-stores t fm known few args k =
@@ -171,22 +172,23 @@ module _ {M : Type 1} (𝓤 : URA M) (H : Heap 𝓤) (A : Atoms 𝓤) (W : Given
       move t (1 ∷ []) $ drop t $ move t (1 ∷ []) $ facts t unit (Is unit) (shows 𝓤 H A unit) u (o ∷ []) (λ is-o. move t (1 ∷ []) $ use1 W (‵ (flft κ q) ⊛ ‵ ftrue) (id⊢ 𝓤 _) $
       k o (ns .0) (nothing-lawful 𝓤 H A W .typed u _ is-o .0) is-ns l))))
     where
-      Stored : List Node
-      Stored = stored (e .netlist .nodes) ys (e .netlist .count)
+      Stored : List NodeRecord
+      Stored = stored (recordIn e) ys (e .netlist .count)
 
   -- where the netlist is the one that netlist bytes are admitted as: the last list is what the rules say it is at exit
   pub calls-store : {K : Type 0} {Γ : List (Item 𝓤)} {En : Env 𝓤 H} {C : Calls 𝓤 H} {f : Name} {os : List Opd} {Λ : Loops 𝓤 H} {Q : Post 𝓤 H} {d : Place} {rest : Body} → K → FmC 𝓤 H (W .laws) C → Triple 𝓤 (C f) (Store 𝓤 H A mem run)
-      → (xs : List ℕ) (z : ℕ) → e .netlist ≡ flatOf (kept (admitted xs (length ys) z)) → Opds K W (raw (Store 𝓤 H A mem run .pre to-store) ∷ Γ) En os (s₁ ∷ v ∷ [])
-      → ((o : Val) (ns : List Node) → Holds (hasTy tyUnit o) × WT o → ns ≡ nodesAfter xs ys z → length ns ≡ length ys → Seq K W ((‵ (flft κ q) ⊛ ‵ ftrue) ∷ ‵ (finally T.the-row (nodes .name) ns) ∷ Γ) (lands C Λ En d o rest Q))
+      → (xs : List ℕ) (z : ℕ) → e .netlist ≡ flatOf (kept (admitted xs (length ys) z)) → e .marks ≡ marksOf (kept (admitted xs (length ys) z)) → Opds K W (raw (Store 𝓤 H A mem run .pre to-store) ∷ Γ) En os (s₁ ∷ v ∷ [])
+      → ((o : Val) (ns : List NodeRecord) → Holds (hasTy tyUnit o) × WT o → ns ≡ nodesAfter xs ys z → length ns ≡ length ys → Seq K W ((‵ (flft κ q) ⊛ ‵ ftrue) ∷ ‵ (finally T.the-row (nodes .name) ns) ∷ Γ) (lands C Λ En d o rest Q))
       → Seq K W (‵ (flft κ q) ∷ ‵ Own₁ ∷ Γ) (runs C Λ En (seq (call f os d) rest) Q)
-  calls-store t fm known xs z is-flat args k =
+  calls-store t fm known xs z is-flat is-marked args k =
       calls-stores t fm known (subst (λ (n : Netlist). (n .count ≤ length ys) × (n .count ≤ most-nodes)) (sym is-flat) (kept-fits xs (length ys) z)) args
-      (λ o ns ok is-ns l. k o ns ok (is-ns ∙ ap (λ (n : Netlist). stored (n .nodes) ys (n .count)) is-flat ∙ kept-stored xs ys z) l)
+      (λ o ns ok is-ns l. k o ns ok (is-ns ∙ kept-stored xs ys z e is-flat is-marked) l)
 
 -- what `examine` says of bytes xs, m entries and a work slice that holds zs, where it gives e and leaves ws
 pub record Says (xs : List ℕ) (m : ℕ) (zs : List ℕ) (e : Examined) (ws : List ℕ) : Type 0 where
   pub replied : replyOf (e .reply) ≡ reply xs m (length zs)
   pub is-flat : e .netlist ≡ flatOf (kept (admitted xs m (length zs)))
+  pub is-marked : e .marks ≡ marksOf (kept (admitted xs m (length zs)))
   pub is-ws : ws ≡ workAfter xs m zs
   pub cleared : GlitchClear (replyOf (e .reply)) ↔ NothingSuspect xs m (length zs)
   pub probed : GlitchClear (replyOf (e .reply)) → OneProbe xs
@@ -235,11 +237,12 @@ module _ {M : Type 1} (𝓤 : URA M) (H : Heap 𝓤) (A : Atoms 𝓤) (W : Given
       → Seq K W (Alive ∷ ‵ Own₀ ∷ ‵ Own₂ ∷ Γ) (runs C Λ En (seq (call f os d) rest) Q)
   calls-examine t fm known args k =
       use3 W (raw (Examine 𝓤 H A mem run .pre to-examine)) goes-examine $ calls-ended 𝓤 H A W examine.ended (examine.clauses 𝓤 H A mem run) to-examine t fm known args (λ v e ws.
-      use1 W (raw (fact 𝓤 (replyOf (e .reply) ≡ reply xs m (length zs))) ⊛ raw (fact 𝓤 (e .netlist ≡ flatOf (kept (admitted xs m (length zs))))) ⊛ raw (fact 𝓤 (ws .1 .1 .0 ≡ workAfter xs m zs))
+      use1 W (raw (fact 𝓤 (replyOf (e .reply) ≡ reply xs m (length zs))) ⊛ raw (fact 𝓤 (e .netlist ≡ flatOf (kept (admitted xs m (length zs)))))
+      ⊛ raw (fact 𝓤 (e .marks ≡ marksOf (kept (admitted xs m (length zs))))) ⊛ raw (fact 𝓤 (ws .1 .1 .0 ≡ workAfter xs m zs))
       ⊛ raw (fact 𝓤 (GlitchClear (replyOf (e .reply)) ↔ NothingSuspect xs m (length zs))) ⊛ raw (fact 𝓤 (GlitchClear (replyOf (e .reply)) → OneProbe xs))) (id⊢ 𝓤 _) $
       split t $ heard t (replyOf (e .reply) ≡ reply xs m (length zs)) (λ replied. split t $ heard t (e .netlist ≡ flatOf (kept (admitted xs m (length zs)))) (λ is-flat.
-      split t $ heard t (ws .1 .1 .0 ≡ workAfter xs m zs) (λ is-ws. split t $ heard t (GlitchClear (replyOf (e .reply)) ↔ NothingSuspect xs m (length zs)) (λ cleared.
+      split t $ heard t (e .marks ≡ marksOf (kept (admitted xs m (length zs)))) (λ is-marked. split t $ heard t (ws .1 .1 .0 ≡ workAfter xs m zs) (λ is-ws. split t $ heard t (GlitchClear (replyOf (e .reply)) ↔ NothingSuspect xs m (length zs)) (λ cleared.
       heard t (GlitchClear (replyOf (e .reply)) → OneProbe xs) (λ probed. fsplit t $ drop t $ fsplit t $ drop t $ fsplit t $ fsplit t $ move t (1 ∷ []) $ feqL t (λ l.
       -- [the last list; …; what e owns; the tokens]
       move t (1 ∷ []) $ drop t $ move t (1 ∷ []) $ facts t E.the-row (Is E.the-row) (shows 𝓤 H A E.the-row) e (v ∷ []) (λ is-e. move t (1 ∷ []) $ use1 W Alive (id⊢ 𝓤 _) $
-      k v e (ws .1 .1 .0) is-e (record { replied = replied; is-flat = is-flat; is-ws = is-ws; cleared = cleared; probed = probed }) l))))))))
+      k v e (ws .1 .1 .0) is-e (record { replied = replied; is-flat = is-flat; is-marked = is-marked; is-ws = is-ws; cleared = cleared; probed = probed }) l)))))))))

@@ -28,10 +28,10 @@ use denote.Slice.{sliceTy, sliceVal, MutSlice, ShrSlice, Room, finally, shr-slic
 use denote.Steps.{peeks}
 use denote.Struct.Laws as LL
 use denote.Triple.Statement.{Triple}
-use Rattle.rules.specs.declared.Node.{Node}
+use Rattle.rules.specs.declared.NodeRecord.{NodeRecord}
 use Rattle.rules.specs.Slices.{nodesAfter}
-use Rattle.rules.proofs.Node as T
-use Rattle.rules.proofs.Node.Laws as T′
+use Rattle.rules.proofs.NodeRecord as T
+use Rattle.rules.proofs.NodeRecord.Laws as T′
 use Rattle.checker.specs.declared.Examined.{Examined}
 use Rattle.checker.proofs.Examined as E
 use Rattle.checker.proofs.Examined.Laws as E′
@@ -70,11 +70,11 @@ pub record Last {M : Type 1} {𝓤 : URA M} {H : Heap 𝓤} {A : Atoms 𝓤} (W 
       → ((t : Val) (r : R .Denot) → φ e r → Seq K W (‵ (R .own r (t ∷ [])) ∷ Γ) (lands C Λ En d t rest Q)) → Seq K W Γ (runs C Λ En (seq (call last os d) rest) Q)
 
 module _ {M : Type 1} (𝓤 : URA M) (H : Heap 𝓤) (A : Atoms 𝓤) (W : Given 𝓤 H A) (mem : Memory → SProp 𝓤) (run : Routine → Fun 𝓤) (κ₀ κ₁ κ₂ : Lft) (q₀ q₁ q₂ : Share)
-    (bytes : RefT (List ℕ)) (nodes : RefT (List Node)) (work : RefT (List ℕ)) (room₀ : Room u8 (length (bytes .now))) (room₁ : Room T.the-row (length (nodes .now))) (room₂ : Room u8 (length (work .now))) where
+    (bytes : RefT (List ℕ)) (nodes : RefT (List NodeRecord)) (work : RefT (List ℕ)) (room₀ : Room u8 (length (bytes .now))) (room₁ : Room T.the-row (length (nodes .now))) (room₂ : Room u8 (length (work .now))) where
   abbrev xs : List ℕ
   xs = bytes .now
 
-  abbrev ys : List Node
+  abbrev ys : List NodeRecord
   ys = nodes .now
 
   abbrev zs : List ℕ
@@ -109,12 +109,12 @@ module _ {M : Type 1} (𝓤 : URA M) (H : Heap 𝓤) (A : Atoms 𝓤) (W : Given
   Params = owns (ShrSlice (named 0) κ₀ u8 ∷ MutSlice (named 1) κ₁ T.the-row ∷ MutSlice (named 2) κ₂ u8 ∷ []) (bytes, (nodes, (work, tt))) (s₀ ∷ [], (s₁ ∷ [], (s₂ ∷ [], tt)))
 
   -- what is left at exit of both lent slices, whose last lists are ns and ws
-  abbrev pub Left : List Node → List ℕ → List (Item 𝓤)
+  abbrev pub Left : List NodeRecord → List ℕ → List (Item 𝓤)
   Left ns ws = (‵ (flft κ₁ q₁) ⊛ ‵ ftrue) ∷ ‵ (finally T.the-row (nodes .name) ns) ∷ Alive ∷ ‵ (finally u8 (work .name) ws) ∷ ‵ Own₀ ∷ []
 
   -- The result's type, and what `last` says of it; what is asked at exit; and that what is then had is what is asked.
   module _ (R : RattleType) (τ : Ty) (typed : (r : R .Denot) (t : Val) → Is R r (t ∷ []) → Holds (hasTy τ t) × WT t) (φ : Examined → R .Denot → Type 0) (Asked : Val → SProp 𝓤)
-      (exits : (e : Examined) (r : R .Denot) (t : Val) (ns : List Node) (ws : List ℕ) → Says xs (length ys) zs e ws → φ e r → ns ≡ nodesAfter xs ys (length zs) → length ns ≡ length ys → length ws ≡ length zs
+      (exits : (e : Examined) (r : R .Denot) (t : Val) (ns : List NodeRecord) (ws : List ℕ) → Says xs (length ys) zs e ws → φ e r → ns ≡ nodesAfter xs ys (length zs) → length ns ≡ length ys → length ws ≡ length zs
       → ent 𝓤 (⋆ 𝓤 H A (‵ (R .own r (t ∷ [])) ∷ Left ns ws)) (Asked t))
       (C : Calls 𝓤 H) (Λ : Loops 𝓤 H) (fm : FmC 𝓤 H (W .laws) C) (known-examine : Triple 𝓤 (C #checker·examine) (Examine 𝓤 H A mem run)) (known-store : Triple 𝓤 (C #checker·store) (Store 𝓤 H A mem run)) (last : Name)
       (given : Last W C Λ last R φ) where
@@ -140,7 +140,7 @@ module _ {M : Type 1} (𝓤 : URA M) (H : Heap 𝓤) (A : Atoms 𝓤) (W : Given
       finishes e v ws is-e said l₂ =
           assigns ! (addr ! (from ! (fld ! refl (hop ! (look-in ! 21 (sub ! 0 refl (whole !))) (stop !))))) (from ! (stop !)) (init ! 7 refl (tt, tt)) $
           assigns ! (agg ! (and-then ! (load ! (from ! (stop !)) (look ! 7 refl)) (and-then ! (load ! (from ! (fld ! refl (stop !))) (look-in ! 21 (sub ! 1 refl (whole !)))) (no-more !)))) (from ! (stop !)) (init ! 5 refl (tt, (tt, (record { fits = room₁ .0 }, tt)))) $
-          move ! (2 ∷ 3 ∷ []) $ calls-store 𝓤 H A W mem run κ₁ q₁ nodes e v is-e ! fm known-store xs (length zs) (said .is-flat) (and-then ! (load ! (from ! (stop !)) (look ! 4 refl)) (and-then ! (load ! (from ! (stop !)) (look ! 16 refl)) (no-more !))) (λ u ns ok is-ns l₁.
+          move ! (2 ∷ 3 ∷ []) $ calls-store 𝓤 H A W mem run κ₁ q₁ nodes e v is-e ! fm known-store xs (length zs) (said .is-flat) (said .is-marked) (and-then ! (load ! (from ! (stop !)) (look ! 4 refl)) (and-then ! (load ! (from ! (stop !)) (look ! 16 refl)) (no-more !))) (λ u ns ok is-ns l₁.
           -- [the nodes' token; their last list; Alive; the work's last list; what bytes owns; the locals]
           land ! (from ! (stop !)) (init ! 9 refl ok) $
           given .calls ! e v is-e (λ i. and-then ! (load ! (from ! (stop !)) (look ! 18 refl)) (no-more !)) (λ t r is-r.

@@ -4,7 +4,7 @@ use mathlib.Core.Path.{_≡_}
 use mathlib.Core.List.{List}
 use lib.ListN.{getD, set}
 use Rattle.rules.specs.declared.NodeRecord.{NodeRecord}
-use Rattle.rules.specs.Records.{Netlist}
+use Rattle.rules.specs.Records.{Netlist, empty}
 use Rattle.rules.specs.Families.{families, findings}
 use Rattle.rules.specs.Slices.{workBytes, filled}
 use Rattle.rules.specs.Checks.{Outcome, answered, refused, andThen}
@@ -14,6 +14,10 @@ use Rattle.netlists.specs.Netlists.{blank, flatOf, kept}
 use Rattle.marks.specs.declared.Marks.{Marks}
 use Rattle.marks.specs.Marks.{marksOf}
 use Rattle.checker.specs.declared.Examined.{Examined}
+
+-- no node is kept
+abbrev pub NothingKept : Examined → Type 0
+NothingKept examined = (examined .netlist ≡ flatOf empty) × (examined .marks ≡ marksOf empty)
 
 -- what is examined where the outcome of reading and of the slices is `outcome`, and the work slice held `before` and then holds `after`
 pub record Examines (outcome : Outcome Netlist) (examined : Examined) (before after : List ℕ) : Type 0 where

@@ -12,7 +12,7 @@ ghost use Rattle.rules.specs.Demands.{GlitchClear, NothingSuspect, OneProbe};
 ghost use Rattle.rules.specs.Paper.{replyOf};
 ghost use Rattle.netlists.specs.Netlists.{flatOf, Formed, Ready, kept};
 ghost use Rattle.marks.specs.Marks.{marksOf};
-ghost use Rattle.checker.specs.Work.{Examines, Looks, recordIn, stored, unwritten};
+ghost use Rattle.checker.specs.Work.{NothingKept, Examines, Looks, recordIn, stored, unwritten};
 use marks::Marks;
 use netlists::Netlist;
 use rules::Answer;
@@ -30,7 +30,7 @@ pub struct Examined {
 
 // A refusal, with nothing kept.
 pub fn refused(refusal: Refusal) -> Examined
-    ensures { λ r. ⌜ (r .reply ≡ Reply.Refused refusal) × (r .netlist ≡ flatOf Records.empty) × (r .marks ≡ marksOf Records.empty) ⌝ }
+    ensures { λ r. ⌜ (r .reply ≡ Reply.Refused refusal) × NothingKept r ⌝ }
 {
     Examined {
         reply: Reply::Refused(refusal),
@@ -44,8 +44,10 @@ pub fn look(netlist: Netlist, marks: Marks) -> Examined
     requires { ⌜ netlist .count ≤ most-nodes ⌝ }
     ensures { λ r. ⌜ Looks netlist marks r ⌝ }
 {
-    let settled = marks::lowest_marked(marks.settled, netlist.count);
-    let glitch = marks::lowest_marked(marks.glitch, netlist.count);
+    let in_settled = marks.settled;
+    let in_glitch = marks.glitch;
+    let settled = marks::lowest_marked(in_settled, netlist.count);
+    let glitch = marks::lowest_marked(in_glitch, netlist.count);
     let answer = Answer {
         variables: netlist.variables,
         nodes: netlist.count,

@@ -6,7 +6,7 @@ use mathlib.Core.List.{List, [], _∷_, map}
 use native.Mathlib.Omega.{arith}
 use borrow.Author.Tests.{ltb-false}
 use lib.ListN.{length}
-use Rattle.rules.specs.declared.Node.{Node}
+use Rattle.rules.specs.declared.NodeRecord.{NodeRecord}
 use Rattle.rules.specs.Records.{Netlist, WellFormed, withNode, writtenOut}
 use Rattle.rules.specs.Families.{families, findings}
 use Rattle.rules.specs.Checks.{Outcome, answered, refused, andThen, judged, slicesFit, admitted, nodeCheck}
@@ -79,7 +79,7 @@ module _ (entries work : ℕ) (m : Netlist) (is : Made entries work m) where
   afresh-reply = rw afresh-admitted
 
 -- both slices then hold its node records and families, and beyond them what stood there
-pub afresh-nodes : (before : List Node) (work : ℕ) (m : Netlist) → Made (length before) work m
+pub afresh-nodes : (before : List NodeRecord) (work : ℕ) (m : Netlist) → Made (length before) work m
     → nodesAfter (writtenOut m) before work ≡ filled (λ n. map entry (n .nodes)) (answered m) before
 unfolding nodesAfter
 afresh-nodes before work m is = rw (afresh-admitted (length before) work m is)
@@ -90,7 +90,7 @@ unfolding workAfter
 afresh-work entries before m is = rw (afresh-admitted entries (length before) m is)
 
 -- The netlist after an edit that is made, written out and checked afresh in the same slices, gives the same reply, node records and families.
-pub checked-afresh : (n m : Netlist) (e : Edit) (nodes : List Node) (work : List ℕ) → WellFormed n → edited n e (length nodes) (length work) ≡ answered m
+pub checked-afresh : (n m : Netlist) (e : Edit) (nodes : List NodeRecord) (work : List ℕ) → WellFormed n → edited n e (length nodes) (length work) ≡ answered m
     → (replyAfter n e (length nodes) (length work) ≡ reply (writtenOut m) (length nodes) (length work))
     × (recordsAfter n e nodes (length work) ≡ nodesAfter (writtenOut m) nodes (length work))
     × (bytesAfter n e (length nodes) work ≡ workAfter (writtenOut m) (length nodes) work)

@@ -8,7 +8,7 @@ use native.Mathlib.Nat.{min-eq-left}
 use native.Mathlib.Omega.{arith}
 use lib.ListN.{length, getD, take, drop, replicate, length-take, length-replicate, replicate-append-replicate}
 use lib.Seq.{take-all, take-take, drop-at}
-use Rattle.rules.specs.declared.Node.{Node}
+use Rattle.rules.specs.declared.NodeRecord.{NodeRecord}
 use Rattle.rules.specs.Records as Records
 use Rattle.rules.specs.Records.{most-nodes}
 use Rattle.netlists.specs.declared.Netlist.{Netlist}
@@ -29,7 +29,7 @@ blank-behind most k few =
     ∙ drop-at (replicate k blank) (replicate (most - k) blank) k (length-replicate k blank)
 
 -- once all that are to be loaded are stored, in a list of any length
-all-stored : (records : List Node) (count most : ℕ)
+all-stored : (records : List NodeRecord) (count most : ℕ)
     → stored records (replicate most blank) (min (min count most) (length records)) ≡ padded most blank (take (min count most) records)
 unfolding padded
 all-stored records count most =
@@ -50,7 +50,7 @@ all-stored records count most =
 -- ---- a block that is being loaded
 
 -- the block of a state, with the first i records in their place
-unfoldable pub loading : State → List Node → (i : ℕ) → Netlist
+unfoldable pub loading : State → List NodeRecord → (i : ℕ) → Netlist
 loading state records i = record {
   variables = state .variables;
   count = state .count;
@@ -58,7 +58,7 @@ loading state records i = record {
   nodes = stored records (replicate most-nodes blank) i;
 }
 
-module _ (state : State) (records : List Node) where
+module _ (state : State) (records : List NodeRecord) where
   pub loading-none : loading state records 0 ≡ unloadedOf state
   unfolding loading
   loading-none = rw stored-none
@@ -78,7 +78,7 @@ module _ (state : State) (records : List Node) where
   loaded-state = refl
 
 -- of an open block
-pub loaded-flat : {n : Records.Netlist} {state : State} {records : List Node} {work : List ℕ} → IsOpen n state records work
+pub loaded-flat : {n : Records.Netlist} {state : State} {records : List NodeRecord} {work : List ℕ} → IsOpen n state records work
     → loaded state records ≡ flatOf n
 unfolding loaded stateOf flatOf
 loaded-flat opened = rw (opened .itsState, min-eq-left (opened .obeys .few-nodes), opened .holds .records)

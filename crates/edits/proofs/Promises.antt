@@ -6,7 +6,7 @@ use mathlib.Core.Logic.{_↔_}
 use mathlib.Core.List.{List, map}
 use native.Mathlib.Omega.{arith}
 use lib.ListN.{length}
-use Rattle.rules.specs.declared.Node.{Node}
+use Rattle.rules.specs.declared.NodeRecord.{NodeRecord}
 use Rattle.rules.specs.declared.Reply.{Reply}
 use Rattle.rules.specs.declared.Reply.the-variants.{Refused, Answered}
 use Rattle.rules.specs.Records.{Netlist, WellFormed, empty, writtenOut}
@@ -34,7 +34,7 @@ use Rattle.edits.proofs.Loaded.{loaded-state, loaded-flat}
 use Rattle.edits.proofs.Kept.{made, afresh-reply}
 
 -- the clauses of the contract, in their order
-pub record Promised (state : State) (e : Edit) (given : Edited) (ys ns : List Node) (zs ws : List ℕ) : Type 0 where
+pub record Promised (state : State) (e : Edit) (given : Edited) (ys ns : List NodeRecord) (zs ws : List ℕ) : Type 0 where
   pub reply : (n : Netlist) → IsOpen n state ys zs → replyOf (given .reply) ≡ replyAfter n e (length ys) (length zs)
   pub state-after : (n : Netlist) → IsOpen n state ys zs → given .state ≡ stateOf (netlistAfter n e (length ys) (length zs))
   pub nodes : (n : Netlist) → IsOpen n state ys zs → ns ≡ recordsAfter n e ys (length zs)
@@ -50,7 +50,7 @@ pub record Promised (state : State) (e : Edit) (given : Edited) (ys ns : List No
 -- ---- the block as it then is
 
 -- the node records of what is kept, stored
-kept-records : (o : Outcome Netlist) (ys : List Node) → flatOf (kept o) .count ≤ length ys
+kept-records : (o : Outcome Netlist) (ys : List NodeRecord) → flatOf (kept o) .count ≤ length ys
     → stored (flatOf (kept o) .nodes) ys (flatOf (kept o) .count) ≡ filled (λ m. map entry (m .nodes)) o ys
 unfolding kept filled flatOf
 kept-records (answered m) ys enough = flat-stored m ys enough
@@ -94,7 +94,7 @@ refused-state (Refused r) state after k p e = refl
 refused-state (Answered a) state after k p e = let z : _≡_ {A = ℕ} 0 1 = cc in absurd (omega arith)
 
 -- what an edit promises, from what `load`, `change`, `store` and `edited_of` promise
-pub promises : (state : State) (e : Edit) (ys ns : List Node) (zs ws : List ℕ) (examined : Examined)
+pub promises : (state : State) (e : Edit) (ys ns : List NodeRecord) (zs ws : List ℕ) (examined : Examined)
     → Changes (loaded state ys) e (length ys) examined zs ws
     → ns ≡ stored (examined .netlist .nodes) ys (examined .netlist .count)
     → length ws ≡ length zs

@@ -7,7 +7,7 @@ use mathlib.Core.List.{List, [], _∷_, _++_, map}
 use native.Mathlib.Omega.{arith}
 use lib.ListN.{length, take, drop, length-map, length-append, length-take, length-drop, take-append-drop}
 use lib.Seq.{take-append-seam}
-use Rattle.rules.specs.declared.Node.{Node}
+use Rattle.rules.specs.declared.NodeRecord.{NodeRecord}
 use Rattle.rules.specs.Records.{Netlist, WellFormed, writtenOut}
 use Rattle.rules.specs.Families.{Findings, familiesRule, families, findings}
 use Rattle.rules.specs.Checks.{Outcome, answered, refused, andThen, admitted}
@@ -45,7 +45,7 @@ unfolding families
 families-length n = omega (arith, work-length (families n), table-length familiesRule [] (n .nodes))
 
 -- both slices that hold a netlist's node records and families have room for them, and keep their contents where these are written once more
-module _ (n : Netlist) (nodes : List Node) (work : List ℕ) (holds : Holds n nodes work) where
+module _ (n : Netlist) (nodes : List NodeRecord) (work : List ℕ) (holds : Holds n nodes work) where
   holds-room : Room (length nodes) (length work) n
   holds-room =
       record {
@@ -62,7 +62,7 @@ module _ (n : Netlist) (nodes : List Node) (work : List ℕ) (holds : Holds n no
   holds-families = front-same (workBytes (families n)) work (rw (families-length n) (holds .families))
 
 -- what is written once is held
-written-held : (n : Netlist) (nodes : List Node) (work : List ℕ)
+written-held : (n : Netlist) (nodes : List NodeRecord) (work : List ℕ)
     → Holds n (filled (λ m. map entry (m .nodes)) (answered n) nodes) (filled (λ m. workBytes (families m)) (answered n) work)
 unfolding filled
 written-held n nodes work =
@@ -74,7 +74,7 @@ written-held n nodes work =
 -- ---- a block as a check leaves it
 
 -- it is one whose slices hold its node records and families
-pub as-checked : (n : Netlist) (nodes : List Node) (work : List ℕ) → WellFormed n → Holds n nodes work
+pub as-checked : (n : Netlist) (nodes : List NodeRecord) (work : List ℕ) → WellFormed n → Holds n nodes work
     → AsChecked (record { netlist = n; nodes = nodes; work = work })
 as-checked n nodes work formed holds =
     let fine : Made (length nodes) (length work) n = record { obeys = formed; room = holds-room n nodes work holds } in
@@ -108,7 +108,7 @@ checked-holds b checked =
     let nodes = sym (afresh-nodes (b .nodes) (length (b .work)) n fine) ∙ checked .records in
     let work = sym (afresh-work (length (b .nodes)) (b .work) n fine) ∙ checked .families in
     subst (λ (w : List ℕ). Holds n (b .nodes) w) work
-    (subst (λ (l : List Node). Holds n l (filled (λ m. workBytes (families m)) (answered n) (b .work))) nodes (written-held n (b .nodes) (b .work)))
+    (subst (λ (l : List NodeRecord). Holds n l (filled (λ m. workBytes (families m)) (answered n) (b .work))) nodes (written-held n (b .nodes) (b .work)))
 
 -- so it is an open block, with its netlist's state: what the contract of an edit asks
 pub checked-open : (b : Block) → AsChecked b → IsOpen (b .netlist) (stateOf (b .netlist)) (b .nodes) (b .work)
@@ -117,7 +117,7 @@ checked-open b checked = record { obeys = checked .obeys; itsState = refl; holds
 -- ---- opening, one edit, and any run of them
 
 -- a block that is read and fits is open
-pub opened : (bytes : List ℕ) (nodes : List Node) (work : List ℕ) (n : Netlist) → admitted bytes (length nodes) (length work) ≡ answered n
+pub opened : (bytes : List ℕ) (nodes : List NodeRecord) (work : List ℕ) (n : Netlist) → admitted bytes (length nodes) (length work) ≡ answered n
     → AsChecked (record { netlist = n; nodes = nodesAfter bytes nodes (length work); work = workAfter bytes (length nodes) work })
 unfolding nodesAfter workAfter
 opened bytes nodes work n is =
@@ -145,7 +145,7 @@ edits-keep b [] checked = checked
 edits-keep b (e ∷ edits) checked = edits-keep (afterEdit b e) edits (edit-keeps b e checked)
 
 -- in the contract's own words: an edit of an open block leaves an open block, so the next edit's contract speaks of it
-pub edit-stays-open : {n : Netlist} {state : State} {nodes : List Node} {work : List ℕ} (e : Edit) → IsOpen n state nodes work
+pub edit-stays-open : {n : Netlist} {state : State} {nodes : List NodeRecord} {work : List ℕ} (e : Edit) → IsOpen n state nodes work
     → let m = netlistAfter n e (length nodes) (length work) in
     IsOpen m (stateOf m) (recordsAfter n e nodes (length work)) (bytesAfter n e (length nodes) work)
 unfolding afterEdit
@@ -155,7 +155,7 @@ edit-stays-open {n} {state} {nodes} {work} e is =
 
 -- Any run of edits, from any block that is read, refused edits among them: the netlist obeys the record rules, and both slices hold what checking
 -- its written-out bytes gives.
-pub any-run : (bytes : List ℕ) (nodes : List Node) (work : List ℕ) (n : Netlist) (edits : List Edit) → admitted bytes (length nodes) (length work) ≡ answered n
+pub any-run : (bytes : List ℕ) (nodes : List NodeRecord) (work : List ℕ) (n : Netlist) (edits : List Edit) → admitted bytes (length nodes) (length work) ≡ answered n
     → AsChecked (afterEdits (record { netlist = n; nodes = nodesAfter bytes nodes (length work); work = workAfter bytes (length nodes) work }) edits)
 any-run bytes nodes work n edits is = edits-keep _ edits (opened bytes nodes work n is)
 

@@ -122,6 +122,7 @@ next-found reports from i A few h e =
     let here : getD reports i none ≡ some A = rw (← at) at (sym (getD-drop from reports k none) ∙ is) in
     let nothing : NoneFrom reports from i = rw (← at) at (none-before reports from k before) in
     ap (λ (ms : List ℕ). set ms i A) (none-more reports from i few (omega arith) nothing) ∙ one-more reports i A few h here
+
 -- a scan from a node on that finds no node leaves that one without a mark, and where it finds that one it tells its mark
 pub last-none : (reports : List (Option ℕ)) (from : ℕ) → foundFrom from reports ≡ clear → 0 ≡ markNumber (getD reports from none)
 unfolding markNumber

@@ -27,36 +27,36 @@ use denote.Steps.{owned, facts}
 use denote.Struct.Laws as LL
 use borrow.Rule.Array.Init.{part-room}
 use borrow.Table.Elements.{at as place, cut-app, join-app}
-use Rattle.rules.specs.declared.Node.{Node}
-use Rattle.rules.proofs.Node as T
-use Rattle.rules.proofs.Node.Laws as T′
+use Rattle.rules.specs.declared.NodeRecord.{NodeRecord}
+use Rattle.rules.proofs.NodeRecord as T
+use Rattle.rules.proofs.NodeRecord.Laws as T′
 
 -- an array of n records
 abbrev pub array : ℕ → RattleType
 array n = Array T.the-row n
 
 -- the records ms at l, behind m others
-abbrev pub behind : List Node → ℕ → ℕ → Fml
+abbrev pub behind : List NodeRecord → ℕ → ℕ → Fml
 behind ms m l = cells (mem T.the-row) ms l (place 0 (mem T.the-row .size) m)
 
 -- the records ns at l, side by side, n of them
-abbrev pub beside : ℕ → List Node → ℕ → Fml
+abbrev pub beside : ℕ → List NodeRecord → ℕ → Fml
 beside n ns l = arr-parts (shares T.the-row) n .part fullShare ns l 0
 
 -- n times one record
-all-same : (b : Node) (v : Val) → Is T.the-row b (v ∷ []) → (n : ℕ) → shadow (each Node (T.the-row .own) (replicate n b) (replicate n v))
+all-same : (b : NodeRecord) (v : Val) → Is T.the-row b (v ∷ []) → (n : ℕ) → shadow (each NodeRecord (T.the-row .own) (replicate n b) (replicate n v))
 all-same b v is zero = tt
 all-same b v is (suc n) = (is, all-same b v is n)
 
-pub are-same : (b : Node) (v : Val) → Is T.the-row b (v ∷ []) → (n : ℕ) → Is (array n) (replicate n b) (arrayVal (replicate n v) ∷ [])
+pub are-same : (b : NodeRecord) (v : Val) → Is T.the-row b (v ∷ []) → (n : ℕ) → Is (array n) (replicate n b) (arrayVal (replicate n v) ∷ [])
 are-same b v is n = (replicate n v, ((refl, length-replicate n b), all-same b v is n))
 
 module _ {M : Type 1} (𝓤 : URA M) (H : Heap 𝓤) (A : Atoms 𝓤) (W : Given 𝓤 H A) where
-  pub typed : (n : ℕ) (ns : List Node) (u : Val) → Is (array n) ns (u ∷ []) → Holds (hasTy (tyArray T′.mir n) u) × WT u
+  pub typed : (n : ℕ) (ns : List NodeRecord) (u : Val) → Is (array n) ns (u ∷ []) → Holds (hasTy (tyArray T′.mir n) u) × WT u
   typed n ns u is = array-typed T.the-row (LL.lawful T.the-type T′.the-laws 𝓤 H A W .typed) n ns _ is .0
 
   -- an array that is written whole is its records
-  pub apart : (n : ℕ) (ns : List Node) (u : Val) → Is (array n) ns (u ∷ []) → (l : ℕ) → ent 𝓤 (sem 𝓤 H A (fat fullShare (tyArray T′.mir n) l 0 u)) (sem 𝓤 H A (beside n ns l))
+  pub apart : (n : ℕ) (ns : List NodeRecord) (u : Val) → Is (array n) ns (u ∷ []) → (l : ℕ) → ent 𝓤 (sem 𝓤 H A (fat fullShare (tyArray T′.mir n) l 0 u)) (sem 𝓤 H A (beside n ns l))
   unfolding partOf
   apart n ns u is l =
       qed W (‵ (fat fullShare (tyArray T′.mir n) l 0 u) ∷ []) ∵
@@ -65,19 +65,19 @@ module _ {M : Type 1} (𝓤 : URA M) (H : Heap 𝓤) (A : Atoms 𝓤) (W : Given
       fpack ! (List Val) (λ vs. fsep (cellAt fullShare (array n .mir) vs l 0) (array n .own ns vs)) (u ∷ []) $ by ! (array-apart 𝓤 H A W T.the-row fullShare tt n ns l 0)
 
   -- records are room for the array
-  pub emptied : (n : ℕ) (ns : List Node) (l : ℕ) → ent 𝓤 (sem 𝓤 H A (beside n ns l)) (sem 𝓤 H A (froom (tyArray T′.mir n) l 0))
+  pub emptied : (n : ℕ) (ns : List NodeRecord) (l : ℕ) → ent 𝓤 (sem 𝓤 H A (beside n ns l)) (sem 𝓤 H A (froom (tyArray T′.mir n) l 0))
   emptied n ns l =
       qed W (‵ (beside n ns l) ∷ []) ∵ use1 W (‵ (partAt (array n) fullShare ns l 0)) (array-whole 𝓤 H A W T.the-row fullShare n ns l 0) $ by ! (part-room 𝓤 H A W (array n) ns l 0)
 
   -- an array that is written whole is its first records and those behind them
-  pub in-two : (ns ms : List Node) (n : ℕ) (u : Val) → Is (array n) (ns ++ ms) (u ∷ []) → (l : ℕ)
+  pub in-two : (ns ms : List NodeRecord) (n : ℕ) (u : Val) → Is (array n) (ns ++ ms) (u ∷ []) → (l : ℕ)
       → ent 𝓤 (sem 𝓤 H A (fat fullShare (tyArray T′.mir n) l 0 u)) (sep 𝓤 (sem 𝓤 H A (cells (mem T.the-row) ns l 0)) (sem 𝓤 H A (behind ms (length ns) l)))
   in-two ns ms n u is l =
       qed W (‵ (fat fullShare (tyArray T′.mir n) l 0 u) ∷ []) ∵ use1 W (‵ (beside n (ns ++ ms) l)) (apart n (ns ++ ms) u is l) $
       fsplit ! $ drop ! $ use1 W (‵ (cells (mem T.the-row) (ns ++ ms) l 0)) (whole-in 𝓤 H A W T.the-row (ns ++ ms) l 0) $ by ! (cut-app 𝓤 H A (mem T.the-row) ns ms l 0)
 
   -- m records that came back, and those behind them, are the array again
-  pub whole-again : (ns ms : List Node) (n m l : ℕ) → length (ns ++ ms) ≡ n
+  pub whole-again : (ns ms : List NodeRecord) (n m l : ℕ) → length (ns ++ ms) ≡ n
       → ent 𝓤 (sep 𝓤 (sem 𝓤 H A (Arr (mem T.the-row) m .lies ns l 0)) (sem 𝓤 H A (behind ms m l)))
       (ex 𝓤 (λ (u : Val). guard 𝓤 (Is (array n) (ns ++ ms) (u ∷ [])) (sem 𝓤 H A (fat fullShare (tyArray T′.mir n) l 0 u))))
   unfolding partOf

@@ -35,9 +35,9 @@ use denote.Lend.{Held, lends-slice, slice-back}
 use denote.Steps.{only, facts, nothing}
 use denote.Triple.Spec.{tripleOf}
 use denote.Triple.Statement.{Contract, Triple}
-use Rattle.rules.specs.declared.Node.{Node}
-use Rattle.rules.proofs.Node as T
-use Rattle.rules.proofs.Node.Laws as T′
+use Rattle.rules.specs.declared.NodeRecord.{NodeRecord}
+use Rattle.rules.proofs.NodeRecord as T
+use Rattle.rules.proofs.NodeRecord.Laws as T′
 use Rattle.checker.proofs.Lent.{goes-one, calls-plain}
 use Rattle.trial.proofs.Lent.{array, behind, in-two, whole-again}
 use Rattle.trial.proofs.at_most as at-most
@@ -53,7 +53,7 @@ abbrev pub to-array : Ty
 to-array = tyRef erased mut (tyArray (pointee (T.the-row .written)) 200)
 
 -- records as those of the field of a struct
-pub as-field : (ns : List Node) (us : List Val) → shadow (each Node (T.the-row .own) ns us)
+pub as-field : (ns : List NodeRecord) (us : List Val) → shadow (each NodeRecord (T.the-row .own) ns us)
     → shadow (each (T.the-field .row .Denot) (T.the-field .row .own) (map (T.the-field .into) ns) us)
 as-field [] [] s = tt
 as-field [] (u ∷ us) s = absurd s
@@ -61,9 +61,9 @@ as-field (n ∷ ns) [] s = absurd s
 as-field (n ∷ ns) (u ∷ us) s = (s .0, as-field ns us (s .1))
 
 -- 200 records: those that are lent where there are so many entries, and those behind them
-pub record Parts (entries : ℕ) (all : List Node) : Type 0 where
-  pub front : List Node
-  pub others : List Node
+pub record Parts (entries : ℕ) (all : List NodeRecord) : Type 0 where
+  pub front : List NodeRecord
+  pub others : List NodeRecord
   pub front-length : length front ≡ min entries 200
   pub whole : front ++ others ≡ all
   pub is-200 : length all ≡ 200
@@ -75,7 +75,7 @@ pub adds-up : (entries : ℕ) → min entries 200 + (200 - min entries 200) ≡ 
 adds-up entries = let h = enough entries in omega arith
 
 -- of 200 times one record, and of any 200
-abbrev pub of-same : (entries : ℕ) (before : Node) → Parts entries (replicate 200 before)
+abbrev pub of-same : (entries : ℕ) (before : NodeRecord) → Parts entries (replicate 200 before)
 of-same entries before = record {
   front = replicate (min entries 200) before;
   others = replicate (200 - min entries 200) before;
@@ -84,7 +84,7 @@ of-same entries before = record {
   is-200 = length-replicate 200 before;
 }
 
-abbrev pub of-any : (entries : ℕ) (all : List Node) → length all ≡ 200 → Parts entries all
+abbrev pub of-any : (entries : ℕ) (all : List NodeRecord) → length all ≡ 200 → Parts entries all
 of-any entries all is-200 = record {
   front = take (min entries 200) all;
   others = drop (min entries 200) all;
@@ -93,9 +93,9 @@ of-any entries all is-200 = record {
   is-200 = is-200;
 }
 
-module _ {entries : ℕ} {all : List Node} (p : Parts entries all) where
+module _ {entries : ℕ} {all : List NodeRecord} (p : Parts entries all) where
   -- the front at l, lent under the name γ, and what its `&mut` owns
-  abbrev pub lent : ℕ → GName → RefT (List Node)
+  abbrev pub lent : ℕ → GName → RefT (List NodeRecord)
   lent l γ = record { ptr = (l, 0); name = γ; now = p .front }
 
   abbrev pub Own : ℕ → Lft → GName → Fml
@@ -108,7 +108,7 @@ module _ {entries : ℕ} {all : List Node} (p : Parts entries all) where
   pub front-room : Room T.the-row (length (p .front))
   front-room = subst (Room T.the-row) (sym (p .front-length)) (let h = enough entries in (omega arith, omega arith))
 
-  all-200 : (ns : List Node) → length ns ≡ length (p .front) → length (ns ++ p .others) ≡ 200
+  all-200 : (ns : List NodeRecord) → length ns ≡ length (p .front) → length (ns ++ p .others) ≡ 200
   all-200 ns same = length-append ns (p .others) ∙ ap (λ (m : ℕ). m + length (p .others)) same ∙ sym (length-append (p .front) (p .others)) ∙ ap length (p .whole) ∙ p .is-200
 
 module _ {M : Type 1} (𝓤 : URA M) (H : Heap 𝓤) (A : Atoms 𝓤) (memory : Memory → SProp 𝓤) (run : Routine → Fun 𝓤) where
@@ -119,7 +119,7 @@ module _ {M : Type 1} (𝓤 : URA M) (H : Heap 𝓤) (A : Atoms 𝓤) (memory : 
   abbrev pub to-most : ℕ → AtMost .Ghost
   to-most entries = ((tt, tt, tt, (entries, tt), (vint w64 entries ∷ [], tt)), tt)
 
-module _ {M : Type 1} (𝓤 : URA M) (H : Heap 𝓤) (A : Atoms 𝓤) (W : Given 𝓤 H A) {entries : ℕ} {all : List Node} (p : Parts entries all) where
+module _ {M : Type 1} (𝓤 : URA M) (H : Heap 𝓤) (A : Atoms 𝓤) (W : Given 𝓤 H A) {entries : ℕ} {all : List NodeRecord} (p : Parts entries all) where
   -- how many records are lent
   pub calls-most : (memory : Memory → SProp 𝓤) (run : Routine → Fun 𝓤) → entries < 2 ^ 64
       → {K : Type 0} {Γ : List (Item 𝓤)} {En : Env 𝓤 H} {C : Calls 𝓤 H} {f : Name} {os : List Opd} {Λ : Loops 𝓤 H} {Q : Post 𝓤 H} {d : Place} {rest : Body} → K → FmC 𝓤 H (W .laws) C → Triple 𝓤 (C f) (AtMost 𝓤 H A memory run)
@@ -137,12 +137,12 @@ module _ {M : Type 1} (𝓤 : URA M) (H : Heap 𝓤) (A : Atoms 𝓤) (W : Given
         → Seq K W (‵ (fat fullShare nodes l 0 u) ∷ Γ) G
     lends-front t a u is-u l k =
         use1 W (‵ (cells (mem T.the-row) (p .front) l 0) ⊛ ‵ (behind (p .others) (length (p .front)) l))
-        (in-two 𝓤 H A W (p .front) (p .others) 200 u (subst (λ (ns : List Node). Is (array 200) ns (u ∷ [])) (sym (p .whole)) is-u) l) $ split t $
+        (in-two 𝓤 H A W (p .front) (p .others) 200 u (subst (λ (ns : List NodeRecord). Is (array 200) ns (u ∷ [])) (sym (p .whole)) is-u) l) $ split t $
         lft-new t a (λ α. move t (1 ∷ []) $ use1 W (later (some (λ (γ : GName). ‵ (Own p l (α ∷ []) γ) ⊛ ‵ (Lender p l (α ∷ []) γ))))
         (lends-slice 𝓤 H A W T.the-row (named 1) (α ∷ []) (p .front) l 0 (front-room p)) $ await t a $ pick t (λ γ. split t $ k α γ))
 
     -- the lifetime is over, the front is taken back, and the array is whole again
-    pub takes-back : K → Soaks G → (l α : ℕ) (γ : GName) (ns : List Node) → length ns ≡ length (p .front)
+    pub takes-back : K → Soaks G → (l α : ℕ) (γ : GName) (ns : List NodeRecord) → length ns ≡ length (p .front)
         → ((u : Val) → Is (array 200) (ns ++ p .others) (u ∷ []) → Seq K W (‵ (fat fullShare nodes l 0 u) ∷ Γ) G)
         → Seq K W (‵ (flft (α ∷ []) fullShare) ∷ ‵ (Lender p l (α ∷ []) γ) ∷ ‵ (finally T.the-row γ ns) ∷ ‵ (behind (p .others) (length (p .front)) l) ∷ Γ) G
     takes-back t a l α γ ns same k =

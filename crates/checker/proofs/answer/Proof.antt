@@ -1,7 +1,9 @@
--- `checker::answer` meets its contract: the work slice holds the families of all nodes, and what is looked for in them is the answer.
--- Assumes nothing.
+-- `checker::answer` meets its contract: the work slice holds the families of all nodes, the marks found over them are the netlist's, and from these the
+-- answer is read. Assumes nothing.
+use mathlib.Core.Path.{_∙_}
 use borrow.Author.Needs.{needs}
-use Rattle.netlists.proofs.Netlists.{few-variables, few-nodes}
+use Rattle.netlists.proofs.Netlists.{few-variables, few-nodes, well-formed}
+use Rattle.marks.proofs.Layers.{marks-there}
 use Rattle.checker.proofs.Core.{answers}
 use Rattle.checker.proofs.answer.Statement.{statement}
 use Rattle.checker.proofs.answer.Tie as tie
@@ -9,18 +11,25 @@ use Rattle.checker.proofs.answer.Tie as tie
 all-families-requires : tie.Need-all-families-requires
 all-families-requires c κs = search needs
 
-look-requires : tie.Need-look-requires
-look-requires c κs =
+all-marks-requires : tie.Need-all-marks-requires
+all-marks-requires c κs =
     let ready = c .before .before .before .before .before .before .pre in
     record { variables = few-variables (ready .formed); nodes = few-nodes (ready .formed); room = search needs }
+
+look-requires : tie.Need-look-requires
+look-requires c κs = few-nodes (c .before .before .before .before .before .before .before .pre .formed)
 
 same-length : tie.Need-same-length
 same-length c = search needs
 
 returns : tie.Need-returns
 returns c =
-    let start = c .before .before .before .before .before .before .before in
-    λ n e. answers _ (start .pre) n e _ _ (c .before .before .before .before .all-families .ensures n e) (c .look .ensures)
+    let start = c .before .before .before .before .before .before .before .before in
+    λ n e.
+    let written = c .before .before .before .before .before .all-families .ensures n e in
+    let found = c .before .all-marks .ensures n e in
+    answers _ n e _ (rw written at found ∙ marks-there n (well-formed (start .pre .formed) n e) _) _ _ written (c .look .ensures)
 
 pub answer-spec : {M : Type 1} → statement M
-answer-spec = tie.close (tie.spec all-families-requires look-requires same-length returns)
+answer-spec =
+    tie.close (tie.spec all-families-requires all-marks-requires look-requires same-length returns)

@@ -50,13 +50,12 @@ use denote.Triple.Clauses.{ensured, lasts}
 use denote.Triple.Table.{entered, cited}
 use denote.Triple.Walked.{says, needs, Stays, stay-slice, stay-none, walkOf, goes-slice, goes-none, Walks, ends-at, walked, walk-meets}
 use denote.Exit.{yes}
-use Rattle.netlists.specs.Netlists.{blank}
 use Rattle.rules.specs.Records.{most-nodes}
-use Rattle.rules.specs.declared.Node.{Node}
-use Rattle.rules.proofs.Node as T
-use Rattle.rules.proofs.Node.Laws as T′
+use Rattle.rules.specs.declared.NodeRecord.{NodeRecord}
+use Rattle.rules.proofs.NodeRecord as T
+use Rattle.rules.proofs.NodeRecord.Laws as T′
 use Rattle.checker.specs.declared.Examined.{Examined}
-use Rattle.checker.specs.Work.{stored}
+use Rattle.checker.specs.Work.{recordIn, unwritten, stored}
 use Rattle.checker.proofs.Examined as E
 use Rattle.checker.proofs.Examined.Laws as E′
 use Rattle.checker.proofs.Stored.{stored-none, stored-more, stored-length}
@@ -77,7 +76,7 @@ use Rattle.checker.proofs.store.Code.Mir as mir
 abbrev stayed : Stays (store′.ended .signature .params) (store′.ended .kept)
 stayed = (stay-slice (0 ∷ []) tt (plain (λ _. T.the-row)), (stay-none (λ _. E.the-row) yes, tt))
 
-abbrev node-vals : Node → List Val
+abbrev node-vals : NodeRecord → List Val
 node-vals = LL.vals T.the-type T′.the-laws
 
 module _ {M : Type 1} (𝓤 : URA M) (H : Heap 𝓤) (A : Atoms 𝓤) (mem : Memory → SProp 𝓤) (run : Routine → Fun 𝓤) where
@@ -92,19 +91,19 @@ module _ {M : Type 1} (𝓤 : URA M) (H : Heap 𝓤) (A : Atoms 𝓤) (mem : Mem
   count-says : (e : Examined) (r : ℕ) → ent 𝓤 (ensured 𝓤 H A count-of.ended (count-of.clauses 𝓤 H A mem run) tt (e, tt) tt r) (fact 𝓤 (r ≡ e .netlist .count))
   count-says e r = exE 𝓤 _ (λ ws. snd∗ 𝓤 (sem 𝓤 H A (lasts count-of.ended tt (e, tt) ws)) (fact 𝓤 (r ≡ e .netlist .count)))
 
-  record-says : (e : Examined) (i : ℕ) (r : Node) → ent 𝓤 (ensured 𝓤 H A record-of.ended (record-of.clauses 𝓤 H A mem run) tt (e, (i, tt)) tt r) (fact 𝓤 (r ≡ getD (e .netlist .nodes) i blank))
-  record-says e i r = exE 𝓤 _ (λ ws. snd∗ 𝓤 (sem 𝓤 H A (lasts record-of.ended tt (e, (i, tt)) ws)) (fact 𝓤 (r ≡ getD (e .netlist .nodes) i blank)))
+  record-says : (e : Examined) (i : ℕ) (r : NodeRecord) → ent 𝓤 (ensured 𝓤 H A record-of.ended (record-of.clauses 𝓤 H A mem run) tt (e, (i, tt)) tt r) (fact 𝓤 (r ≡ recordIn e i))
+  record-says e i r = exE 𝓤 _ (λ ws. snd∗ 𝓤 (sem 𝓤 H A (lasts record-of.ended tt (e, (i, tt)) ws)) (fact 𝓤 (r ≡ recordIn e i)))
 
-module _ {M : Type 1} (𝓤 : URA M) (H : Heap 𝓤) (A : Atoms 𝓤) (W : Given 𝓤 H A) (mem : Memory → SProp 𝓤) (run : Routine → Fun 𝓤) (κ : Lft) (q : Share) (b o : ℕ) (γ : GName) (ys : List Node) (e : Examined) (v : Val)
+module _ {M : Type 1} (𝓤 : URA M) (H : Heap 𝓤) (A : Atoms 𝓤) (W : Given 𝓤 H A) (mem : Memory → SProp 𝓤) (run : Routine → Fun 𝓤) (κ : Lft) (q : Share) (b o : ℕ) (γ : GName) (ys : List NodeRecord) (e : Examined) (v : Val)
     (is-e : Is E.the-row e (v ∷ [])) (room : Room T.the-row (length ys)) (few : (e .netlist .count ≤ length ys) × (e .netlist .count ≤ most-nodes)) where
   abbrev n : ℕ
   n = e .netlist .count
 
   -- the slice once i records are stored
-  abbrev after : ℕ → List Node
-  after i = stored (e .netlist .nodes) ys i
+  abbrev after : ℕ → List NodeRecord
+  after i = stored (recordIn e) ys i
 
-  abbrev x : RefT (List Node) × (Examined × Unit {0})
+  abbrev x : RefT (List NodeRecord) × (Examined × Unit {0})
   x = (record { ptr = (b, o); name = γ; now = ys }, (e, tt))
 
   -- the machine values that x has
@@ -118,7 +117,7 @@ module _ {M : Type 1} (𝓤 : URA M) (H : Heap 𝓤) (A : Atoms 𝓤) (W : Given
   Post = walkOf 𝓤 H A store′.ended stayed (store′.clauses 𝓤 H A mem run) .post (((κ, tt), (q, tt), tt, x, at), tt)
 
   same-length : (i : ℕ) → length (after i) ≡ length ys
-  same-length = stored-length (e .netlist .nodes) ys
+  same-length = stored-length (recordIn e) ys
 
   exits : ent 𝓤 (⋆ 𝓤 H A (‵ (fobs γ (codedHoleys T.the-row .code (heres T.the-row (after n)))) ∷ ‵ (fbor κ (Held T.the-row (length (after n)) b o γ)) ∷ ‵ (flft κ q) ∷ [])) (Post vunit)
   exits =
@@ -191,18 +190,18 @@ module _ {M : Type 1} (𝓤 : URA M) (H : Heap 𝓤) (A : Atoms 𝓤) (W : Given
           -- the record
           use0 W (raw (RecordOf 𝓤 H A mem run .pre (to-record (i .0)))) (goes-record (i .0) less) $
           calls-at ! fm (RecordOf 𝓤 H A mem run) known-record (to-record (i .0)) (and-then ! (load ! (from ! (stop !)) (look ! 17 refl)) (and-then ! (load ! (from ! (stop !)) (look ! 13 refl)) (no-more !))) (λ w.
-          use1 W (later (some (λ (r : Node). (‵ ftrue ⊛ ‵ (T.the-row .own r (w ∷ []))) ⊛ raw (ensured 𝓤 H A record-of.ended (record-of.clauses 𝓤 H A mem run) tt (e, (i .0, tt)) tt r)))) (id⊢ 𝓤 _) $ await ! tt $ pick ! (λ r.
-          split ! $ move ! (1 ∷ []) $ use1 W (raw (fact 𝓤 (r ≡ getD (e .netlist .nodes) (i .0) blank))) (record-says 𝓤 H A mem run e (i .0) r) $ heard ! (r ≡ getD (e .netlist .nodes) (i .0) blank) (λ is-r. split ! $ drop ! $
+          use1 W (later (some (λ (r : NodeRecord). (‵ ftrue ⊛ ‵ (T.the-row .own r (w ∷ []))) ⊛ raw (ensured 𝓤 H A record-of.ended (record-of.clauses 𝓤 H A mem run) tt (e, (i .0, tt)) tt r)))) (id⊢ 𝓤 _) $ await ! tt $ pick ! (λ r.
+          split ! $ move ! (1 ∷ []) $ use1 W (raw (fact 𝓤 (r ≡ recordIn e (i .0)))) (record-says 𝓤 H A mem run e (i .0) r) $ heard ! (r ≡ recordIn e (i .0)) (λ is-r. split ! $ drop ! $
           peeks ! T.the-row (Is T.the-row) (shows 𝓤 H A T.the-row) r (w ∷ []) (λ is. land ! (from ! (stop !)) (init ! 9 refl (typed r w is)) $
-          -- [what the record owns; the row; …]: its place, 6 bytes a record
+          -- [what the record owns; the row; …]: its place, 10 bytes a record
           assigns ! (bin ! (load ! (from ! (stop !)) (look ! 13 refl)) (lit ! tt) (record { fits = reach })) (from ! (stop !)) (init ! 7 refl (tt, record { fits = reach })) $
           assigns ! (bin ! (load ! (from ! (fld ! refl (stop !))) (look-in ! 19 (sub ! 0 refl (whole !)))) (load ! (from ! (stop !)) (look ! 7 refl)) tt) (from ! (stop !)) (init ! 5 refl (tt, tt)) $
-          rewrite ! 5 (λ (p : ℕ). ‵ (fat fullShare tyPtr l₈ 0 (vptr b p))) (sym (place-is 6 o (i .0))) refl $
-          move ! (1 ∷ []) $ elem-out ! T.the-row (Is T.the-row) (shows 𝓤 H A T.the-row) node-vals (LL.tells T.the-type T′.the-laws) fullShare (after (i .0)) (i .0) blank b o within (λ _.
+          rewrite ! 5 (λ (p : ℕ). ‵ (fat fullShare tyPtr l₈ 0 (vptr b p))) (sym (place-is 10 o (i .0))) refl $
+          move ! (1 ∷ []) $ elem-out ! T.the-row (Is T.the-row) (shows 𝓤 H A T.the-row) node-vals (LL.tells T.the-type T′.the-laws) fullShare (after (i .0)) (i .0) unwritten b o within (λ _.
           -- [nodes[i]; what it owned; the others; what the record owns; the open borrow; …]
           assigns ! (of-opd ! (load ! (from ! (stop !)) (look ! 11 refl))) (from ! (hop ! (look ! 7 refl) (stop !))) (store-raw ! 0 refl (typed r w is)) $
           move ! (0 ∷ 3 ∷ 2 ∷ []) $ elem-put ! T.the-row fullShare (after (i .0)) (i .0) r (w ∷ []) b o within $ move ! (1 ∷ []) $ drop ! $
-          rewrite ! 0 (λ (zs : List Node). ‵ (row T.the-row fullShare zs b o)) (ap (set (after (i .0)) (i .0)) is-r ∙ sym (stored-more (e .netlist .nodes) ys (i .0))) refl $
+          rewrite ! 0 (λ (zs : List NodeRecord). ‵ (row T.the-row fullShare zs b o)) (ap (set (after (i .0)) (i .0)) is-r ∙ sym (stored-more (recordIn e) ys (i .0))) refl $
           assigns-last ! (bin ! (load ! (from ! (stop !)) (look ! 12 refl)) (lit ! tt) (record { fits = next-fits })) (from ! (stop !)) (store ! 12 refl (tt, record { fits = next-fits })) $
           forget ! 4 refl $ forget ! 6 refl $ forget ! 8 refl $ forget ! 10 refl $ again ! Nearer At i (i .0 + 1, add-one-le less) (add-one-dec n (i .0) less))))))
         where
@@ -212,13 +211,13 @@ module _ {M : Type 1} (𝓤 : URA M) (H : Heap 𝓤) (A : Atoms 𝓤) (W : Given
           within : i .0 < length (after (i .0))
           within = subst (λ (l : ℕ). i .0 < l) (sym (same-length (i .0))) (lt-of-lt-of-le less (few .0))
 
-          reach : i .0 * 6 < 2 ^ 64
+          reach : i .0 * 10 < 2 ^ 64
           reach = let l = less in omega arith
 
           next-fits : i .0 + 1 < 2 ^ 64
           next-fits = let l = less in omega arith
 
-          typed : (r : Node) (w : Val) → Is T.the-row r (w ∷ []) → Holds (hasTy T′.mir w) × WT w
+          typed : (r : NodeRecord) (w : Val) → Is T.the-row r (w ∷ []) → Holds (hasTy T′.mir w) × WT w
           typed r w is = LL.lawful T.the-type T′.the-laws 𝓤 H A W .typed r _ is .0
       turn-by i false fails =
           assigns ! (bin ! (load ! (from ! (stop !)) (look ! 12 refl)) (load ! (from ! (stop !)) (look ! 14 refl)) tt) (from ! (stop !)) (init ! 10 refl (tt, tt)) $
@@ -247,7 +246,7 @@ module _ {M : Type 1} (𝓤 : URA M) (H : Heap 𝓤) (A : Atoms 𝓤) (W : Given
           rewrite ! 10 (λ (u : Val). ‵ (fat fullShare (tyInt w64) l₃ 0 u)) (ap only (is .0) ∙ ap (vint w64) is-n) refl $
           assigns ! (of-opd ! (lit ! tt)) (from ! (stop !)) (init ! 8 refl (tt, record { fits = lit< tt })) $
           move ! (19 ∷ []) $ fsplit ! $ fsplit ! $ move ! (1 ∷ []) $ fsplit ! $ move ! (22 ∷ []) $ split ! $ move ! (2 ∷ 3 ∷ 0 ∷ []) $ opens-slice ! tt T.the-row ys b o $
-          rewrite ! 0 (λ (zs : List Node). ‵ (row T.the-row fullShare zs b o)) (sym (stored-none (e .netlist .nodes) ys)) refl $
+          rewrite ! 0 (λ (zs : List NodeRecord). ‵ (row T.the-row fullShare zs b o)) (sym (stored-none (recordIn e) ys)) refl $
           keep ! (0 ∷ 1 ∷ 2 ∷ 3 ∷ 7 ∷ 8 ∷ 9 ∷ 10 ∷ 11 ∷ 12 ∷ 13 ∷ 14 ∷ 15 ∷ 16 ∷ 17 ∷ 18 ∷ 19 ∷ 20 ∷ 21 ∷ 22 ∷ 23 ∷ 24 ∷ []) $ first ! $ blocks ! $
           loops ! 𝓣 Nearer Nearer-wf At (λ i. turn-by i (ltb (i .0) n) refl) (0, zero-le)))))
 

@@ -37,13 +37,13 @@ use denote.Triple.Statement.{Contract, Triple}
 use denote.Triple.Table.{entered, cited}
 use denote.Triple.Walked.{Stays, stay-dropped, gave-slice, walkOf, goes-dropped, goes-gave-slice, Walks, ends-at, walked, walk-meets}
 use denote.Exit.{yes}
-use Rattle.rules.specs.declared.Node.{Node}
+use Rattle.rules.specs.declared.NodeRecord.{NodeRecord}
 use Rattle.rules.specs.Checks.{refused}
 use Rattle.rules.specs.Demands.{GlitchClear, OneProbe}
 use Rattle.rules.specs.Records.{Netlist, WellFormed, writtenOut}
 use Rattle.rules.specs.Paper.{replyOf}
-use Rattle.rules.proofs.Node as T
-use Rattle.rules.proofs.Node.Laws as T′
+use Rattle.rules.proofs.NodeRecord as T
+use Rattle.rules.proofs.NodeRecord.Laws as T′
 use Rattle.open_blocks.proofs.State as B
 use Rattle.open_blocks.proofs.State.Laws as B′
 use Rattle.open_blocks.proofs.Edit as E
@@ -91,7 +91,7 @@ module _ {M : Type 1} (𝓤 : URA M) (H : Heap 𝓤) (A : Atoms 𝓤) (memory : 
   Change = tripleOf 𝓤 H A edits.signature (edits.spec 𝓤 H A memory run)
 
 module _ {M : Type 1} (𝓤 : URA M) (H : Heap 𝓤) (A : Atoms 𝓤) (W : Given 𝓤 H A) (memory : Memory → SProp 𝓤) (run : Routine → Fun 𝓤)
-    (κ₀ κ₁ : Lft) (q₀ q₁ : Share) (state : State) (v₀ : Val) (edit : Edit) (v₁ : Val) (bytes : RefT (List ℕ)) (entries : ℕ) (given : List Node) (v : Val) (work : RefT (List ℕ))
+    (κ₀ κ₁ : Lft) (q₀ q₁ : Share) (state : State) (v₀ : Val) (edit : Edit) (v₁ : Val) (bytes : RefT (List ℕ)) (entries : ℕ) (given : List NodeRecord) (v : Val) (work : RefT (List ℕ))
     (is-s : Is B.the-row state (v₀ ∷ [])) (is-e : Is E.the-row edit (v₁ ∷ [])) (room₀ : Room u8 (length (bytes .now))) (fits : entries < 2 ^ 64) (is-given : Is (array 200) given (v ∷ [])) (room₁ : Room u8 (length (work .now))) where
   abbrev xs : List ℕ
   xs = bytes .now
@@ -113,7 +113,7 @@ module _ {M : Type 1} (𝓤 : URA M) (H : Heap 𝓤) (A : Atoms 𝓤) (W : Given
   abbrev s₁ : Val
   s₁ = sliceVal (work .ptr) (length zs)
 
-  abbrev x : State × (Edit × (RefT (List ℕ) × (ℕ × (List Node × (RefT (List ℕ) × Unit {0})))))
+  abbrev x : State × (Edit × (RefT (List ℕ) × (ℕ × (List NodeRecord × (RefT (List ℕ) × Unit {0})))))
   x = (state, (edit, (bytes, (entries, (given, (work, tt))))))
 
   abbrev at : Vals edit-over.signature (κ₀, (κ₁, tt))
@@ -144,7 +144,7 @@ module _ {M : Type 1} (𝓤 : URA M) (H : Heap 𝓤) (A : Atoms 𝓤) (W : Given
   Replied m r = (n : Netlist) → Opened n → replyOf (r .reply) ≡ replyAfter n asked m (length zs)
 
   -- what `edit` says beside that, where it leaves ns and ws
-  abbrev Others : Edited → List Node → List ℕ → Item 𝓤
+  abbrev Others : Edited → List NodeRecord → List ℕ → Item 𝓤
   Others r ns ws =
       raw (fact 𝓤 ((n : Netlist) → Opened n → r .state ≡ stateOf (netlistAfter n asked few (length zs)))) ⊛ raw (fact 𝓤 ((n : Netlist) → Opened n → ns ≡ recordsAfter n asked (parts .front) (length zs)))
       ⊛ raw (fact 𝓤 ((n : Netlist) → Opened n → ws ≡ bytesAfter n asked few zs)) ⊛ raw (fact 𝓤 ((n : Netlist) → Opened n → GlitchClear (replyOf (r .reply)) ↔ NothingSuspectAfter n asked few (length zs)))
@@ -156,7 +156,7 @@ module _ {M : Type 1} (𝓤 : URA M) (H : Heap 𝓤) (A : Atoms 𝓤) (W : Given
   abbrev Left : List ℕ → List (Item 𝓤)
   Left ws = ‵ (flft κ₀ q₀) ∷ (‵ (flft κ₁ q₁) ⊛ ‵ ftrue) ∷ ‵ (finally u8 (work .name) ws) ∷ []
 
-  exits : (r : Edited) (ns : List Node) (t : Val) (ws : List ℕ) → Is S.the-row (seen r ns) (t ∷ []) → Replied (min entries 200) r → length ws ≡ length zs
+  exits : (r : Edited) (ns : List NodeRecord) (t : Val) (ws : List ℕ) → Is S.the-row (seen r ns) (t ∷ []) → Replied (min entries 200) r → length ws ≡ length zs
       → ent 𝓤 (⋆ 𝓤 H A (Left ws)) (Post t)
   exits r ns t ws is replied l =
       qed W (Left ws) ∵

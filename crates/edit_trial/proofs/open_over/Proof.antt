@@ -36,13 +36,13 @@ use denote.Triple.Statement.{Contract, Triple}
 use denote.Triple.Table.{entered, cited}
 use denote.Triple.Walked.{Stays, stay-dropped, gave-slice, walkOf, goes-dropped, goes-gave-slice, Walks, ends-at, walked, walk-meets}
 use denote.Exit.{yes}
-use Rattle.rules.specs.declared.Node.{Node}
+use Rattle.rules.specs.declared.NodeRecord.{NodeRecord}
 use Rattle.rules.specs.Slices.{nodesAfter, workAfter, reply}
 use Rattle.rules.specs.Checks.{admitted}
 use Rattle.rules.specs.Demands.{GlitchClear, NothingSuspect, OneProbe}
 use Rattle.rules.specs.Paper.{replyOf}
-use Rattle.rules.proofs.Node as T
-use Rattle.rules.proofs.Node.Laws as T′
+use Rattle.rules.proofs.NodeRecord as T
+use Rattle.rules.proofs.NodeRecord.Laws as T′
 use Rattle.edits.proofs.Edited as R
 use Rattle.edits.proofs.Edited.Laws as R′
 use Rattle.netlists.specs.Netlists.{kept}
@@ -76,7 +76,7 @@ module _ {M : Type 1} (𝓤 : URA M) (H : Heap 𝓤) (A : Atoms 𝓤) (memory : 
   Open = tripleOf 𝓤 H A opens.signature (opens.spec 𝓤 H A memory run)
 
 module _ {M : Type 1} (𝓤 : URA M) (H : Heap 𝓤) (A : Atoms 𝓤) (W : Given 𝓤 H A) (memory : Memory → SProp 𝓤) (run : Routine → Fun 𝓤)
-    (κ₀ κ₁ : Lft) (q₀ q₁ : Share) (bytes : RefT (List ℕ)) (entries : ℕ) (given : List Node) (v : Val) (work : RefT (List ℕ))
+    (κ₀ κ₁ : Lft) (q₀ q₁ : Share) (bytes : RefT (List ℕ)) (entries : ℕ) (given : List NodeRecord) (v : Val) (work : RefT (List ℕ))
     (room₀ : Room u8 (length (bytes .now))) (fits : entries < 2 ^ 64) (is-given : Is (array 200) given (v ∷ [])) (room₁ : Room u8 (length (work .now))) where
   abbrev xs : List ℕ
   xs = bytes .now
@@ -98,7 +98,7 @@ module _ {M : Type 1} (𝓤 : URA M) (H : Heap 𝓤) (A : Atoms 𝓤) (W : Given
   abbrev s₁ : Val
   s₁ = sliceVal (work .ptr) (length zs)
 
-  abbrev x : RefT (List ℕ) × (ℕ × (List Node × (RefT (List ℕ) × Unit {0})))
+  abbrev x : RefT (List ℕ) × (ℕ × (List NodeRecord × (RefT (List ℕ) × Unit {0})))
   x = (bytes, (entries, (given, (work, tt))))
 
   abbrev at : Vals open-over.signature (κ₀, (κ₁, tt))
@@ -124,14 +124,14 @@ module _ {M : Type 1} (𝓤 : URA M) (H : Heap 𝓤) (A : Atoms 𝓤) (W : Given
   abbrev Worked : ℕ → List ℕ → Type 0
   Worked m ws = ws ≡ workAfter xs m zs
 
-  abbrev Noted : List Node → Type 0
+  abbrev Noted : List NodeRecord → Type 0
   Noted ns = ns ≡ nodesAfter xs (parts .front) (length zs) ++ parts .others
 
   -- what is had at exit beside the result
   abbrev Left : List ℕ → List (Item 𝓤)
   Left ws = ‵ (flft κ₀ q₀) ∷ (‵ (flft κ₁ q₁) ⊛ ‵ ftrue) ∷ ‵ (finally u8 (work .name) ws) ∷ []
 
-  exits : (r : Edited) (ns : List Node) (t : Val) (ws : List ℕ) → Is S.the-row (seen r ns) (t ∷ []) → Replied (min entries 200) r → Noted ns → Worked (min entries 200) ws → length ws ≡ length zs
+  exits : (r : Edited) (ns : List NodeRecord) (t : Val) (ws : List ℕ) → Is S.the-row (seen r ns) (t ∷ []) → Replied (min entries 200) r → Noted ns → Worked (min entries 200) ws → length ws ≡ length zs
       → ent 𝓤 (⋆ 𝓤 H A (Left ws)) (Post t)
   exits r ns t ws is replied noted worked l =
       qed W (Left ws) ∵
@@ -206,7 +206,7 @@ module _ {M : Type 1} (𝓤 : URA M) (H : Heap 𝓤) (A : Atoms 𝓤) (W : Given
           move ! (19 ∷ 20 ∷ []) $ free1 ! $ move ! (0 ∷ 18 ∷ []) $ free1 ! $ move ! (15 ∷ 16 ∷ []) $ free1 ! $ move ! (13 ∷ 14 ∷ []) $ free1 ! $ move ! (11 ∷ 12 ∷ []) $ free1 ! $
           move ! (9 ∷ 10 ∷ []) $ free1 ! $ move ! (7 ∷ 8 ∷ []) $ free1 ! $ move ! (5 ∷ 6 ∷ []) $ free1 ! $ free0 ! $ keep ! (1 ∷ 0 ∷ 2 ∷ []) $
           by ! (exits r (ws .1 .0 ++ parts .others) _ (ws .1 .1 .0) (is-seen r t (ws .1 .0 ++ parts .others) u is-t is-u) (subst (λ (m : ℕ). Replied m r) (parts .front-length) replied)
-          (ap (λ (ns : List Node). ns ++ parts .others) is-ns) (subst (λ (m : ℕ). Worked m (ws .1 .1 .0)) (parts .front-length) worked) l))))))))))
+          (ap (λ (ns : List NodeRecord). ns ++ parts .others) is-ns) (subst (λ (m : ℕ). Worked m (ws .1 .1 .0)) (parts .front-length) worked) l))))))))))
 
     walk : ent 𝓤 (onEntry 𝓤 H A open-over.signature (κ₀, (κ₁, tt)) (q₀, (q₁, tt)) x at) (WpFn 𝓤 H C Λ code.function (s₀ ∷ vint w64 entries ∷ v ∷ s₁ ∷ []) Post)
     walk =

@@ -41,7 +41,7 @@ use denote.Triple.Table.{entered, cited}
 use denote.Triple.Walked.{Stays, stay-none-slice, gave-slice, stay-none, walkOf, goes-none-slice, goes-gave-slice, goes-none, Walks, ends-at, walked, walk-meets}
 use denote.Exit.{yes}
 use borrow.Rule.Slice.Reshare.{keptS}
-use Rattle.rules.specs.declared.Node.{Node}
+use Rattle.rules.specs.declared.NodeRecord.{NodeRecord}
 use Rattle.netlists.specs.declared.Netlist.{Netlist}
 use Rattle.checker.specs.declared.Examined.{Examined}
 use Rattle.open_blocks.specs.declared.State.{State}
@@ -52,7 +52,7 @@ use Rattle.open_blocks.specs.Work.{loaded}
 use Rattle.changes.specs.Changes.{Changes}
 use Rattle.edits.specs.declared.Edited.{Edited}
 use Rattle.edits.specs.Edited.{editedOf}
-use Rattle.rules.proofs.Node as T
+use Rattle.rules.proofs.NodeRecord as T
 use Rattle.netlists.proofs.Netlist as N
 use Rattle.netlists.proofs.Netlist.Laws as N′
 use Rattle.checker.proofs.Examined as E
@@ -106,12 +106,12 @@ module _ {M : Type 1} (𝓤 : URA M) (H : Heap 𝓤) (A : Atoms 𝓤) (mem : Mem
   EditedOf = tripleOf 𝓤 H A edited-of.signature (edited-of.spec 𝓤 H A mem run)
 
 module _ {M : Type 1} (𝓤 : URA M) (H : Heap 𝓤) (A : Atoms 𝓤) (W : Given 𝓤 H A) (mem : Memory → SProp 𝓤) (run : Routine → Fun 𝓤) (κ₀ κ₁ κ₂ : Lft) (q₀ q₁ q₂ : Share)
-    (state : State) (asked : Edit) (bytes : RefT (List ℕ)) (nodes : RefT (List Node)) (work : RefT (List ℕ)) (s-state s-asked : Val) (is-state : Is S.the-row state (s-state ∷ [])) (is-asked : Is D.the-row asked (s-asked ∷ []))
+    (state : State) (asked : Edit) (bytes : RefT (List ℕ)) (nodes : RefT (List NodeRecord)) (work : RefT (List ℕ)) (s-state s-asked : Val) (is-state : Is S.the-row state (s-state ∷ [])) (is-asked : Is D.the-row asked (s-asked ∷ []))
     (room₀ : Room u8 (length (bytes .now))) (room₁ : Room T.the-row (length (nodes .now))) (room₂ : Room u8 (length (work .now))) where
   abbrev xs : List ℕ
   xs = bytes .now
 
-  abbrev ys : List Node
+  abbrev ys : List NodeRecord
   ys = nodes .now
 
   abbrev zs : List ℕ
@@ -127,7 +127,7 @@ module _ {M : Type 1} (𝓤 : URA M) (H : Heap 𝓤) (A : Atoms 𝓤) (W : Given
   abbrev s₂ : Val
   s₂ = sliceVal (work .ptr) (length zs)
 
-  abbrev x : State × (Edit × (RefT (List ℕ) × (RefT (List Node) × (RefT (List ℕ) × Unit {0}))))
+  abbrev x : State × (Edit × (RefT (List ℕ) × (RefT (List NodeRecord) × (RefT (List ℕ) × Unit {0}))))
   x = (state, (asked, (bytes, (nodes, (work, tt)))))
 
   abbrev at : Vals edit.signature (κ₀, (κ₁, (κ₂, tt)))
@@ -154,7 +154,7 @@ module _ {M : Type 1} (𝓤 : URA M) (H : Heap 𝓤) (A : Atoms 𝓤) (W : Given
   Alive = ‵ (flft κ₀ q₀) ⊛ ‵ (flft κ₂ q₂) ⊛ ‵ ftrue
 
   -- the nodes as they are lent to `load`, for the lifetime ν under the name δ, and what is kept meanwhile
-  abbrev shared : GName → RefT (List Node)
+  abbrev shared : GName → RefT (List NodeRecord)
   shared δ = record { ptr = nodes .ptr; name = δ; now = ys }
 
   abbrev Lent : ℕ → GName → Fml
@@ -177,7 +177,7 @@ module _ {M : Type 1} (𝓤 : URA M) (H : Heap 𝓤) (A : Atoms 𝓤) (W : Given
   makes-examined : Makes 𝓤 H A E.the-row (Is E.the-row)
   makes-examined = LL.makes E.the-type E′.the-plain 𝓤 H A
 
-  exits : (r : Edited) (t : Val) (ns : List Node) (ws : List ℕ) → Promised state e r ys ns zs ws → length ns ≡ length ys → length ws ≡ length zs
+  exits : (r : Edited) (t : Val) (ns : List NodeRecord) (ws : List ℕ) → Promised state e r ys ns zs ws → length ns ≡ length ys → length ws ≡ length zs
       → ent 𝓤 (⋆ 𝓤 H A (‵ (R.the-row .own r (t ∷ [])) ∷ (‵ (flft κ₁ q₁) ⊛ ‵ ftrue) ∷ ‵ (finally T.the-row (nodes .name) ns) ∷ Alive ∷ ‵ (finally u8 (work .name) ws) ∷ ‵ Own₀ ∷ [])) (Post t)
   exits r t ns ws p l₁ l₂ =
       qed W (‵ (R.the-row .own r (t ∷ [])) ∷ (‵ (flft κ₁ q₁) ⊛ ‵ ftrue) ∷ ‵ (finally T.the-row (nodes .name) ns) ∷ Alive ∷ ‵ (finally u8 (work .name) ws) ∷ ‵ Own₀ ∷ []) ∵

@@ -46,14 +46,14 @@ use denote.Triple.Table.{entered, cited}
 use denote.Triple.Walked.{says, Stays, stay-dropped, walkOf, goes-dropped, Walks, ends-at, walked, walk-meets}
 use denote.Exit.{yes}
 use Rattle.rules.specs.Records.{most-nodes}
-use Rattle.rules.specs.declared.Node.{Node}
+use Rattle.rules.specs.declared.NodeRecord.{NodeRecord}
 use Rattle.netlists.specs.declared.Netlist.{Netlist}
 use Rattle.netlists.specs.Netlists.{blank}
 use Rattle.open_blocks.specs.declared.State.{State}
 use Rattle.open_blocks.specs.Work.{loaded}
 use Rattle.edits.specs.Edited.{unloadedOf, withEntry}
-use Rattle.rules.proofs.Node as T
-use Rattle.rules.proofs.Node.Laws as T′
+use Rattle.rules.proofs.NodeRecord as T
+use Rattle.rules.proofs.NodeRecord.Laws as T′
 use Rattle.netlists.proofs.Netlist as N
 use Rattle.netlists.proofs.Netlist.Laws as N′
 use Rattle.open_blocks.proofs.State as S
@@ -99,9 +99,9 @@ module _ {M : Type 1} (𝓤 : URA M) (H : Heap 𝓤) (A : Atoms 𝓤) (mem : Mem
   abbrev WithEntry : Contract 𝓤
   WithEntry = tripleOf 𝓤 H A with-entry.signature (with-entry.spec 𝓤 H A mem run)
 
-module _ {M : Type 1} (𝓤 : URA M) (H : Heap 𝓤) (A : Atoms 𝓤) (W : Given 𝓤 H A) (mem : Memory → SProp 𝓤) (run : Routine → Fun 𝓤) (κ : Lft) (q : Share) (state : State) (nodes : RefT (List Node)) (t : Val)
+module _ {M : Type 1} (𝓤 : URA M) (H : Heap 𝓤) (A : Atoms 𝓤) (W : Given 𝓤 H A) (mem : Memory → SProp 𝓤) (run : Routine → Fun 𝓤) (κ : Lft) (q : Share) (state : State) (nodes : RefT (List NodeRecord)) (t : Val)
     (is-state : Is S.the-row state (t ∷ [])) (room : Room T.the-row (length (nodes .now))) where
-  abbrev ys : List Node
+  abbrev ys : List NodeRecord
   ys = nodes .now
 
   -- how many records are loaded, and the block once i are
@@ -115,7 +115,7 @@ module _ {M : Type 1} (𝓤 : URA M) (H : Heap 𝓤) (A : Atoms 𝓤) (W : Given
   abbrev s : Val
   s = sliceVal (nodes .ptr) (length ys)
 
-  abbrev x : State × (RefT (List Node) × Unit {0})
+  abbrev x : State × (RefT (List NodeRecord) × Unit {0})
   x = (state, (nodes, tt))
 
   abbrev at : Vals load′.signature (κ, tt)
@@ -159,7 +159,7 @@ module _ {M : Type 1} (𝓤 : URA M) (H : Heap 𝓤) (A : Atoms 𝓤) (W : Given
       qed W (Alive ∷ ‵ Own ∷ []) ∵ says ! (omega arith) $ frame ! $
       nothing ! $ owned ! usize (Is usize) (uint-makes 𝓤 H A W w64) i _ (refl, omega arith) $ fjoin ! $ move ! (1 ∷ 0 ∷ []) $ fjoin ! $ done !
 
-  module _ (i : ℕ) (v : Val) (is-v : Is N.the-row (after i) (v ∷ [])) (e : Node) (w : Val) (is-w : Is T.the-row e (w ∷ [])) where
+  module _ (i : ℕ) (v : Val) (is-v : Is N.the-row (after i) (v ∷ [])) (e : NodeRecord) (w : Val) (is-w : Is T.the-row e (w ∷ [])) where
     abbrev to-entry : WithEntry 𝓤 H A mem run .Ghost
     to-entry = ((tt, tt, tt, (after i, (i, (e, tt))), (v ∷ [], (vint w64 i ∷ [], (w ∷ [], tt)))), tt)
 
@@ -242,7 +242,7 @@ module _ {M : Type 1} (𝓤 : URA M) (H : Heap 𝓤) (A : Atoms 𝓤) (W : Given
           next-fits : u .i + 1 < 2 ^ 64
           next-fits = let l = less in omega arith
 
-          next : (e : Node) → e ≡ getD ys (u .i) blank → (b : Netlist) → b ≡ withEntry (after (u .i)) (u .i) e → (v : Val) → Is N.the-row b (v ∷ []) → Upto
+          next : (e : NodeRecord) → e ≡ getD ys (u .i) blank → (b : Netlist) → b ≡ withEntry (after (u .i)) (u .i) e → (v : Val) → Is N.the-row b (v ∷ []) → Upto
           next e is-e b is-b v is-v = record {
             i = u .i + 1;
             few = add-one-le less;

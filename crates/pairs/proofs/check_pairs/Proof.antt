@@ -38,7 +38,7 @@ use denote.Triple.Statement.{Contract, Triple}
 use denote.Triple.Table.{entered, cited}
 use denote.Triple.Walked.{Stays, stay-none-slice, gave-slice, stay-none, walkOf, goes-none-slice, goes-gave-slice, goes-none, Walks, ends-at, walked, walk-meets}
 use denote.Exit.{yes}
-use Rattle.rules.specs.declared.Node.{Node}
+use Rattle.rules.specs.declared.NodeRecord.{NodeRecord}
 use Rattle.rules.specs.Slices.{nodesAfter, workAfter}
 use Rattle.rules.specs.Checks.{admitted}
 use Rattle.rules.specs.Demands.{GlitchClear, NothingSuspect, OneProbe}
@@ -49,7 +49,7 @@ use Rattle.checker.specs.declared.Examined.{Examined}
 use Rattle.pairs.specs.declared.PairsReply.{PairsReply}
 use Rattle.pairs.specs.declared.ExaminedPairs.{ExaminedPairs}
 use Rattle.pairs.specs.Meaning.{pairsReplyOf}
-use Rattle.rules.proofs.Node as T
+use Rattle.rules.proofs.NodeRecord as T
 use Rattle.checker.proofs.Examined as E
 use Rattle.checker.proofs.Examined.Laws as E′
 use Rattle.checker.proofs.Lent.{slice₀, slice₁, slice₂, to-bytes, to-nodes, shown, at-exit, goes-one, calls-ended, calls-plain, Store, calls-store}
@@ -93,12 +93,12 @@ module _ {M : Type 1} (𝓤 : URA M) (H : Heap 𝓤) (A : Atoms 𝓤) (mem : Mem
   ReplyOf = tripleOf 𝓤 H A reply-of.signature (reply-of.spec 𝓤 H A mem run)
 
 module _ {M : Type 1} (𝓤 : URA M) (H : Heap 𝓤) (A : Atoms 𝓤) (W : Given 𝓤 H A) (mem : Memory → SProp 𝓤) (run : Routine → Fun 𝓤) (κ₀ κ₁ κ₂ : Lft) (q₀ q₁ q₂ : Share)
-    (bytes : RefT (List ℕ)) (nodes : RefT (List Node)) (work : RefT (List ℕ)) (limit : ℕ)
+    (bytes : RefT (List ℕ)) (nodes : RefT (List NodeRecord)) (work : RefT (List ℕ)) (limit : ℕ)
     (room₀ : Room u8 (length (bytes .now))) (room₁ : Room T.the-row (length (nodes .now))) (room₂ : Room u8 (length (work .now))) (fits : limit < 2 ^ 64) where
   abbrev xs : List ℕ
   xs = bytes .now
 
-  abbrev ys : List Node
+  abbrev ys : List NodeRecord
   ys = nodes .now
 
   abbrev zs : List ℕ
@@ -121,7 +121,7 @@ module _ {M : Type 1} (𝓤 : URA M) (H : Heap 𝓤) (A : Atoms 𝓤) (W : Given
   abbrev s₃ : Val
   s₃ = vint w64 limit
 
-  abbrev x : RefT (List ℕ) × (RefT (List Node) × (RefT (List ℕ) × (ℕ × Unit {0})))
+  abbrev x : RefT (List ℕ) × (RefT (List NodeRecord) × (RefT (List ℕ) × (ℕ × Unit {0})))
   x = (bytes, (nodes, (work, (limit, tt))))
 
   abbrev at : Vals check-pairs.signature (κ₀, (κ₁, (κ₂, tt)))
@@ -166,7 +166,7 @@ module _ {M : Type 1} (𝓤 : URA M) (H : Heap 𝓤) (A : Atoms 𝓤) (W : Given
   abbrev Says : PairsReply → Type 0
   Says r = Replied r × Cleared r × Probed r × Paired r × ProbedTwice r
 
-  exits : (r : PairsReply) (t : Val) (ns : List Node) (ws : List ℕ) → Says r → ns ≡ nodesAfter xs ys (length zs) → ws ≡ workAfter xs (length ys) zs → length ns ≡ length ys → length ws ≡ length zs
+  exits : (r : PairsReply) (t : Val) (ns : List NodeRecord) (ws : List ℕ) → Says r → ns ≡ nodesAfter xs ys (length zs) → ws ≡ workAfter xs (length ys) zs → length ns ≡ length ys → length ws ≡ length zs
       → ent 𝓤 (⋆ 𝓤 H A (‵ (R.the-row .own r (t ∷ [])) ∷ (‵ (flft κ₁ q₁) ⊛ ‵ ftrue) ∷ ‵ (finally T.the-row (nodes .name) ns) ∷ Alive ∷ ‵ (finally u8 (work .name) ws) ∷ ‵ Own₀ ∷ [])) (Post t)
   exits r t ns ws (replied, cleared, probed, paired, twice) is-ns is-ws l₁ l₂ =
       qed W (‵ (R.the-row .own r (t ∷ [])) ∷ (‵ (flft κ₁ q₁) ⊛ ‵ ftrue) ∷ ‵ (finally T.the-row (nodes .name) ns) ∷ Alive ∷ ‵ (finally u8 (work .name) ws) ∷ ‵ Own₀ ∷ []) ∵

@@ -159,20 +159,19 @@ returns c =
     ⊎-elim (λ w. absurd (omega arith))
     (λ w.
     let way : tie.After-suspect-in Inv-loop μ-loop Inv-nodes μ-nodes =
-        record {
+    record {
+      before = record {
+        before = record {
           before = record {
-            before = record {
-              before = record {
-                before = record { before = record { before = c .before .before; nodes-test = w .0 }; node = w .1 };
-                first-place = w .2;
-              };
-              loop = w .3;
-            };
-            loop-test = w .4;
+            before = record { before = record { before = c .before .before; nodes-test = w .0 }; node = w .1 };
+            first-place = w .2;
           };
-          suspect-in = w .5;
-        } in
-    (
+          loop = w .3;
+        };
+        loop-test = w .4;
+      };
+      suspect-in = w .5;
+    } in (
       λ n e. ap (λ (A : ℕ). suspectAt (c .before .before .nodes .i) A) (w .7) ∙ broken-off way (w .6 .taken) n e,
       (c .before .before .nodes .inv .0, omega arith, rw (w .7) (set-low (set-there (way .before)) (w .4 .taken))),
     ))

@@ -38,13 +38,13 @@ use denote.Triple.Statement.{Contract, Triple}
 use denote.Triple.Table.{entered, cited}
 use denote.Triple.Walked.{Stays, stay-dropped, gave-slice, walkOf, goes-dropped, goes-gave-slice, Walks, ends-at, walked, walk-meets}
 use denote.Exit.{yes}
-use Rattle.rules.specs.declared.Node.{Node}
+use Rattle.rules.specs.declared.NodeRecord.{NodeRecord}
 use Rattle.rules.specs.declared.Reply.{Reply}
 use Rattle.rules.specs.Slices.{nodesAfter, workAfter, reply}
 use Rattle.rules.specs.Demands.{GlitchClear, NothingSuspect, OneProbe}
 use Rattle.rules.specs.Paper.{replyOf}
-use Rattle.rules.proofs.Node as T
-use Rattle.rules.proofs.Node.Laws as T′
+use Rattle.rules.proofs.NodeRecord as T
+use Rattle.rules.proofs.NodeRecord.Laws as T′
 use Rattle.rules.proofs.Reply as R
 use Rattle.rules.proofs.Reply.Laws as R′
 use Rattle.trial.specs.declared.Seen.{Seen}
@@ -70,10 +70,10 @@ abbrev stayed : Stays (check-over.ended .signature .params) (check-over.ended .k
 stayed = (stay-dropped (shrSliceOf (0 ∷ []) tt (plain (λ _. u8))) yes, (stay-dropped (plain (λ _. usize)) yes, (stay-dropped (plain (λ _. T.the-row)) yes, (gave-slice (1 ∷ []) tt (plain (λ _. u8)), tt))))
 
 -- the result
-abbrev seen : Reply → List Node → Seen
+abbrev seen : Reply → List NodeRecord → Seen
 seen r ns = record { reply = r; nodes = ns }
 
-is-seen : (r : Reply) (t : Val) (ns : List Node) (u : Val) → Is R.the-row r (t ∷ []) → Is (array 200) ns (u ∷ []) → Is S.the-row (seen r ns) (vstruct (ofList (t ∷ u ∷ [])) ∷ [])
+is-seen : (r : Reply) (t : Val) (ns : List NodeRecord) (u : Val) → Is R.the-row r (t ∷ []) → Is (array 200) ns (u ∷ []) → Is S.the-row (seen r ns) (vstruct (ofList (t ∷ u ∷ [])) ∷ [])
 is-seen r t ns u is-t (us, ((is-u, n), are)) = ((t ∷ [], (u ∷ [], tt)), (refl, (is-t, ((us, ((is-u, length-map ns (T.the-field .into) ∙ n), as-field ns us are)), tt))))
 
 module _ {M : Type 1} (𝓤 : URA M) (H : Heap 𝓤) (A : Atoms 𝓤) (memory : Memory → SProp 𝓤) (run : Routine → Fun 𝓤) where
@@ -82,7 +82,7 @@ module _ {M : Type 1} (𝓤 : URA M) (H : Heap 𝓤) (A : Atoms 𝓤) (memory : 
   Check = tripleOf 𝓤 H A check.signature (check.spec 𝓤 H A memory run)
 
 module _ {M : Type 1} (𝓤 : URA M) (H : Heap 𝓤) (A : Atoms 𝓤) (W : Given 𝓤 H A) (memory : Memory → SProp 𝓤) (run : Routine → Fun 𝓤)
-    (κ₀ κ₁ : Lft) (q₀ q₁ : Share) (bytes : RefT (List ℕ)) (entries : ℕ) (before : Node) (v : Val) (work : RefT (List ℕ))
+    (κ₀ κ₁ : Lft) (q₀ q₁ : Share) (bytes : RefT (List ℕ)) (entries : ℕ) (before : NodeRecord) (v : Val) (work : RefT (List ℕ))
     (room₀ : Room u8 (length (bytes .now))) (fits : entries < 2 ^ 64) (is-b : Is T.the-row before (v ∷ [])) (room₁ : Room u8 (length (work .now))) where
   abbrev xs : List ℕ
   xs = bytes .now
@@ -104,7 +104,7 @@ module _ {M : Type 1} (𝓤 : URA M) (H : Heap 𝓤) (A : Atoms 𝓤) (W : Given
   abbrev s₁ : Val
   s₁ = sliceVal (work .ptr) (length zs)
 
-  abbrev x : RefT (List ℕ) × (ℕ × (Node × (RefT (List ℕ) × Unit {0})))
+  abbrev x : RefT (List ℕ) × (ℕ × (NodeRecord × (RefT (List ℕ) × Unit {0})))
   x = (bytes, (entries, (before, (work, tt))))
 
   abbrev at : Vals check-over.signature (κ₀, (κ₁, tt))
@@ -130,14 +130,14 @@ module _ {M : Type 1} (𝓤 : URA M) (H : Heap 𝓤) (A : Atoms 𝓤) (W : Given
   abbrev Worked : ℕ → List ℕ → Type 0
   Worked m ws = ws ≡ workAfter xs m zs
 
-  abbrev Noted : List Node → Type 0
+  abbrev Noted : List NodeRecord → Type 0
   Noted ns = ns ≡ nodesAfter xs (parts .front) (length zs) ++ parts .others
 
   -- what is had at exit beside the result
   abbrev Left : List ℕ → List (Item 𝓤)
   Left ws = ‵ (flft κ₀ q₀) ∷ (‵ (flft κ₁ q₁) ⊛ ‵ ftrue) ∷ ‵ (finally u8 (work .name) ws) ∷ []
 
-  exits : (r : Reply) (ns : List Node) (t : Val) (ws : List ℕ) → Is S.the-row (seen r ns) (t ∷ []) → Replied (min entries 200) r → Noted ns → Worked (min entries 200) ws → length ws ≡ length zs
+  exits : (r : Reply) (ns : List NodeRecord) (t : Val) (ws : List ℕ) → Is S.the-row (seen r ns) (t ∷ []) → Replied (min entries 200) r → Noted ns → Worked (min entries 200) ws → length ws ≡ length zs
       → ent 𝓤 (⋆ 𝓤 H A (Left ws)) (Post t)
   exits r ns t ws is replied noted worked l =
       qed W (Left ws) ∵
@@ -212,7 +212,7 @@ module _ {M : Type 1} (𝓤 : URA M) (H : Heap 𝓤) (A : Atoms 𝓤) (W : Given
           move ! (19 ∷ 20 ∷ []) $ free1 ! $ move ! (0 ∷ 18 ∷ []) $ free1 ! $ move ! (15 ∷ 16 ∷ []) $ free1 ! $ move ! (13 ∷ 14 ∷ []) $ free1 ! $ move ! (11 ∷ 12 ∷ []) $ free1 ! $
           move ! (9 ∷ 10 ∷ []) $ free1 ! $ move ! (7 ∷ 8 ∷ []) $ free1 ! $ move ! (5 ∷ 6 ∷ []) $ free1 ! $ free0 ! $ keep ! (1 ∷ 0 ∷ 2 ∷ []) $
           by ! (exits r (ws .1 .0 ++ parts .others) _ (ws .1 .1 .0) (is-seen r t (ws .1 .0 ++ parts .others) u is-t is-u) (subst (λ (m : ℕ). Replied m r) (parts .front-length) replied)
-          (ap (λ (ns : List Node). ns ++ parts .others) is-ns) (subst (λ (m : ℕ). Worked m (ws .1 .1 .0)) (parts .front-length) worked) l))))))))))
+          (ap (λ (ns : List NodeRecord). ns ++ parts .others) is-ns) (subst (λ (m : ℕ). Worked m (ws .1 .1 .0)) (parts .front-length) worked) l))))))))))
 
     walk : ent 𝓤 (onEntry 𝓤 H A check-over.signature (κ₀, (κ₁, tt)) (q₀, (q₁, tt)) x at) (WpFn 𝓤 H C Λ code.function (s₀ ∷ vint w64 entries ∷ v ∷ s₁ ∷ []) Post)
     walk =

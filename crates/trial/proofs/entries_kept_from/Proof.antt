@@ -9,7 +9,7 @@ use lib.ListN.{length, getD}
 use lib.Seq.{drop-cons}
 use borrow.Author.Needs.{needs}
 use borrow.Author.Tests.{not-true, not-false}
-use Rattle.rules.specs.declared.Node.{Node}
+use Rattle.rules.specs.declared.NodeRecord.{NodeRecord}
 use Rattle.trial.specs.Before.{entryBefore, isBefore, keptFrom}
 use Rattle.trial.proofs.Kept.{kept-on, kept-next}
 use Rattle.trial.proofs.entries_kept_from.Statement.{statement}
@@ -22,11 +22,11 @@ abbrev μ-loop : tie.MeasureT-loop
 μ-loop nodes from₀ k₀ from k = 200 - k
 
 -- the code's record for an entry that is not there
-abbrev none : Node
+abbrev none : NodeRecord
 none = record { kind = 0; first = 0; second = 0; set = 0 }
 
 -- an entry that is there does not depend on it
-there : (nodes : List Node) (k n : ℕ) → length nodes ≡ n → k < n → getD nodes k entryBefore ≡ getD nodes k none
+there : (nodes : List NodeRecord) (k n : ℕ) → length nodes ≡ n → k < n → getD nodes k entryBefore ≡ getD nodes k none
 there nodes k n long h = cc (drop-cons nodes k entryBefore (omega arith), drop-cons nodes k none (omega arith))
 
 loop-holds : tie.Need-loop-holds Inv-loop μ-loop

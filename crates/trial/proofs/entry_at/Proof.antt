@@ -42,10 +42,10 @@ use denote.Triple.Clauses.{ensured, lasts}
 use denote.Triple.Table.{entered, cited}
 use denote.Triple.Walked.{says, needs, Stays, stay-dropped, walkOf, goes-dropped, Walks, ends-at, walked, walk-meets}
 use denote.Exit.{yes}
-use Rattle.rules.specs.declared.Node.{Node}
+use Rattle.rules.specs.declared.NodeRecord.{NodeRecord}
 use Rattle.netlists.specs.Netlists.{blank}
-use Rattle.rules.proofs.Node as T
-use Rattle.rules.proofs.Node.Laws as T′
+use Rattle.rules.proofs.NodeRecord as T
+use Rattle.rules.proofs.NodeRecord.Laws as T′
 use Rattle.checker.proofs.node_at as node-at
 use Rattle.checker.proofs.node_at.Symbol as node-at-def
 use Rattle.checker.proofs.node_at.Symbol.{name as #checker·node-at}
@@ -66,12 +66,12 @@ module _ {M : Type 1} (𝓤 : URA M) (H : Heap 𝓤) (A : Atoms 𝓤) (memory : 
   NodeAt = tripleOf 𝓤 H A node-at.signature (node-at.spec 𝓤 H A memory run)
 
   -- of `node_at`'s `ensured`, the clause alone: it has no `&mut`
-  node-says : (κ : Lft) (ns : RefT (List Node)) (i : ℕ) (n : Node) → ent 𝓤 (ensured 𝓤 H A node-at.ended (node-at.clauses 𝓤 H A memory run) (κ, tt) (ns, (i, tt)) tt n) (fact 𝓤 (n ≡ getD (ns .now) i blank))
+  node-says : (κ : Lft) (ns : RefT (List NodeRecord)) (i : ℕ) (n : NodeRecord) → ent 𝓤 (ensured 𝓤 H A node-at.ended (node-at.clauses 𝓤 H A memory run) (κ, tt) (ns, (i, tt)) tt n) (fact 𝓤 (n ≡ getD (ns .now) i blank))
   node-says κ ns i n = exE 𝓤 _ (λ ws. snd∗ 𝓤 (sem 𝓤 H A (lasts node-at.ended (κ, tt) (ns, (i, tt)) ws)) (fact 𝓤 (n ≡ getD (ns .now) i blank)))
 
 module _ {M : Type 1} (𝓤 : URA M) (H : Heap 𝓤) (A : Atoms 𝓤) (W : Given 𝓤 H A) (memory : Memory → SProp 𝓤) (run : Routine → Fun 𝓤)
-    (ns : List Node) (i : ℕ) (v : Val) (is-ns : Is (array 200) ns (v ∷ [])) (fits : i < 2 ^ 64) (less : i < 200) where
-  abbrev x : List Node × (ℕ × Unit {0})
+    (ns : List NodeRecord) (i : ℕ) (v : Val) (is-ns : Is (array 200) ns (v ∷ [])) (fits : i < 2 ^ 64) (less : i < 200) where
+  abbrev x : List NodeRecord × (ℕ × Unit {0})
   x = (ns, (i, tt))
 
   abbrev at : Vals entry-at.signature tt
@@ -83,10 +83,10 @@ module _ {M : Type 1} (𝓤 : URA M) (H : Heap 𝓤) (A : Atoms 𝓤) (W : Given
   abbrev Post : Val → SProp 𝓤
   Post = walkOf 𝓤 H A entry-at.ended stayed (entry-at.clauses 𝓤 H A memory run) .post bound
 
-  abbrev Noted : Node → Type 0
+  abbrev Noted : NodeRecord → Type 0
   Noted n = n ≡ getD ns i blank
 
-  exits : (n : Node) (w : Val) → Is T.the-row n (w ∷ []) → Noted n → ent 𝓤 (emp 𝓤) (Post w)
+  exits : (n : NodeRecord) (w : Val) → Is T.the-row n (w ∷ []) → Noted n → ent 𝓤 (emp 𝓤) (Post w)
   exits n w is noted =
       qed W [] ∵ suffices ! _ (ends-at 𝓤 H A entry-at.ended stayed (entry-at.clauses 𝓤 H A memory run) W bound w n (tt, (tt, tt)) (tt, (tt, tt))) $
       nothing ! $ owned ! T.the-row (Is T.the-row) (LL.makes T.the-type T′.the-plain 𝓤 H A) n _ is $ nothing ! $ nothing ! $ fjoin ! $ nothing ! $ fjoin ! $
@@ -95,7 +95,7 @@ module _ {M : Type 1} (𝓤 : URA M) (H : Heap 𝓤) (A : Atoms 𝓤) (W : Given
 
   -- ---- the call: what the callee's triple binds outside, and that the caller has what it asks
   -- the array at l, lent under the name γ, and what its `&` owns
-  abbrev lent : ℕ → GName → RefT (List Node)
+  abbrev lent : ℕ → GName → RefT (List NodeRecord)
   lent l γ = record { ptr = (l, 0); name = γ; now = ns }
 
   abbrev Shown : ℕ → Lft → GName → Fml
@@ -149,7 +149,7 @@ module _ {M : Type 1} (𝓤 : URA M) (H : Heap 𝓤) (A : Atoms 𝓤) (W : Given
           -- [what the & owns; the lender's part; its token; the locals without _3; what is left]
           move ! (2 ∷ 0 ∷ []) $ use2 W (raw (NodeAt 𝓤 H A memory run .pre (to-node l₃ (β ∷ []) γ))) (goes-node l₃ (β ∷ []) γ) $
           calls-at ! fm (NodeAt 𝓤 H A memory run) known (to-node l₃ (β ∷ []) γ) (and-then ! (load ! (from ! (stop !)) (look ! 2 refl)) (and-then ! (load ! (from ! (stop !)) (look ! 7 refl)) (no-more !))) (λ w.
-          use1 W (later (some (λ (n : Node). ((‵ (flft (β ∷ []) fullShare) ⊛ ‵ ftrue) ⊛ ‵ (T.the-row .own n (w ∷ []))) ⊛ raw (ensured 𝓤 H A node-at.ended (node-at.clauses 𝓤 H A memory run) ((β ∷ []), tt) (lent l₃ γ, (i, tt)) tt n)))) (id⊢ 𝓤 _) $
+          use1 W (later (some (λ (n : NodeRecord). ((‵ (flft (β ∷ []) fullShare) ⊛ ‵ ftrue) ⊛ ‵ (T.the-row .own n (w ∷ []))) ⊛ raw (ensured 𝓤 H A node-at.ended (node-at.clauses 𝓤 H A memory run) ((β ∷ []), tt) (lent l₃ γ, (i, tt)) tt n)))) (id⊢ 𝓤 _) $
           await ! tt $ pick ! (λ n. split ! $ move ! (1 ∷ []) $ use1 W (raw (fact 𝓤 (Noted n))) (node-says 𝓤 H A memory run (β ∷ []) (lent l₃ γ) i n) $ heard ! (Noted n) (λ noted. split ! $
           move ! (1 ∷ []) $ facts ! T.the-row (Is T.the-row) (shows 𝓤 H A T.the-row) n (w ∷ []) (λ is-w. land ! (from ! (stop !)) (init ! 11 refl (LL.lawful T.the-type T′.the-laws 𝓤 H A W .typed n _ is-w .0)) $
           -- the lifetime is over, and the array is room again
