@@ -21,6 +21,8 @@ use Rattle.rules.proofs.Probe.{one-probe}
 use Rattle.netlists.specs.declared.Netlist as Value
 use Rattle.netlists.specs.Netlists.{flatOf, Ready, kept}
 use Rattle.netlists.proofs.Netlists.{value-count}
+use Rattle.marks.specs.Marks.{marksOf}
+use Rattle.checker.specs.declared.Examined.{Examined}
 use Rattle.pair_search.specs.declared.Search.{Search}
 use Rattle.pair_search.specs.Pairs.{pairs, searchFrom, unlessSingle, searched, PairFindings, pairFindings, pairsReply, oneProbeReply, NoPair, NothingSuspectInPairs, TwoProbes}
 use Rattle.pair_search.specs.Meaning.{searchedOf}
@@ -88,29 +90,34 @@ module _ (bytes : List ℕ) (entries limit : ℕ) where
       (ap₂ {C = Outcome PairFindings} (λ f s. answered (record { answer = f; searched = s })) (a .says) (found ∙ ap₂ unlessSingle glitch held))
 
   -- the promises of `examine_pairs`, in their order
-  pub promises : (r : PairsReply) (value : Value.Netlist) (before after : List ℕ) → pairsReplyOf r ≡ pairsReply bytes entries (length before) limit
-      → value ≡ flatOf (kept (admitted bytes entries (length before))) → after ≡ workAfter bytes entries before
+  pub promises : (r : PairsReply) (examined : Examined) (before after : List ℕ) → pairsReplyOf r ≡ pairsReply bytes entries (length before) limit
+      → examined .netlist ≡ flatOf (kept (admitted bytes entries (length before))) → examined .marks ≡ marksOf (kept (admitted bytes entries (length before)))
+      → after ≡ workAfter bytes entries before
       → (pairsReplyOf r ≡ pairsReply bytes entries (length before) limit)
-      × ((value ≡ flatOf (kept (admitted bytes entries (length before))))
+      × ((examined .netlist ≡ flatOf (kept (admitted bytes entries (length before))))
+      × ((examined .marks ≡ marksOf (kept (admitted bytes entries (length before))))
       × ((after ≡ workAfter bytes entries before)
       × ((GlitchClear (oneProbeReply (pairsReplyOf r)) ↔ NothingSuspect bytes entries (length before))
       × ((GlitchClear (oneProbeReply (pairsReplyOf r)) → OneProbe bytes)
       × ((NoPair (pairsReplyOf r) ↔ NothingSuspectInPairs bytes entries (length before) limit)
-      × (NoPair (pairsReplyOf r) → TwoProbes bytes))))))
-  promises r value before after is is-value is-work =
+      × (NoPair (pairsReplyOf r) → TwoProbes bytes)))))))
+  promises r examined before after is is-value is-marked is-work =
       let checked = ap oneProbeReply is ∙ one-probe-reply bytes entries (length before) limit in (
         is,
         (
           is-value,
           (
-            is-work,
+            is-marked,
             (
-              subst (λ o. GlitchClear o ↔ NothingSuspect bytes entries (length before)) (sym checked) (exactly-when bytes entries (length before)),
+              is-work,
               (
-                subst (λ o. GlitchClear o → OneProbe bytes) (sym checked) (one-probe bytes entries (length before)),
+                subst (λ o. GlitchClear o ↔ NothingSuspect bytes entries (length before)) (sym checked) (exactly-when bytes entries (length before)),
                 (
-                  subst (λ o. NoPair o ↔ NothingSuspectInPairs bytes entries (length before) limit) (sym is) (no-pair-exactly bytes entries (length before) limit),
-                  subst (λ o. NoPair o → TwoProbes bytes) (sym is) (two-probes bytes entries (length before) limit),
+                  subst (λ o. GlitchClear o → OneProbe bytes) (sym checked) (one-probe bytes entries (length before)),
+                  (
+                    subst (λ o. NoPair o ↔ NothingSuspectInPairs bytes entries (length before) limit) (sym is) (no-pair-exactly bytes entries (length before) limit),
+                    subst (λ o. NoPair o → TwoProbes bytes) (sym is) (two-probes bytes entries (length before) limit),
+                  ),
                 ),
               ),
             ),

@@ -44,6 +44,8 @@ use Rattle.rules.specs.Checks.{admitted}
 use Rattle.rules.specs.Demands.{GlitchClear, NothingSuspect, OneProbe}
 use Rattle.netlists.specs.Netlists.{flatOf, kept}
 use Rattle.netlists.specs.declared.Netlist.{Netlist}
+use Rattle.marks.specs.declared.Marks.{Marks}
+use Rattle.marks.specs.Marks.{marksOf}
 use Rattle.pair_search.specs.Pairs.{pairsReply, oneProbeReply, NoPair, NothingSuspectInPairs, TwoProbes}
 use Rattle.checker.specs.declared.Examined.{Examined}
 use Rattle.pairs.specs.declared.PairsReply.{PairsReply}
@@ -104,9 +106,12 @@ module _ {M : Type 1} (𝓤 : URA M) (H : Heap 𝓤) (A : Atoms 𝓤) (W : Given
   abbrev zs : List ℕ
   zs = work .now
 
-  -- the netlist whose records are stored
+  -- the netlist whose records are stored, and its marks
   abbrev flat : Netlist
   flat = flatOf (kept (admitted xs (length ys) (length zs)))
+
+  abbrev marked : Marks
+  marked = marksOf (kept (admitted xs (length ys) (length zs)))
 
   -- the machine values
   abbrev s₀ : Val
@@ -212,15 +217,15 @@ module _ {M : Type 1} (𝓤 : URA M) (H : Heap 𝓤) (A : Atoms 𝓤) (W : Given
           ∷ Locals (fat fullShare (sliceTy to-bytes) l₉ 0 s₂) (fat fullShare to-bytes l₈ 0 (vptr (work .ptr .0) (work .ptr .1))) (fat fullShare (tyInt w64) l₇ 0 (vint w64 (length ys))) (fat fullShare P′.mir l₅ 0 v) []
 
       -- the records are stored, and the reply is returned
-      finishes : (e : ExaminedPairs) (v : Val) (ws : List ℕ) → Is P.the-row e (v ∷ []) → Says (e .reply) → e .examined .netlist ≡ flat → ws ≡ workAfter xs (length ys) zs → length ws ≡ length zs
+      finishes : (e : ExaminedPairs) (v : Val) (ws : List ℕ) → Is P.the-row e (v ∷ []) → Says (e .reply) → e .examined .netlist ≡ flat → e .examined .marks ≡ marked → ws ≡ workAfter xs (length ys) zs → length ws ≡ length zs
           → Sq W (Between v ws) (runs C Λ En mir.t-5 (atRet En Post))
-      finishes e v ws is-e f is-flat is-ws l₂ =
+      finishes e v ws is-e f is-flat is-marked is-ws l₂ =
           calls-plain 𝓤 H A W examined-of.ended (examined-of.clauses 𝓤 H A mem run) (to-examined e v) ! (λ c. c ≡ e .examined) (goes-one 𝓤 H A W P.the-row makes e _ is-e) (λ c x. id⊢ 𝓤 _) fm known-examined
           (and-then ! (load ! (from ! (stop !)) (look ! 20 refl)) (no-more !)) (λ u c same.
           facts ! E.the-row (Is E.the-row) (shows 𝓤 H A E.the-row) c (u ∷ []) (λ is-c. land ! (from ! (stop !)) (init ! 17 refl (LL.lawful E.the-type E′.the-laws 𝓤 H A W .typed c _ is-c .0)) $
           assigns ! (addr ! (from ! (fld ! refl (hop ! (look-in ! 25 (sub ! 0 refl (whole !))) (stop !))))) (from ! (stop !)) (init ! 7 refl (tt, tt)) $
           assigns ! (agg ! (and-then ! (load ! (from ! (stop !)) (look ! 7 refl)) (and-then ! (load ! (from ! (fld ! refl (stop !))) (look-in ! 25 (sub ! 1 refl (whole !)))) (no-more !)))) (from ! (stop !)) (init ! 5 refl (tt, (tt, (record { fits = room₁ .0 }, tt)))) $
-          move ! (2 ∷ 3 ∷ []) $ calls-store 𝓤 H A W mem run κ₁ q₁ nodes c u is-c ! fm known-store xs (length zs) (ap (λ (d : Examined). d .netlist) same ∙ is-flat)
+          move ! (2 ∷ 3 ∷ []) $ calls-store 𝓤 H A W mem run κ₁ q₁ nodes c u is-c ! fm known-store xs (length zs) (ap (λ (d : Examined). d .netlist) same ∙ is-flat) (ap (λ (d : Examined). d .marks) same ∙ is-marked)
           (and-then ! (load ! (from ! (stop !)) (look ! 4 refl)) (and-then ! (load ! (from ! (stop !)) (look ! 16 refl)) (no-more !))) (λ o ns ok is-ns l₁.
           -- [the nodes' token; their last list; Alive; the work's last list; what bytes owns; the locals]
           land ! (from ! (stop !)) (init ! 9 refl ok) $
@@ -246,15 +251,15 @@ module _ {M : Type 1} (𝓤 : URA M) (H : Heap 𝓤) (A : Atoms 𝓤) (W : Given
           move ! (0 ∷ 5 ∷ 2 ∷ []) $ use3 W (raw (Examine 𝓤 H A mem run .pre to-examine)) goes-examine $
           calls-ended 𝓤 H A W examine.ended (examine.clauses 𝓤 H A mem run) to-examine ! fm known-examine
           (and-then ! (load ! (from ! (stop !)) (look ! 27 refl)) (and-then ! (load ! (from ! (stop !)) (look ! 15 refl)) (and-then ! (load ! (from ! (stop !)) (look ! 11 refl)) (and-then ! (load ! (from ! (stop !)) (look ! 21 refl)) (no-more !))))) (λ v e ws.
-          use1 W (raw (fact 𝓤 (Replied (e .reply))) ⊛ raw (fact 𝓤 (e .examined .netlist ≡ flat)) ⊛ raw (fact 𝓤 (ws .1 .1 .0 ≡ workAfter xs (length ys) zs)) ⊛ raw (fact 𝓤 (Cleared (e .reply))) ⊛ raw (fact 𝓤 (Probed (e .reply)))
+          use1 W (raw (fact 𝓤 (Replied (e .reply))) ⊛ raw (fact 𝓤 (e .examined .netlist ≡ flat)) ⊛ raw (fact 𝓤 (e .examined .marks ≡ marked)) ⊛ raw (fact 𝓤 (ws .1 .1 .0 ≡ workAfter xs (length ys) zs)) ⊛ raw (fact 𝓤 (Cleared (e .reply))) ⊛ raw (fact 𝓤 (Probed (e .reply)))
           ⊛ raw (fact 𝓤 (Paired (e .reply))) ⊛ raw (fact 𝓤 (ProbedTwice (e .reply)))) (id⊢ 𝓤 _) $
-          split ! $ heard ! (Replied (e .reply)) (λ replied. split ! $ heard ! (e .examined .netlist ≡ flat) (λ is-flat. split ! $ heard ! (ws .1 .1 .0 ≡ workAfter xs (length ys) zs) (λ is-ws.
+          split ! $ heard ! (Replied (e .reply)) (λ replied. split ! $ heard ! (e .examined .netlist ≡ flat) (λ is-flat. split ! $ heard ! (e .examined .marks ≡ marked) (λ is-marked. split ! $ heard ! (ws .1 .1 .0 ≡ workAfter xs (length ys) zs) (λ is-ws.
           split ! $ heard ! (Cleared (e .reply)) (λ cleared. split ! $ heard ! (Probed (e .reply)) (λ probed. split ! $ heard ! (Paired (e .reply)) (λ paired. heard ! (ProbedTwice (e .reply)) (λ twice.
           fsplit ! $ drop ! $ fsplit ! $ drop ! $ fsplit ! $ fsplit ! $ move ! (1 ∷ []) $ feqL ! (λ l.
           -- [the work's last list; …; what e owns; the tokens; the nodes' token; what the limit owns; what nodes owns; what bytes owns; the locals]
           move ! (2 ∷ []) $ facts ! P.the-row (Is P.the-row) (shows 𝓤 H A P.the-row) e (v ∷ []) (λ is-e. land ! (from ! (stop !)) (init ! 21 refl (LL.lawful P.the-type P′.the-laws 𝓤 H A W .typed e _ is-e .0)) $
           move ! (1 ∷ 4 ∷ []) $ drop ! $ drop ! $ move ! (1 ∷ []) $ use1 W Alive (id⊢ 𝓤 _) $
-          finishes e v (ws .1 .1 .0) is-e (replied, cleared, probed, paired, twice) is-flat is-ws l))))))))))
+          finishes e v (ws .1 .1 .0) is-e (replied, cleared, probed, paired, twice) is-flat is-marked is-ws l)))))))))))
 
     walk : ent 𝓤 (onEntry 𝓤 H A check-pairs.signature (κ₀, (κ₁, (κ₂, tt))) (q₀, (q₁, (q₂, tt))) x at) (WpFn 𝓤 H C Λ code.function (s₀ ∷ s₁ ∷ s₂ ∷ s₃ ∷ []) Post)
     walk =

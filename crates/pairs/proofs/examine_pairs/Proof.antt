@@ -20,29 +20,31 @@ search-unless-requires : tie.Need-search-unless-requires
 search-unless-requires c κs =
     let examined = c .before .before .before .before .before .before .before .examine .ensures in
     let work = c .before .before .before .before .before .before .before .before .before .before .before .args .work in
-    ready _ _ (now work) (of-answered _ _ _ _ (rw (c .before .before .reply2 .given .1) at (examined .0))) (examined .1 .0) (examined .1 .1 .0)
+    ready _ _ (now work) (of-answered _ _ _ _ (rw (c .before .before .reply2 .given .1) at (examined .0))) (examined .1 .0) (examined .1 .1 .1 .0)
 
 same-length : tie.Need-same-length
 same-length c = search needs
 
 returns : tie.Need-returns
 returns c =
-    let examined = c .before .before .before .before .before .before .examine .ensures in
-    promises _ _ _ (Refused (c .before .reply .given .0 .0)) _ _ _ (of-refused _ _ _ _ _ _ (rw (c .before .reply .given .1) at (examined .0))) (examined .1 .0) (examined .1 .1 .0)
+    let call = c .before .before .before .before .before .before .examine in
+    let examined = call .ensures in
+    promises _ _ _ (Refused (c .before .reply .given .0 .0)) (call .result) _ _ (of-refused _ _ _ _ _ _ (rw (c .before .reply .given .1) at (examined .0))) (examined .1 .0) (examined .1 .1 .0) (examined .1 .1 .1 .0)
 
 same-length-2 : tie.Need-same-length-2
 same-length-2 c = search needs
 
 returns-2 : tie.Need-returns-2
 returns-2 c =
-    let examined = c .before .before .before .before .before .before .before .before .examine .ensures in
+    let call = c .before .before .before .before .before .before .before .before .examine in
+    let examined = call .ensures in
     let answers = of-answered _ _ _ _ (rw (c .before .before .before .reply2 .given .1) at (examined .0)) in
     let answer = c .before .before .before .reply2 .given .0 .0 in
     let looked = c .search-unless .result in
     let work = c .before .before .before .before .before .before .before .before .before .before .before .before .args .work in
-    promises _ _ _ (Answered (record { answer = answer; search = looked })) _ _ _
-    (searches _ _ _ answer looked _ answers (examined .1 .1 .0) (c .search-unless .ensures (answers .netlist) (value-is _ _ (now work) answers (examined .1 .0))))
-    (examined .1 .0) (examined .1 .1 .0)
+    promises _ _ _ (Answered (record { answer = answer; search = looked })) (call .result) _ _
+    (searches _ _ _ answer looked _ answers (examined .1 .1 .1 .0) (c .search-unless .ensures (answers .netlist) (value-is _ _ (now work) answers (examined .1 .0))))
+    (examined .1 .0) (examined .1 .1 .0) (examined .1 .1 .1 .0)
 
 pub examine-pairs-spec : {M : Type 1} → statement M
 examine-pairs-spec =
