@@ -23,7 +23,7 @@ abbrev μ-loop : tie.MeasureT-loop
 
 -- the code's record for an entry that is not there
 abbrev none : NodeRecord
-none = record { kind = 0; first = 0; second = 0; set = 0 }
+none = record { node = record { kind = 0; first = 0; second = 0; set = 0 }; settled = 0; glitch = 0 }
 
 -- an entry that is there does not depend on it
 there : (nodes : List NodeRecord) (k n : ℕ) → length nodes ≡ n → k < n → getD nodes k entryBefore ≡ getD nodes k none

@@ -43,7 +43,7 @@ use denote.Triple.Table.{entered, cited}
 use denote.Triple.Walked.{says, needs, Stays, stay-dropped, walkOf, goes-dropped, Walks, ends-at, walked, walk-meets}
 use denote.Exit.{yes}
 use Rattle.rules.specs.declared.NodeRecord.{NodeRecord}
-use Rattle.netlists.specs.Netlists.{blank}
+use Rattle.checker.specs.Work.{unwritten}
 use Rattle.rules.proofs.NodeRecord as T
 use Rattle.rules.proofs.NodeRecord.Laws as T′
 use Rattle.checker.proofs.node_at as node-at
@@ -66,8 +66,8 @@ module _ {M : Type 1} (𝓤 : URA M) (H : Heap 𝓤) (A : Atoms 𝓤) (memory : 
   NodeAt = tripleOf 𝓤 H A node-at.signature (node-at.spec 𝓤 H A memory run)
 
   -- of `node_at`'s `ensured`, the clause alone: it has no `&mut`
-  node-says : (κ : Lft) (ns : RefT (List NodeRecord)) (i : ℕ) (n : NodeRecord) → ent 𝓤 (ensured 𝓤 H A node-at.ended (node-at.clauses 𝓤 H A memory run) (κ, tt) (ns, (i, tt)) tt n) (fact 𝓤 (n ≡ getD (ns .now) i blank))
-  node-says κ ns i n = exE 𝓤 _ (λ ws. snd∗ 𝓤 (sem 𝓤 H A (lasts node-at.ended (κ, tt) (ns, (i, tt)) ws)) (fact 𝓤 (n ≡ getD (ns .now) i blank)))
+  node-says : (κ : Lft) (ns : RefT (List NodeRecord)) (i : ℕ) (n : NodeRecord) → ent 𝓤 (ensured 𝓤 H A node-at.ended (node-at.clauses 𝓤 H A memory run) (κ, tt) (ns, (i, tt)) tt n) (fact 𝓤 (n ≡ getD (ns .now) i unwritten))
+  node-says κ ns i n = exE 𝓤 _ (λ ws. snd∗ 𝓤 (sem 𝓤 H A (lasts node-at.ended (κ, tt) (ns, (i, tt)) ws)) (fact 𝓤 (n ≡ getD (ns .now) i unwritten)))
 
 module _ {M : Type 1} (𝓤 : URA M) (H : Heap 𝓤) (A : Atoms 𝓤) (W : Given 𝓤 H A) (memory : Memory → SProp 𝓤) (run : Routine → Fun 𝓤)
     (ns : List NodeRecord) (i : ℕ) (v : Val) (is-ns : Is (array 200) ns (v ∷ [])) (fits : i < 2 ^ 64) (less : i < 200) where
@@ -84,7 +84,7 @@ module _ {M : Type 1} (𝓤 : URA M) (H : Heap 𝓤) (A : Atoms 𝓤) (W : Given
   Post = walkOf 𝓤 H A entry-at.ended stayed (entry-at.clauses 𝓤 H A memory run) .post bound
 
   abbrev Noted : NodeRecord → Type 0
-  Noted n = n ≡ getD ns i blank
+  Noted n = n ≡ getD ns i unwritten
 
   exits : (n : NodeRecord) (w : Val) → Is T.the-row n (w ∷ []) → Noted n → ent 𝓤 (emp 𝓤) (Post w)
   exits n w is noted =
