@@ -114,7 +114,7 @@ checks-at : (c : tie.After-reply2)
     (c .before .before .before .before .examine .result .netlist) (replicate most-work 0) (c .before .before .before .before .examine .last .1 .1 .0)
 checks-at c =
     let promised = c .before .before .before .before .examine .ensures in
-    checked _ _ (length-replicate {A = ℕ} most-work 0) (c .reply2 .given .1) (promised .0) (promised .1 .0) (promised .1 .1 .0)
+    checked _ _ (length-replicate {A = ℕ} most-work 0) (c .reply2 .given .1) (promised .0) (promised .1 .0) (promised .1 .1 .1 .0)
 
 slice-aggregate-examine : tie.Need-slice-aggregate-examine
 slice-aggregate-examine c = search needs
