@@ -7,14 +7,14 @@ use mathlib.Core.List.{List, [], _∷_, _++_, map}
 use mathlib.Core.Option.{Option, none, some}
 use native.Mathlib.Numerals.{add-one}
 use native.Mathlib.Omega.{arith}
-use lib.ListN.{length, getD, take, drop, set, replicate, length-append, length-map, length-take, length-replicate, List·getD-map, List·getD-eq-default}
+use lib.ListN.{length, getD, take, drop, set, replicate, length-append, length-map, length-take, length-replicate, List·getD-eq-default}
 use lib.Seq.{length-take-le, take-at, take-suc, getD-take, getD-drop, ext-getD}
 use Rattle.rules.specs.Records.{Netlist, WellFormed, most-nodes}
 use Rattle.rules.specs.Families.{Family, Families, families, Finding, clear, suspectAt, layerMarks, lowest, half}
 use Rattle.rules.specs.Slices.{markNumber, markOf, workBytes}
 use Rattle.rules.proofs.Tests.{lt-or-le}
-use Rattle.rules.proofs.Halves.{layer-mark, NoneBefore, Lowest, lowest-says}
-use Rattle.rules.proofs.Marks.{mark-told, layer-marks-length}
+use Rattle.rules.proofs.Halves.{NoneBefore, Lowest, lowest-says}
+use Rattle.rules.proofs.Marks.{mark-written, layer-marks-length, marks-told}
 use Rattle.netlists.specs.Netlists.{padded}
 use Rattle.netlists.proofs.Netlists.{padded-same, made-set}
 use Rattle.suspects.specs.Suspects.{reportsIn, foundFrom}
@@ -22,15 +22,6 @@ use Rattle.suspects.proofs.Search.{reports-are}
 use Rattle.marks.specs.Marks.{flatMarks, marksIn, marksOf}
 
 -- ---- one layer
-
--- marks written and read, at any number
-mark-written : (reports : List (Option ℕ)) (i : ℕ) → getD (map markNumber reports) i 0 ≡ markNumber (getD reports i none)
-unfolding markNumber
-mark-written reports i = List·getD-map markNumber reports i none
-
-pub mark-read : (marks : List ℕ) (i : ℕ) → getD (map markOf marks) i none ≡ markOf (getD marks i 0)
-unfolding markOf
-mark-read marks i = List·getD-map markOf marks i 0
 
 -- what is not 0 is read as a set
 pub mark-some : (A : ℕ) → A ≢ 0 → markOf A ≡ some A
@@ -144,16 +135,7 @@ unfolding flatMarks padded
 layer-said layer n =
     ap (map markOf)
     (take-at (map markNumber (layerMarks layer n)) _ (length (n .nodes)) (length-map (layerMarks layer n) markNumber ∙ layer-marks-length layer n))
-    ∙ ext-getD none (map markOf (map markNumber (layerMarks layer n))) (layerMarks layer n) many (λ i h. told i)
-  where
-    many : length (map markOf (map markNumber (layerMarks layer n))) ≡ length (layerMarks layer n)
-    many = length-map (map markNumber (layerMarks layer n)) markOf ∙ length-map (layerMarks layer n) markNumber
-
-    told : (i : ℕ) → getD (map markOf (map markNumber (layerMarks layer n))) i none ≡ getD (layerMarks layer n) i none
-    told i =
-        mark-read (map markNumber (layerMarks layer n)) i
-        ∙ ap markOf (mark-written (layerMarks layer n) i)
-        ∙ rw (layer-mark layer n i) (mark-told _ _ _)
+    ∙ marks-told layer n
 
 -- each half is read from the marks
 pub halves : (n : Netlist)

@@ -4,15 +4,16 @@ use Prim.Native.Nat.{ℕ, _-_}
 use mathlib.Core.Path.{_≡_, refl}
 use mathlib.Core.Bool.{true, false, xor}
 use mathlib.Core.List.{List, [], _∷_}
+use native.Mathlib.Omega.{arith}
 use lib.ListN.{replicate}
 use Rattle.rules.specs.declared.Node.{Node}
 use Rattle.rules.specs.declared.NodeRecord.{NodeRecord}
 use Rattle.rules.specs.Lists.{tabulate}
 use Rattle.rules.specs.Records.{most-nodes, bits}
 use Rattle.rules.specs.Values.{exclusiveOr, valueRule, values, feedingRule, feedings, feeding}
-use Rattle.rules.specs.Families.{familiesAt}
+use Rattle.rules.specs.Families.{familiesAt, Finding, suspectAt, Findings}
 use Rattle.rules.specs.Checks.{answered, refused, nodeCheck, numberCheck, queried, queriedWith}
-use Rattle.rules.specs.Slices.{entry, markNumber, nodeRecord, nodeRecords, filled, nodesAfter}
+use Rattle.rules.specs.Slices.{entry, markNumber, markOf, nodeRecord, nodeRecords, filled, nodesAfter, lowestMarked, FromMarks}
 use Rattle.rules.specs.Listing.{word, digits, decimal, line, kindName, nodeLines, halfLine, netlistText, textOf, listing}
 use Rattle.rules.specs.Queries.{Given, given, valueQuery, feedingQuery, membershipQuery}
 use Rattle.rules.specs.Blocks.{P3, P9, P10}
@@ -67,6 +68,27 @@ pub marked-records : nodesAfter marked (replicate 8 stays) 2048
     ≡ node 2 0 0 1 0 0 ∷ node 2 0 0 3 0 0 ∷ node 4 0 1 0 0 1 ∷ node 3 0 0 0 1 1 ∷ node 7 3 0 0 1 1 ∷ node 4 2 1 0 1 1 ∷ node 4 1 1 0 0 0 ∷ node 7 2 0 0 0 0 ∷ []
 unfolding replyTo entry markNumber nodeRecord nodeRecords tabulate filled nodesAfter
 marked-records = refl
+
+-- The settled half is node 3 and the glitch half node 2, each the lowest marked one of its layer with its mark; `FromMarks` is false of the halves
+-- exchanged, of the highest marked node, and of the bare input.
+abbrev halves : (settled glitch : Finding) → Findings
+halves s g = record { variables = 2; nodes = 8; settled = s; glitch = g }
+
+abbrev after : List NodeRecord
+after = nodesAfter marked (replicate 8 stays) 2048
+
+pub marked-answer : (replyTo marked ≡ answered (halves (suspectAt 3 1) (suspectAt 2 1))) × FromMarks (halves (suspectAt 3 1) (suspectAt 2 1)) after
+unfolding replyTo entry markNumber markOf nodeRecord nodeRecords tabulate filled nodesAfter lowestMarked
+marked-answer = (refl, record { settled = refl; glitch = refl })
+
+pub marked-otherwise : (FromMarks (halves (suspectAt 2 1) (suspectAt 3 1)) after → ⊥) × (FromMarks (halves (suspectAt 5 1) (suspectAt 2 1)) after → ⊥)
+    × (FromMarks (halves (suspectAt 0 1) (suspectAt 0 1)) after → ⊥)
+unfolding replyTo entry markNumber markOf nodeRecord nodeRecords tabulate filled nodesAfter lowestMarked
+marked-otherwise = (
+  λ m. let no : _≡_ {A = ℕ} 2 3 = cc (m .settled) in absurd (omega arith),
+  λ m. let no : _≡_ {A = ℕ} 5 3 = cc (m .settled) in absurd (omega arith),
+  λ m. let no : _≡_ {A = ℕ} 0 3 = cc (m .settled) in absurd (omega arith),
+)
 
 -- ---- queries
 

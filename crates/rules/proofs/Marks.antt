@@ -1,6 +1,6 @@
 -- The marks of node records (change request A6): no node reports the empty set, so that a mark of 0 says none and nothing else does; the marks of
 -- a layer are what its nodes report; and each half of the answer is the lowest marked node of its layer with its mark. Assumes nothing.
-use Prim.Native.Nat.{ℕ, zero, suc, _<_}
+use Prim.Native.Nat.{ℕ, zero, suc}
 use mathlib.Core.Path.{_≡_, refl, sym, ap, _∙_}
 use mathlib.Core.Bool.{Bool, true, false, cond}
 use mathlib.Core.List.{List, [], _∷_, _++_, map}
@@ -12,9 +12,9 @@ use Rattle.rules.specs.declared.NodeRecord.{NodeRecord}
 use Rattle.rules.specs.Records.{Class, secret, Cell, input, Netlist}
 use Rattle.rules.specs.Families.{Family, Families, families, familiesAt, holds, suspect, tested, reported, mark, marks, layerMarks, lowest, half, findings}
 use Rattle.rules.specs.Checks.{answered, admitted}
-use Rattle.rules.specs.Slices.{markNumber, markOf, nodeRecord, nodeRecords, filled, nodesAfter, lowestMarked, FromMarks}
+use Rattle.rules.specs.Slices.{entry, markNumber, markOf, nodeRecord, nodeRecords, filled, nodesAfter, lowestMarked, FromMarks}
 use Rattle.rules.proofs.Halves.{reported-exactly, layer-mark}
-use Rattle.rules.proofs.Packing.{tabulate-at}
+use Rattle.rules.proofs.Packing.{tabulate-made}
 use Rattle.rules.proofs.Exit.{families-length, records-length}
 
 -- ---- none is told from every set
@@ -28,6 +28,15 @@ holds-nothing class (c ∷ variables) = holds-nothing class variables
 pub empty-not-suspect : (variables : List Class) → suspect variables 0 ≡ false
 unfolding suspect
 empty-not-suspect variables = rw (holds-nothing secret variables)
+
+-- marks written and read, at any number
+pub mark-written : (reports : List (Option ℕ)) (i : ℕ) → getD (map markNumber reports) i 0 ≡ markNumber (getD reports i none)
+unfolding markNumber
+mark-written reports i = List·getD-map markNumber reports i none
+
+pub mark-read : (marks : List ℕ) (i : ℕ) → getD (map markOf marks) i none ≡ markOf (getD marks i 0)
+unfolding markOf
+mark-read marks i = List·getD-map markOf marks i 0
 
 -- so that what a family reports is told by its number, none among it
 reported-told : (variables : List Class) (F : Family) (o : Option ℕ) → reported variables F ≡ o → markOf (markNumber o) ≡ o
@@ -58,46 +67,28 @@ unfolding layerMarks
 layer-marks-length layer n =
     marks-length (n .variables) (n .nodes) (map layer (families n)) (omega (arith, length-map (families n) layer, families-length n))
 
--- a record with no mark
-unmarked : NodeRecord
-unmarked = nodeRecord (input 0) none none
-
-record-at : (n : Netlist) (i : ℕ) → i < length (n .nodes)
-    → getD (nodeRecords n) i unmarked
-    ≡ nodeRecord (getD (n .nodes) i (input 0)) (getD (layerMarks (λ F. F .settled) n) i none) (getD (layerMarks (λ F. F .glitch) n) i none)
-unfolding nodeRecords
-record-at n i h = tabulate-at _ (length (n .nodes)) i unmarked h
-
--- where the marks in the node records are the numbers of what the nodes report in a layer, they say what the nodes report
-said-by-marks : (layer : Families → Family) (pick : NodeRecord → ℕ) (n : Netlist) → pick unmarked ≡ 0
-    → ((i : ℕ) → i < length (n .nodes) → pick (getD (nodeRecords n) i unmarked) ≡ markNumber (getD (layerMarks layer n) i none))
-    → map (λ r. markOf (pick r)) (nodeRecords n) ≡ layerMarks layer n
-said-by-marks layer pick n nothing picked =
-    ext-getD none said (layerMarks layer n) (many ∙ sym (layer-marks-length layer n))
-    (λ i h.
-    ap (getD said i) (sym no-mark)
-    ∙ List·getD-map (λ r. markOf (pick r)) (nodeRecords n) i unmarked
-    ∙ ap markOf (picked i (omega (arith, many)))
+-- their numbers tell them
+pub marks-told : (layer : Families → Family) (n : Netlist) → map markOf (map markNumber (layerMarks layer n)) ≡ layerMarks layer n
+marks-told layer n =
+    ext-getD none (map markOf (map markNumber (layerMarks layer n))) (layerMarks layer n)
+    (length-map (map markNumber (layerMarks layer n)) markOf ∙ length-map (layerMarks layer n) markNumber) (λ i h.
+    mark-read (map markNumber (layerMarks layer n)) i
+    ∙ ap markOf (mark-written (layerMarks layer n) i)
     ∙ rw (layer-mark layer n i) (mark-told (n .variables) (getD (n .nodes) i (input 0)) (layer (familiesAt n i))))
-  where
-    said : List (Option ℕ)
-    said = map (λ r. markOf (pick r)) (nodeRecords n)
 
-    many : length said ≡ length (n .nodes)
-    many = length-map (nodeRecords n) (λ r. markOf (pick r)) ∙ records-length n
+-- ---- the node records, field by field
 
-    no-mark : markOf (pick unmarked) ≡ none
-    no-mark = ap markOf nothing ∙ (unfold markOf in refl)
+pub record-nodes : (n : Netlist) → map (λ r. r .node) (nodeRecords n) ≡ map entry (n .nodes)
+unfolding nodeRecords nodeRecord
+record-nodes n = tabulate-made (λ r. r .node) _ entry (n .nodes) (input 0) refl (λ i. refl)
 
-settled-said : (n : Netlist) → map (λ r. markOf (r .settled)) (nodeRecords n) ≡ layerMarks (λ F. F .settled) n
-unfolding unmarked nodeRecord markNumber
-settled-said n =
-    said-by-marks (λ F. F .settled) (λ r. r .settled) n refl (λ i h. ap (λ (r : NodeRecord). r .settled) (record-at n i h))
+pub record-settled : (n : Netlist) → map (λ r. r .settled) (nodeRecords n) ≡ map markNumber (layerMarks (λ F. F .settled) n)
+unfolding nodeRecords nodeRecord
+record-settled n = tabulate-made (λ r. r .settled) _ markNumber (layerMarks (λ F. F .settled) n) none (layer-marks-length (λ F. F .settled) n) (λ i. refl)
 
-glitch-said : (n : Netlist) → map (λ r. markOf (r .glitch)) (nodeRecords n) ≡ layerMarks (λ F. F .glitch) n
-unfolding unmarked nodeRecord markNumber
-glitch-said n =
-    said-by-marks (λ F. F .glitch) (λ r. r .glitch) n refl (λ i h. ap (λ (r : NodeRecord). r .glitch) (record-at n i h))
+pub record-glitch : (n : Netlist) → map (λ r. r .glitch) (nodeRecords n) ≡ map markNumber (layerMarks (λ F. F .glitch) n)
+unfolding nodeRecords nodeRecord
+record-glitch n = tabulate-made (λ r. r .glitch) _ markNumber (layerMarks (λ F. F .glitch) n) none (layer-marks-length (λ F. F .glitch) n) (λ i. refl)
 
 -- ---- each half is the lowest marked node of its layer with its mark
 
@@ -105,8 +96,8 @@ glitch-said n =
 pub from-marks : (n : Netlist) (nodes : List NodeRecord) → take (length (n .nodes)) nodes ≡ nodeRecords n → FromMarks (findings n) nodes
 unfolding findings half lowestMarked
 from-marks n nodes e = record {
-  settled = ap (lowest 0) (sym (ap (map (λ r. markOf (r .settled))) e ∙ settled-said n));
-  glitch = ap (lowest 0) (sym (ap (map (λ r. markOf (r .glitch))) e ∙ glitch-said n));
+  settled = ap (lowest 0) (sym (rw e (ap (map markOf) (record-settled n) ∙ marks-told (λ F. F .settled) n)));
+  glitch = ap (lowest 0) (sym (rw e (ap (map markOf) (record-glitch n) ∙ marks-told (λ F. F .glitch) n)));
 }
 
 -- as the slice of a check does that refuses nothing

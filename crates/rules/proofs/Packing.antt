@@ -3,12 +3,12 @@
 use Prim.Native.Nat.{ℕ, zero, suc, _+_, _*_, _/_, _%_, _^_, _<_}
 use mathlib.Core.Path.{_≡_, refl, sym, ap, ap₂, _∙_}
 use mathlib.Core.Logic.{_⊎_, inl, inr}
-use mathlib.Core.List.{List, [], _∷_, _++_}
+use mathlib.Core.List.{List, [], _∷_, _++_, map, map-append}
 use native.Mathlib.Nat.{add-zero, zero-add, add-suc, suc-add, add-assoc, div-one, div-add-mod, eq-or-lt-of-le, le-of-suc-le-suc}
 use native.Mathlib.Numerals.{add-one}
 use native.Mathlib.Omega.{arith}
 use lib.ListN.{length, getD, replicate, length-append, replicate-append-replicate, List·getD-append}
-use lib.Seq.{getD-append-add, getD-at}
+use lib.Seq.{getD-append-add, getD-at, ext-getD}
 use Rattle.rules.specs.Lists.{member, tabulate}
 use Rattle.rules.specs.Records.{odd, most-sets}
 use Rattle.rules.specs.Families.{Family, Families, constant}
@@ -39,10 +39,29 @@ module _ {ℓ} {A : Type ℓ} where
   tabulate-same f g (suc n) h =
       ap₂ {C = List A} (λ l x. l ++ (x ∷ [])) (tabulate-same f g n (λ i l. h i (omega arith))) (h n (omega arith))
 
+  -- a list by its entries
+  tabulate-entries : (xs : List A) (d : A) → tabulate (λ i. getD xs i d) (length xs) ≡ xs
+  tabulate-entries xs d =
+      ext-getD d (tabulate (λ i. getD xs i d) (length xs)) xs (tabulate-length (λ i. getD xs i d) (length xs)) (λ i h.
+      tabulate-at (λ i. getD xs i d) (length xs) i d (omega (arith, tabulate-length (λ i. getD xs i d) (length xs))))
+
   pub tabulate-constant : (a : A) (n : ℕ) → tabulate (λ i. a) n ≡ replicate n a
   unfolding tabulate
   tabulate-constant a zero = refl
   tabulate-constant a (suc n) = rw (tabulate-constant a n) (replicate-append-replicate n 1 a ∙ ap (λ k. replicate k a) (add-one n))
+
+tabulate-map {ℓ κ} : {A : Type ℓ} {B : Type κ} (f : A → B) (g : ℕ → A) (n : ℕ) → map f (tabulate g n) ≡ tabulate (λ i. f (g i)) n
+unfolding tabulate
+tabulate-map f g zero = refl
+tabulate-map f g (suc n) = map-append f (tabulate g n) (g n ∷ []) ∙ ap (λ zs. zs ++ (f (g n) ∷ [])) (tabulate-map f g n)
+
+-- what is made of each entry
+pub tabulate-made {ℓ κ μ} : {A : Type ℓ} {B : Type κ} {C : Type μ} (f : A → C) (g : ℕ → A) (h : B → C) (xs : List B) (d : B) {n : ℕ} → length xs ≡ n
+    → ((i : ℕ) → f (g i) ≡ h (getD xs i d)) → map f (tabulate g n) ≡ map h xs
+tabulate-made f g h xs d e each =
+    tabulate-map f g _
+    ∙ tabulate-same _ _ _ (λ i l. each i)
+    ∙ rw (← e) (sym (tabulate-map h (λ i. getD xs i d) (length xs)) ∙ ap (map h) (tabulate-entries xs d))
 
 tabulate-each {ℓ} : {A : Type ℓ} (P : A → Type 0) (f : ℕ → A) (n : ℕ) → ((i : ℕ) → P (f i)) → Each P (tabulate f n)
 unfolding tabulate

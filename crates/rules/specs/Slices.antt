@@ -80,7 +80,7 @@ reply bytes entries work = andThen (admitted bytes entries work) (λ n. answered
 
 -- what a layer's marks in so many node records say: the lowest marked node with its mark, or clear where there is none
 unfoldable pub lowestMarked : (NodeRecord → ℕ) → (count : ℕ) → List NodeRecord → Finding
-lowestMarked layer count nodes = lowest 0 (map (λ r. markOf (layer r)) (take count nodes))
+lowestMarked layer count nodes = lowest 0 (map markOf (map layer (take count nodes)))
 
 -- each half of an answer is the lowest marked node of its layer with its mark, in the node records of so many nodes
 pub record FromMarks (answer : Findings) (nodes : List NodeRecord) : Type 0 where

@@ -14,8 +14,9 @@ use lib.Seq.{getD-take}
 use Rattle.rules.specs.Families.{suspectAt}
 use Rattle.rules.specs.Slices.{markOf}
 use Rattle.rules.proofs.Tests.{lt-or-le}
+use Rattle.rules.proofs.Marks.{mark-read}
 use Rattle.suspects.proofs.Search.{lowest-clear, lowest-suspect}
-use Rattle.marks.proofs.Layers.{mark-read, mark-some}
+use Rattle.marks.proofs.Layers.{mark-some}
 use Rattle.marks.proofs.lowest_marked.Statement.{statement}
 use Rattle.marks.proofs.lowest_marked.Tie as tie
 
