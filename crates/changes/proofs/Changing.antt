@@ -13,8 +13,9 @@ use Rattle.rules.specs.Paper.{numberOf, placeOf, replyOf}
 use Rattle.netlists.specs.declared.Netlist as Value
 use Rattle.netlists.specs.Netlists.{flatOf}
 use Rattle.netlists.proofs.Netlists.{value-count}
+use Rattle.marks.specs.declared.Marks.{Marks}
 use Rattle.checker.specs.declared.Examined.{Examined}
-use Rattle.checker.specs.Work.{Looks}
+use Rattle.checker.specs.Work.{NothingKept, Looks}
 use Rattle.checker.proofs.Core.{refusal}
 use Rattle.open_blocks.specs.declared.State.{State}
 use Rattle.open_blocks.specs.Edits.{Edit, add, remove, fits, edited}
@@ -36,14 +37,14 @@ unfolding stateOf
 state-variables n s = ap (λ (t : State). t .variables) s
 
 -- a refusal keeps nothing and changes nothing
-pub contained-refused : (entries : ℕ) (examined : Examined) (before : List ℕ) → examined .netlist ≡ flatOf empty → Contained entries examined before before
-contained-refused entries examined before e =
+pub contained-refused : (entries : ℕ) (examined : Examined) (before : List ℕ) → NothingKept examined → Contained entries examined before before
+contained-refused entries examined before (e, m) =
     record { few-entries = omega (arith, value-count empty e); few-nodes = omega (arith, value-count empty e); unchanged = λ k p r. (e, refl) }
 
 -- and an answer is no refusal
-pub contained-looks : (entries : ℕ) (value : Value.Netlist) (examined : Examined) (before after : List ℕ) → value .count ≤ entries → value .count ≤ most-nodes
-    → Looks value after examined → Contained entries examined before after
-contained-looks entries value examined before after few small l =
+pub contained-looks : (entries : ℕ) (value : Value.Netlist) (marks : Marks) (examined : Examined) (before after : List ℕ)
+    → value .count ≤ entries → value .count ≤ most-nodes → Looks value marks examined → Contained entries examined before after
+contained-looks entries value marks examined before after few small l =
     record { few-entries = rw (l .netlist) few; few-nodes = rw (l .netlist) small; unchanged = λ k p r. absurd (l .stands k p r) }
 
 edited-refused : (n : Netlist) (e : Edit) (entries work k p : ℕ) → fits n e entries work ≡ refused k p → edited n e entries work ≡ refused k p
@@ -52,16 +53,16 @@ edited-refused n (add bytes) entries work k p f = f
 edited-refused n (remove i) entries work k p f = rw f
 
 -- a refusal that goes by the state and the lengths alone
-pub refused-early : (block : Value.Netlist) (e : Edit) (entries : ℕ) (r : Refusal) (examined : Examined) (before : List ℕ)
+pub refused-early : (block : Value.Netlist) (marks : Marks) (e : Edit) (entries : ℕ) (r : Refusal) (examined : Examined) (before : List ℕ)
     → ((n : Netlist) → WellFormed n → stateIn block ≡ stateOf n → fits n e entries (length before) ≡ refused (numberOf r) (placeOf r))
-    → examined .reply ≡ Refused r → examined .netlist ≡ flatOf empty → Changes block e entries examined before before
-refused-early block e entries r examined before says reply none = record {
+    → examined .reply ≡ Refused r → NothingKept examined → Changes block marks e entries examined before before
+refused-early block marks e entries r examined before says reply none = record {
   contained = contained-refused entries examined before none;
   early = λ n formed s k p f.
       let number : numberOf r ≡ k = cc (says n formed s) in
       let place : placeOf r ≡ p = cc (says n formed s) in
       ap replyOf reply ∙ rw (number, place);
-  made = λ n formed is holds.
+  made = λ n formed is known holds.
       rw (edited-refused n e entries (length before) _ _ (says n formed (value-state n is)))
       (refusal r (numberOf r) (placeOf r) examined before refl refl reply none);
 }

@@ -1,60 +1,68 @@
 -- What the functions that give a node up share: what is examined where another node still names the node and where it is given up, and what a removal
 -- comes to before that. Assumes nothing.
-use Prim.Native.Nat.{ℕ, _+_, _*_, _-_, _≤_, _<_}
-use mathlib.Core.Path.{_≡_, refl, ap, _∙_}
+use Prim.Native.Nat.{ℕ, _+_, _*_, _≤_, _<_}
+use mathlib.Core.Path.{_≡_, refl, sym, ap, ap₂, _∙_}
 use mathlib.Core.List.{List}
+use mathlib.Core.Option.{Option}
 use native.Mathlib.Omega.{arith}
 use lib.ListN.{length}
 use borrow.Author.Tests.{lt-ltb, le-ltb, le-leb, lt-leb}
 use Rattle.rules.specs.declared.Refusal.the-variants.{StillNamed}
 use Rattle.rules.specs.declared.Reply.the-variants.{Refused}
-use Rattle.rules.specs.Records.{Netlist, empty, WellFormed, most-nodes}
-use Rattle.rules.specs.Slices.{filled}
+use Rattle.rules.specs.Records.{Netlist, WellFormed, most-nodes}
 use Rattle.rules.specs.Checks.{answered, refused, andThen, judged, slicesFit, nodeCheck}
+use Rattle.rules.proofs.Marks.{layer-marks-length}
 use Rattle.netlists.specs.declared.Netlist as Value
-use Rattle.netlists.specs.Netlists.{flatOf, kept}
+use Rattle.netlists.specs.Netlists.{flatOf}
 use Rattle.netlists.proofs.Netlists.{value-count}
+use Rattle.marks.specs.declared.Marks.{Marks}
+use Rattle.marks.specs.Marks.{marksIn, marksOf}
 use Rattle.checker.specs.declared.Examined.{Examined}
-use Rattle.checker.specs.Work.{Examines, Looks}
-use Rattle.checker.proofs.Core.{refusal}
-use Rattle.open_blocks.specs.Edits.{remove, withoutNode, naming, givenUp, fits, edited}
+use Rattle.checker.specs.Work.{NothingKept, Examines, Looks}
+use Rattle.checker.proofs.Core.{refusal, answers}
+use Rattle.open_blocks.specs.Edits.{remove, without, withoutNode, naming, givenUp, fits, edited}
 use Rattle.open_blocks.specs.Work.{movedDown, HoldsFamilies}
 use Rattle.open_blocks.proofs.Removing.{moved-families}
 use Rattle.changes.specs.Changes.{GivesUp, Changes}
 use Rattle.changes.proofs.Changing.{state-count, contained-refused, contained-looks}
-use Rattle.open_blocks.proofs.Removal.{Unnamed, removed-well-formed}
+use Rattle.open_blocks.proofs.Removal.{Unnamed, marks-removed}
 
 -- a node is given up, where `by` is the lowest node that names it
-module _ (block : Value.Netlist) (gone by : ℕ) (lowest : (n : Netlist) → block ≡ flatOf n → by ≡ naming gone (n .nodes)) where
+module _ (block : Value.Netlist) (marks : Marks) (gone by : ℕ) (lowest : (n : Netlist) → block ≡ flatOf n → by ≡ naming gone (n .nodes)) where
   pub still-named : (examined : Examined) (before : List ℕ) → by < block .count → examined .reply ≡ Refused (StillNamed by)
-      → examined .netlist ≡ flatOf empty → GivesUp block gone examined before before
+      → NothingKept examined → GivesUp block marks gone examined before before
   unfolding givenUp judged
-  still-named examined before named r e = record {
-    contained = contained-refused (block .count) examined before e;
-    made = λ n formed is holds. rw (← (lowest n is), ← (value-count n is), lt-ltb by (block .count) named) (refusal (StillNamed by) 14 by examined before refl refl r e);
+  still-named examined before named r none = record {
+    contained = contained-refused (block .count) examined before none;
+    made = λ n formed is known holds.
+        rw (← (lowest n is), ← (value-count n is), lt-ltb by (block .count) named) (refusal (StillNamed by) 14 by examined before refl refl r none);
   }
 
-  pub gave-up : (value : Value.Netlist) (examined : Examined) (before after : List ℕ) → block .count ≤ by → gone < block .count
+  pub gave-up : (value : Value.Netlist) (fewer : Marks) (examined : Examined) (before after : List ℕ) → block .count ≤ by → gone < block .count
       → block .count ≤ most-nodes → 256 * block .count ≤ length before
       → value .count + 1 ≡ block .count → ((n : Netlist) → WellFormed n → block ≡ flatOf n → value ≡ flatOf (withoutNode n gone))
-      → after ≡ movedDown gone (block .count) before → Looks value after examined → GivesUp block gone examined before after
-  unfolding givenUp judged andThen kept filled
-  gave-up value examined before after unnamed there small room fewer is-without moved l = record {
-    contained = contained-looks (block .count) value examined before after (omega arith) (omega arith) l;
-    made = λ n formed is holds. rw (← (lowest n is), ← (value-count n is), le-ltb by (block .count) unnamed) (made n formed is holds);
+      → ((settled glitch : List (Option ℕ)) → length settled ≡ block .count → length glitch ≡ block .count → marks ≡ marksIn settled glitch
+      → fewer ≡ marksIn (without gone settled) (without gone glitch))
+      → after ≡ movedDown gone (block .count) before → Looks value fewer examined → GivesUp block marks gone examined before after
+  unfolding givenUp judged
+  gave-up value fewer examined before after unnamed there small room one-less is-without are-without moved l = record {
+    contained = contained-looks (block .count) value fewer examined before after (omega arith) (omega arith) l;
+    made = λ n formed is known holds. rw (← (lowest n is), ← (value-count n is), le-ltb by (block .count) unnamed) (made n formed is known holds);
   }
     where
-      made : (n : Netlist) → WellFormed n → block ≡ flatOf n → HoldsFamilies n before → Examines (answered (withoutNode n gone)) examined before after
-      made n formed is holds =
+      -- so are the marks, where no node names it
+      own : (n : Netlist) → block ≡ flatOf n → marks ≡ marksOf n → Unnamed gone (n .nodes) → fewer ≡ marksOf (withoutNode n gone)
+      own n is known none = unfold marksOf in
+          (are-without _ _ (layer-marks-length _ n ∙ sym (value-count n is)) (layer-marks-length _ n ∙ sym (value-count n is)) known
+          ∙ ap₂ marksIn (sym (marks-removed (λ F. F .settled) n gone none)) (sym (marks-removed (λ F. F .glitch) n gone none)))
+
+      made : (n : Netlist) → WellFormed n → block ≡ flatOf n → marks ≡ marksOf n → HoldsFamilies n before
+          → Examines (answered (withoutNode n gone)) examined before after
+      made n formed is known holds =
           let none : Unnamed gone (n .nodes) = omega (arith, lowest n is, value-count n is) in
           let same = value-count n is in
           let work = moved ∙ ap (λ (k : ℕ). movedDown gone k before) same ∙ moved-families n gone none (omega arith) before (omega arith) holds in
-          let flat = is-without n formed is in
-          record {
-            reply = l .finds (withoutNode n gone) (removed-well-formed n gone formed none) flat _ work;
-            netlist = l .netlist ∙ flat;
-            work = work;
-          }
+          answers value (withoutNode n gone) (is-without n formed is) fewer (own n is known none) examined before work l
 
 -- ---- an edit
 
@@ -77,18 +85,19 @@ module _ (count gone entries work : ℕ) (n : Netlist) (same : count ≡ length 
   fits-removal there h l = rw (← same, lt-leb _ _ there, ← same, le-ltb _ _ h, le-ltb _ _ l)
 
 -- both slices hold the nodes, and the node is given up or still named
-pub removes : (block : Value.Netlist) (gone entries : ℕ) (examined : Examined) (before after : List ℕ) → gone < block .count → block .count ≤ entries
-    → 256 * block .count ≤ length before → GivesUp block gone examined before after → Changes block (remove gone) entries examined before after
+pub removes : (block : Value.Netlist) (marks : Marks) (gone entries : ℕ) (examined : Examined) (before after : List ℕ) → gone < block .count
+    → block .count ≤ entries → 256 * block .count ≤ length before → GivesUp block marks gone examined before after
+    → Changes block marks (remove gone) entries examined before after
 unfolding edited andThen
-removes block gone entries examined before after there few room given = record {
+removes block marks gone entries examined before after there few room given = record {
   contained = record {
     few-entries = omega (arith, given .contained .few-entries);
     few-nodes = given .contained .few-nodes;
     unchanged = given .contained .unchanged;
   };
-  early = λ n formed s k p f. let z : _≡_ {A = ℕ} 0 1 = cc (answers n (state-count n s)) in absurd (omega arith);
-  made = λ n formed is holds. rw (answers n (value-count n is)) (given .made n formed is holds);
+  early = λ n formed s k p f. let z : _≡_ {A = ℕ} 0 1 = cc (fit n (state-count n s)) in absurd (omega arith);
+  made = λ n formed is known holds. rw (fit n (value-count n is)) (given .made n formed is known holds);
 }
   where
-    answers : (n : Netlist) → block .count ≡ length (n .nodes) → fits n (remove gone) entries (length before) ≡ answered n
-    answers n same = fits-removal (block .count) gone entries (length before) n same there few room
+    fit : (n : Netlist) → block .count ≡ length (n .nodes) → fits n (remove gone) entries (length before) ≡ answered n
+    fit n same = fits-removal (block .count) gone entries (length before) n same there few room

@@ -2,7 +2,7 @@
 -- and checked afresh in the same slices with the same reply and the same contents. Assumes nothing.
 use Prim.Native.Nat.{ℕ, _≤_}
 use mathlib.Core.Path.{_≡_, refl, sym, subst, _∙_}
-use mathlib.Core.List.{List, [], _∷_, map}
+use mathlib.Core.List.{List, [], _∷_}
 use native.Mathlib.Omega.{arith}
 use borrow.Author.Tests.{ltb-false}
 use lib.ListN.{length}
@@ -10,7 +10,7 @@ use Rattle.rules.specs.declared.NodeRecord.{NodeRecord}
 use Rattle.rules.specs.Records.{Netlist, WellFormed, withNode, writtenOut}
 use Rattle.rules.specs.Families.{families, findings}
 use Rattle.rules.specs.Checks.{Outcome, answered, refused, andThen, judged, slicesFit, admitted, nodeCheck}
-use Rattle.rules.specs.Slices.{entry, workBytes, filled, nodesAfter, workAfter, reply}
+use Rattle.rules.specs.Slices.{nodeRecords, workBytes, filled, nodesAfter, workAfter, reply}
 use Rattle.rules.proofs.Records.{passes, answer}
 use Rattle.rules.proofs.Room.{Room, has-room}
 use Rattle.rules.proofs.Room as Room
@@ -80,7 +80,7 @@ module _ (entries work : ℕ) (m : Netlist) (is : Made entries work m) where
 
 -- both slices then hold its node records and families, and beyond them what stood there
 pub afresh-nodes : (before : List NodeRecord) (work : ℕ) (m : Netlist) → Made (length before) work m
-    → nodesAfter (writtenOut m) before work ≡ filled (λ n. map entry (n .nodes)) (answered m) before
+    → nodesAfter (writtenOut m) before work ≡ filled nodeRecords (answered m) before
 unfolding nodesAfter
 afresh-nodes before work m is = rw (afresh-admitted (length before) work m is)
 

@@ -3,7 +3,7 @@
 use Prim.Native.Nat.{ℕ, _≤_, zero-le}
 use mathlib.Core.Path.{_≡_, refl, sym, ap, subst, _∙_}
 use mathlib.Core.Logic.{_↔_}
-use mathlib.Core.List.{List, map}
+use mathlib.Core.List.{List}
 use native.Mathlib.Omega.{arith}
 use lib.ListN.{length}
 use Rattle.rules.specs.declared.NodeRecord.{NodeRecord}
@@ -12,25 +12,28 @@ use Rattle.rules.specs.declared.Reply.the-variants.{Refused, Answered}
 use Rattle.rules.specs.Records.{Netlist, WellFormed, empty, writtenOut}
 use Rattle.rules.specs.Families.{findings}
 use Rattle.rules.specs.Checks.{Outcome, answered, refused, andThen}
-use Rattle.rules.specs.Slices.{entry, filled}
+use Rattle.rules.specs.Lists.{tabulate}
+use Rattle.rules.specs.Slices.{nodeRecords, filled}
 use Rattle.rules.specs.Demands.{GlitchClear, NoSuspect, OneProbe}
 use Rattle.rules.specs.Paper.{replyOf}
 use Rattle.rules.proofs.Halves.{half-clear}
 use Rattle.rules.proofs.Probe.{one-probe}
 use Rattle.netlists.specs.declared.Netlist as Value
 use Rattle.netlists.specs.Netlists.{flatOf, kept}
+use Rattle.netlists.proofs.Netlists.{value-count}
+use Rattle.marks.specs.Marks.{marksOf}
 use Rattle.checker.specs.declared.Examined.{Examined}
-use Rattle.checker.specs.Work.{Examines, stored}
-use Rattle.checker.proofs.Stored.{stored-none, stored-length, flat-stored}
+use Rattle.checker.specs.Work.{Examines, recordIn, stored}
+use Rattle.checker.proofs.Stored.{stored-none, stored-length, netlist-stored}
 use Rattle.open_blocks.specs.declared.State.{State}
 use Rattle.open_blocks.specs.Edits.{Edit, fits, edited, otherwise, netlistAfter, replyAfter, recordsAfter, bytesAfter, NothingSuspectAfter}
 use Rattle.open_blocks.specs.Meaning.{stateOf, IsOpen}
-use Rattle.open_blocks.specs.Work.{stateIn, loaded}
+use Rattle.open_blocks.specs.Work.{stateIn, loaded, loadedMarks}
 use Rattle.changes.specs.Changes.{Changes}
 use Rattle.changes.proofs.Changing.{value-state}
 use Rattle.edits.specs.declared.Edited.{Edited}
 use Rattle.edits.specs.Edited.{nextState, editedOf, Kept}
-use Rattle.edits.proofs.Loaded.{loaded-state, loaded-flat}
+use Rattle.edits.proofs.Loaded.{loaded-state, loaded-flat, loaded-marks}
 use Rattle.edits.proofs.Kept.{made, afresh-reply}
 
 -- the clauses of the contract, in their order
@@ -50,11 +53,12 @@ pub record Promised (state : State) (e : Edit) (given : Edited) (ys ns : List No
 -- ---- the block as it then is
 
 -- the node records of what is kept, stored
-kept-records : (o : Outcome Netlist) (ys : List NodeRecord) → flatOf (kept o) .count ≤ length ys
-    → stored (flatOf (kept o) .nodes) ys (flatOf (kept o) .count) ≡ filled (λ m. map entry (m .nodes)) o ys
-unfolding kept filled flatOf
-kept-records (answered m) ys enough = flat-stored m ys enough
-kept-records (refused k p) ys enough = flat-stored empty ys zero-le
+kept-records : (o : Outcome Netlist) (examined : Examined) (ys : List NodeRecord) → examined .netlist .count ≤ length ys
+    → examined .netlist ≡ flatOf (kept o) → examined .marks ≡ marksOf (kept o)
+    → stored (recordIn examined) ys (examined .netlist .count) ≡ filled nodeRecords o ys
+unfolding kept filled nodeRecords tabulate
+kept-records (answered m) examined ys enough f g = netlist-stored examined m f g ys (rw (value-count m f) at enough)
+kept-records (refused k p) examined ys enough f g = netlist-stored examined empty f g ys zero-le
 
 -- the state that is given
 kept-state : (n : Netlist) (o : Outcome Netlist) (r : Reply) (state after : State) → replyOf r ≡ andThen o (λ m. answered (findings m))
@@ -95,8 +99,8 @@ refused-state (Answered a) state after k p e = let z : _≡_ {A = ℕ} 0 1 = cc 
 
 -- what an edit promises, from what `load`, `change`, `store` and `edited_of` promise
 pub promises : (state : State) (e : Edit) (ys ns : List NodeRecord) (zs ws : List ℕ) (examined : Examined)
-    → Changes (loaded state ys) e (length ys) examined zs ws
-    → ns ≡ stored (examined .netlist .nodes) ys (examined .netlist .count)
+    → Changes (loaded state ys) (loadedMarks state ys) e (length ys) examined zs ws
+    → ns ≡ stored (recordIn examined) ys (examined .netlist .count)
     → length ws ≡ length zs
     → Promised state e (editedOf state examined) ys ns zs ws
 unfolding replyAfter netlistAfter recordsAfter bytesAfter flatOf
@@ -110,28 +114,27 @@ promises state e ys ns zs ws examined changes is-ns same =
       probe = λ n o c. probe-after n e (length ys) (length zs) (o .obeys) (subst GlitchClear (is-reply n o) c);
       early = λ n formed is k p. changes .early n formed (loaded-state state ys ∙ is) k p;
       kept = record {
-        entries = ap length is-ns ∙ stored-length (examined .netlist .nodes) ys (examined .netlist .count);
+        entries = ap length is-ns ∙ stored-length (recordIn examined) ys (examined .netlist .count);
         bytes = same;
         refused = λ k p says.
             let (empty-handed, unchanged) = changes .contained .unchanged k p says in (
               refused-state (examined .reply) state _ k p says,
-              is-ns ∙ ap (λ (t : Value.Netlist). stored (t .nodes) ys (t .count)) empty-handed ∙ nothing-stored,
+              is-ns ∙ ap (λ (t : Value.Netlist). stored (recordIn examined) ys (t .count)) empty-handed ∙ nothing-stored,
               unchanged,
             );
       };
     }
   where
     examines : (n : Netlist) → IsOpen n state ys zs → Examines (edited n e (length ys) (length zs)) examined zs ws
-    examines n o = changes .made n (o .obeys) (loaded-flat o) (o .holds .families)
+    examines n o = changes .made n (o .obeys) (loaded-flat o) (loaded-marks o) (o .holds .families)
 
     is-reply : (n : Netlist) → IsOpen n state ys zs → replyOf (examined .reply) ≡ replyAfter n e (length ys) (length zs)
     is-reply n o = examines n o .reply
 
     records : (n : Netlist) → IsOpen n state ys zs → ns ≡ recordsAfter n e ys (length zs)
     records n o =
-        let value = examines n o .netlist in
-        is-ns ∙ ap (λ (t : Value.Netlist). stored (t .nodes) ys (t .count)) value
-        ∙ kept-records (edited n e (length ys) (length zs)) ys (subst (λ (t : Value.Netlist). t .count ≤ length ys) value (changes .contained .few-entries))
+        is-ns
+        ∙ kept-records (edited n e (length ys) (length zs)) examined ys (changes .contained .few-entries) (examines n o .netlist) (examines n o .marks)
 
-    nothing-stored : stored (flatOf empty .nodes) ys (flatOf empty .count) ≡ ys
-    nothing-stored = stored-none (flatOf empty .nodes) ys
+    nothing-stored : stored (recordIn examined) ys (flatOf empty .count) ≡ ys
+    nothing-stored = stored-none (recordIn examined) ys

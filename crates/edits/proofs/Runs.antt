@@ -3,15 +3,17 @@
 -- checking the written-out block gives. Assumes nothing.
 use Prim.Native.Nat.{ℕ, _+_, _*_, _≤_}
 use mathlib.Core.Path.{_≡_, refl, sym, ap, subst, _∙_}
-use mathlib.Core.List.{List, [], _∷_, _++_, map}
+use mathlib.Core.List.{List, [], _∷_, _++_}
 use native.Mathlib.Omega.{arith}
-use lib.ListN.{length, take, drop, length-map, length-append, length-take, length-drop, take-append-drop}
+use lib.ListN.{length, take, drop, length-append, length-take, length-drop, take-append-drop}
 use lib.Seq.{take-append-seam}
 use Rattle.rules.specs.declared.NodeRecord.{NodeRecord}
 use Rattle.rules.specs.Records.{Netlist, WellFormed, writtenOut}
 use Rattle.rules.specs.Families.{Findings, familiesRule, families, findings}
 use Rattle.rules.specs.Checks.{Outcome, answered, refused, andThen, admitted}
-use Rattle.rules.specs.Slices.{entry, workBytes, filled, nodesAfter, workAfter, reply}
+use Rattle.rules.specs.Slices.{nodeRecords, workBytes, filled, nodesAfter, workAfter, reply, FromMarks}
+use Rattle.rules.proofs.Exit.{records-length}
+use Rattle.rules.proofs.Marks.{from-marks}
 use Rattle.rules.proofs.Packing.{work-length}
 use Rattle.rules.proofs.Reading.{read-well-formed}
 use Rattle.rules.proofs.Room.{Room, admitted-says}
@@ -37,9 +39,6 @@ module _ {ℓ} {A : Type ℓ} where
   front-same : (xs before : List A) → take (length xs) before ≡ xs → xs ++ drop (length xs) before ≡ before
   front-same xs before e = ap (λ (ys : List A). ys ++ drop (length xs) before) (sym e) ∙ take-append-drop (length xs) before
 
-records-length : (n : Netlist) → length (map entry (n .nodes)) ≡ length (n .nodes)
-records-length n = length-map (n .nodes) entry
-
 families-length : (n : Netlist) → length (workBytes (families n)) ≡ 256 * length (n .nodes)
 unfolding families
 families-length n = omega (arith, work-length (families n), table-length familiesRule [] (n .nodes))
@@ -53,9 +52,9 @@ module _ (n : Netlist) (nodes : List NodeRecord) (work : List ℕ) (holds : Hold
         enough-work = omega (arith, ap length (holds .families), length-take (256 * length (n .nodes)) work, families-length n);
       }
 
-  holds-records : filled (λ m. map entry (m .nodes)) (answered n) nodes ≡ nodes
+  holds-records : filled nodeRecords (answered n) nodes ≡ nodes
   unfolding filled
-  holds-records = front-same (map entry (n .nodes)) nodes (rw (records-length n) (holds .records))
+  holds-records = front-same (nodeRecords n) nodes (rw (records-length n) (holds .records))
 
   holds-families : filled (λ m. workBytes (families m)) (answered n) work ≡ work
   unfolding filled
@@ -63,11 +62,11 @@ module _ (n : Netlist) (nodes : List NodeRecord) (work : List ℕ) (holds : Hold
 
 -- what is written once is held
 written-held : (n : Netlist) (nodes : List NodeRecord) (work : List ℕ)
-    → Holds n (filled (λ m. map entry (m .nodes)) (answered n) nodes) (filled (λ m. workBytes (families m)) (answered n) work)
+    → Holds n (filled nodeRecords (answered n) nodes) (filled (λ m. workBytes (families m)) (answered n) work)
 unfolding filled
 written-held n nodes work =
     record {
-      records = subst (λ (k : ℕ). take k (map entry (n .nodes) ++ drop (length (map entry (n .nodes))) nodes) ≡ map entry (n .nodes)) (records-length n) (front (map entry (n .nodes)) nodes);
+      records = subst (λ (k : ℕ). take k (nodeRecords n ++ drop (length (nodeRecords n)) nodes) ≡ nodeRecords n) (records-length n) (front (nodeRecords n) nodes);
       families = subst (λ (k : ℕ). take k (workBytes (families n) ++ drop (length (workBytes (families n))) work) ≡ workBytes (families n)) (families-length n) (front (workBytes (families n)) work);
     }
 
@@ -122,7 +121,7 @@ pub opened : (bytes : List ℕ) (nodes : List NodeRecord) (work : List ℕ) (n :
 unfolding nodesAfter workAfter
 opened bytes nodes work n is =
     as-checked n _ _ (read-well-formed bytes n (admitted-says bytes (length nodes) (length work) n is .is-read))
-    (subst (λ (o : Outcome Netlist). Holds n (filled (λ m. map entry (m .nodes)) o nodes) (filled (λ m. workBytes (families m)) o work)) (sym is) (written-held n nodes work))
+    (subst (λ (o : Outcome Netlist). Holds n (filled nodeRecords o nodes) (filled (λ m. workBytes (families m)) o work)) (sym is) (written-held n nodes work))
 
 -- an edit, made or refused, keeps a block as checked
 pub edit-keeps : (b : Block) (e : Edit) → AsChecked b → AsChecked (afterEdit b e)
@@ -132,7 +131,7 @@ edit-keeps b e checked = go (edited (b .netlist) e (length (b .nodes)) (length (
     go : (o : Outcome Netlist) → edited (b .netlist) e (length (b .nodes)) (length (b .work)) ≡ o
         → AsChecked (record {
           netlist = otherwise (b .netlist) o;
-          nodes = filled (λ m. map entry (m .nodes)) o (b .nodes);
+          nodes = filled nodeRecords o (b .nodes);
           work = filled (λ m. workBytes (families m)) o (b .work);
         })
     go (answered m) is =
@@ -168,3 +167,7 @@ last-reply b e f checked says = edit-keeps b e checked .answers ∙ go (edited (
     go : (o : Outcome Netlist) → andThen o (λ m. answered (findings m)) ≡ answered f → answered (findings (otherwise (b .netlist) o)) ≡ answered f
     go (answered m) e = e
     go (refused k p) e = let z : _≡_ {A = ℕ} 0 1 = cc in absurd (omega arith)
+
+-- and each half of what checking them answers is the lowest marked node of its layer with its mark: the answer after an edit is read from the marks
+pub marks-answer : (b : Block) → AsChecked b → FromMarks (findings (b .netlist)) (b .nodes)
+marks-answer b checked = from-marks (b .netlist) (b .nodes) (checked-holds b checked .records)

@@ -1,24 +1,31 @@
 -- A new node at the end of a netlist. Its record is judged as the next of a file in which it stands at the offset of its number, and then by whether
--- bytes are left over, row by row. A node that is offered so has room and can stand there. And its families, worked out from work bytes that hold
--- those of the other nodes, make them hold all. Assumes nothing.
+-- bytes are left over, row by row. A node that is offered so has room and can stand there. And the nodes before it report what they did. Assumes
+-- nothing.
 use Prim.Native.Nat.{ℕ, _+_, _^_, _<_, _≤_}
-use mathlib.Core.Path.{_≡_, refl, ap, _∙_}
+use mathlib.Core.Path.{_≡_, refl, sym, ap, _∙_}
 use mathlib.Core.Logic.{_⊎_, inl, inr}
 use mathlib.Core.Bool.{Bool, true, false}
-use mathlib.Core.List.{List, [], _∷_}
+use mathlib.Core.List.{List, [], _∷_, _++_, map-append}
+use mathlib.Core.Option.{Option, none}
 use native.Mathlib.Nat.{le-refl, lt-of-lt-of-le}
 use native.Mathlib.Omega.{arith}
 use borrow.Author.Tests.{lt-ltb, le-ltb, lt-leb, le-leb, leb-false, ltb-false}
 use lib.Dec.{T, ltb, lt→ltb, ltb→lt}
+use lib.ListN.{length, getD, length-map}
 use lib.Pow.{pow-mono}
+use lib.Seq.{getD-at}
 use Rattle.rules.specs.declared.Node.{Node}
 use Rattle.rules.specs.Lists.{member}
-use Rattle.rules.specs.Records.{Cell, Record, node, Netlist, WellFormed, withNode, said, size, operands, setOf, last-kind, most-variables, most-nodes, most-sets}
+use Rattle.rules.specs.Records.{Class, Cell, Record, node, Netlist, WellFormed, withNode, said, size, operands, setOf, last-kind, most-variables, most-nodes, most-sets}
+use Rattle.rules.specs.Families.{Family, Families, familiesRule, families, mark, marks, layerMarks}
 use Rattle.rules.specs.Slices.{entry}
 use Rattle.rules.specs.Checks.{Outcome, answered, refused, andThen, Check, check, judged, judgedRecord, overLimit, undeclared, undeclaredSet, badOperand}
 use Rattle.rules.proofs.Tests.{same-test, lt-or-le}
 use Rattle.rules.proofs.Records.{passes, answer}
 use Rattle.rules.proofs.Reading.{neither, operands-below, node-formed}
+use Rattle.rules.proofs.Tables.{table-snoc}
+use Rattle.rules.proofs.Exit.{families-length}
+use Rattle.rules.proofs.Marks.{layer-marks-length}
 use Rattle.records.specs.Found.{RecordBytes, foundIf}
 use Rattle.netlists.proofs.Netlists.{says-node, found-record, found-refusal}
 use Rattle.open_blocks.specs.Edits.{cellOf, judgedNode, offered}
@@ -66,7 +73,7 @@ module _ (total v n k b c : ℕ) where
 
   none-next : total ≤ 0 → Next
   unfolding judgedNode judgedRecord judged andThen
-  none-next none = let same : n + total ≡ n = omega arith in rw (same, le-leb total 0 none, le-leb n n (le-refl n))
+  none-next nothing = let same : n + total ≡ n = omega arith in rw (same, le-leb total 0 nothing, le-leb n n (le-refl n))
 
   beyond-next : 0 < total → 7 < k → Next
   unfolding judgedNode judgedRecord judged andThen
@@ -85,8 +92,8 @@ module _ (total v n k b c : ℕ) where
     judged-next = go met (lt-or-le 0 total) (lt-or-le 7 k)
       where
         go : (total ≤ 0) ⊎ (2 ≤ k) → (0 < total) ⊎ (total ≤ 0) → (7 < k) ⊎ (k ≤ 7) → Next
-        go met (inr none) kind = none-next none
-        go (inl none) (inl some) kind = none-next none
+        go met (inr nothing) kind = none-next nothing
+        go (inl nothing) (inl some) kind = none-next nothing
         go (inr above) (inl some) (inl beyond) = beyond-next some beyond
         go (inr above) (inl some) (inr known) = let (cell, says) = says-node k b c above known in node-next some above known cell says
 
@@ -113,7 +120,7 @@ module _ (total v n k b c : ℕ) where
         rw same (record { above = omega arith; known = known; cell = cell; says = says; judges = accepted-next cell accepted says })
       where
         over : (total ≤ 0) ⊎ (2 ≤ k) → n < n + total → 2 ≤ k
-        over (inl none) some = absurd (omega arith)
+        over (inl nothing) some = absurd (omega arith)
         over (inr h) some = h
 
   -- there are more bytes than its size s, or there are not
@@ -183,3 +190,28 @@ pub offers-none : (o : Outcome Cell) (k p : ℕ) → refused k p ≡ andThen o (
 unfolding andThen
 offers-none (answered cell) k p same = cc
 offers-none (refused i q) k p same = cc
+
+-- ---- what the nodes report
+
+marks-more : (variables : List Class) (cells : List Cell) (Fs : List Family) (cell : Cell) (F : Family) → length cells ≡ length Fs
+    → marks variables (cells ++ (cell ∷ [])) (Fs ++ (F ∷ [])) ≡ marks variables cells Fs ++ (mark variables cell F ∷ [])
+unfolding marks
+marks-more variables [] [] cell F e = refl
+marks-more variables [] (G ∷ Fs) cell F e = absurd (omega arith)
+marks-more variables (c ∷ cells) [] cell F e = absurd (omega arith)
+marks-more variables (c ∷ cells) (G ∷ Fs) cell F e = ap (λ (os : List (Option ℕ)). mark variables c G ∷ os) (marks-more variables cells Fs cell F (omega arith))
+
+-- in each layer the nodes before it report what they did
+pub marks-added : (layer : Families → Family) (n : Netlist) (cell : Cell)
+    → layerMarks layer (withNode n cell) ≡ layerMarks layer n ++ (getD (layerMarks layer (withNode n cell)) (length (n .nodes)) none ∷ [])
+marks-added layer n cell =
+    let own = mark (n .variables) cell (layer (familiesRule (families n) cell)) in
+    longer
+    ∙ ap (λ (o : Option ℕ). layerMarks layer n ++ (o ∷ []))
+    (sym (ap (λ (os : List (Option ℕ)). getD os (length (n .nodes)) none) longer ∙ getD-at (layerMarks layer n) own [] none _ (layer-marks-length layer n)))
+  where
+    longer : layerMarks layer (withNode n cell) ≡ layerMarks layer n ++ (mark (n .variables) cell (layer (familiesRule (families n) cell)) ∷ [])
+    longer =
+        unfold layerMarks families in
+        (rw (table-snoc familiesRule (n .nodes) cell, map-append)
+        (marks-more (n .variables) (n .nodes) _ cell _ (omega (arith, length-map (families n) layer, families-length n))))

@@ -1,10 +1,12 @@
 -- Taking out a node that no node names leaves every other entry, renumbered. The law is said once, of any table (`Tables`): over the step, the
 -- entries' type, and a relation between an entry before and the entry after. It is by recursion over the nodes: those before the one that is gone,
--- that one, those behind it. Families and settled values follow at equality, feeding points at "each point renumbered". Assumes nothing.
+-- that one, those behind it. Families and settled values follow at equality, feeding points at "each point renumbered"; and with the families what
+-- each node reports. Assumes nothing.
 use Prim.Native.Nat.{ℕ, zero, suc, _+_, _-_, _≤_, _<_, _^_}
 use mathlib.Core.Path.{_≡_, refl, sym, ap, ap₂, _∙_, subst}
 use mathlib.Core.Bool.{Bool, true, false, cond, _||_}
 use mathlib.Core.List.{List, [], _∷_, _++_, map}
+use mathlib.Core.Option.{none}
 use native.Mathlib.Decide.{decLe, ℕ-discrete}
 use native.Mathlib.Omega.{arith}
 use lib.Dec.{T, eqb}
@@ -15,8 +17,10 @@ use Rattle.rules.specs.Lists.{member, insert, union}
 use Rattle.rules.specs.Tables.{table}
 use Rattle.rules.specs.Records.{Cell, input, NOT, XOR, AND, OR, register, Netlist, WellFormed, operands, setOf}
 use Rattle.rules.specs.Values.{Assignment, valueRule, values, feedingRule, feedings, feeding}
-use Rattle.rules.specs.Families.{Families, constant, settledRule, glitchRule, familiesRule, families}
+use Rattle.rules.specs.Families.{Family, Families, constant, settledRule, glitchRule, familiesRule, families, familiesAt, tested, mark, layerMarks}
 use Rattle.rules.proofs.Lists.{member-head, member-tail}
+use Rattle.rules.proofs.Halves.{layer-mark}
+use Rattle.rules.proofs.Marks.{layer-marks-length}
 use Rattle.rules.proofs.Members.{All, all-none, all-front, all-single, all-union}
 use Rattle.open_blocks.specs.Edits.{lowered, renumbered, without, withoutNode, names, naming}
 
@@ -369,6 +373,15 @@ set-renumbered gone (AND a b) = refl
 set-renumbered gone (OR a b) = refl
 set-renumbered gone (register a) = refl
 
+tested-renumbered : (gone : ℕ) (cell : Cell) → tested (renumbered gone cell) ≡ tested cell
+unfolding tested renumbered
+tested-renumbered gone (input s) = refl
+tested-renumbered gone (NOT a) = refl
+tested-renumbered gone (XOR a b) = refl
+tested-renumbered gone (AND a b) = refl
+tested-renumbered gone (OR a b) = refl
+tested-renumbered gone (register a) = refl
+
 all-map : (P : ℕ → Type 0) (f : ℕ → ℕ) (xs : List ℕ) → All (λ x. P (f x)) xs → All P (map f xs)
 all-map P f [] h = all-none P
 all-map P f (x ∷ xs) h = all-front P (f x) (map f xs) (h x (member-head x xs)) (all-map P f xs (λ y t. h y (member-tail y x xs t)))
@@ -410,3 +423,21 @@ module _ (n : Netlist) (gone : ℕ) where
 
       declared : (i : ℕ) → Other gone i → i < length (n .nodes) → Declared (lowered gone i)
       declared i o h = rw (removed-node i o, set-renumbered) (unfold withoutNode in formed .declared i h)
+
+-- ---- marks
+
+-- in each layer every other node reports what it did: its cell and its families follow
+pub marks-removed : (layer : Families → Family) (n : Netlist) (gone : ℕ) → Unnamed gone (n .nodes)
+    → layerMarks layer (withoutNode n gone) ≡ without gone (layerMarks layer n)
+marks-removed layer n gone unnamed = moved-without none gone _ _ record { many = many; each = each }
+  where
+    many : length (layerMarks layer (withoutNode n gone)) ≡ lowered gone (length (layerMarks layer n))
+    many = rw (layer-marks-length layer (withoutNode n gone), layer-marks-length layer n) (removed-length n gone)
+
+    its : (a : ℕ) → Other gone a → familiesAt (withoutNode n gone) (lowered gone a) ≡ familiesAt n a
+    its a o = unfold familiesAt in (rw (families-removed n gone unnamed) (sym (without-at constant gone (families n) a o)))
+
+    each : (a : ℕ) → Other gone a → getD (layerMarks layer n) a none ≡ getD (layerMarks layer (withoutNode n gone)) (lowered gone a) none
+    each a o =
+        rw (layer-mark layer n a, layer-mark layer (withoutNode n gone) (lowered gone a), removed-node n gone a o, its a o)
+        (unfold mark withoutNode in (rw (tested-renumbered gone (getD (n .nodes) a (input 0)))))

@@ -1,9 +1,10 @@
--- What the functions that give a node up share: entries that move down over a gap, from the first to the last; the node records of a netlist
--- and the bytes of its families, which are then those of the netlist without the node; and what is examined where an edit is refused early, where
--- another node still names the node, and where it is given up. Assumes nothing.
+-- What the functions that give a node up share: entries that move down over a gap, from the first to the last; a padded list whose entries behind
+-- one move down over it; the node records of a netlist, its marks and the bytes of its families, which are then those of the netlist without the
+-- node. Assumes nothing.
 use Prim.Native.Nat.{ℕ, zero, suc, _+_, _*_, _-_, _≤_, _<_}
 use mathlib.Core.Path.{_≡_, refl, sym, ap, ap₂, _∙_}
-use mathlib.Core.List.{List, [], _∷_, _++_, map, map-append, append-assoc, append-nil}
+use mathlib.Core.List.{List, [], _∷_, _++_, map, map-id, map-append, append-assoc, append-nil}
+use mathlib.Core.Option.{Option}
 use native.Mathlib.Numerals.{add-one}
 use native.Mathlib.Omega.{arith}
 use lib.ListN.{length, getD, take, drop, set, replicate, length-append, length-map, length-drop, List·getD-map}
@@ -11,13 +12,14 @@ use lib.Seq.{paste, paste-zero, paste-suc, drop-paste, getD-drop, take-append-le
 use Rattle.rules.specs.declared.Node.{Node}
 use Rattle.rules.specs.Records.{Cell, input, NOT, XOR, AND, OR, register, Netlist, WellFormed, kindOf, operands, setOf, most-nodes}
 use Rattle.rules.specs.Families.{Families, families}
-use Rattle.rules.specs.Slices.{entry, nodeBytes, workBytes}
+use Rattle.rules.specs.Slices.{entry, markNumber, nodeBytes, workBytes}
 use Rattle.rules.proofs.Members.{All}
 use Rattle.rules.proofs.Exit.{families-length}
 use Rattle.rules.proofs.Packing.{work-length}
 use Rattle.netlists.specs.declared.Netlist as Value
-use Rattle.netlists.specs.Netlists.{padded, blank, flatOf, kept}
+use Rattle.netlists.specs.Netlists.{padded, blank, flatOf}
 use Rattle.netlists.proofs.Netlists.{value-count}
+use Rattle.marks.specs.Marks.{flatMarks}
 use Rattle.open_blocks.specs.Edits.{lowered, renumbered, without, withoutNode}
 use Rattle.open_blocks.specs.Work.{renumberedEntry, movedDown, HoldsFamilies}
 use Rattle.open_blocks.proofs.Removal.{lowered-low, lowered-high, first-of, second-of, Unnamed, removed-length, families-removed}
@@ -36,34 +38,87 @@ module _ {A : Type 0} (old : List A) (at : ℕ) (new : List A) (gap : ℕ) (f : 
           sym (getD-drop (at + j) (paste old at new j) gap d)
           ∙ ap (λ (xs : List A). getD xs gap d) (drop-paste old at new j (omega arith) (omega arith)) ∙ getD-drop (at + j) old gap d
 
--- ---- node records that move down
+-- ---- a padded list without an entry
 
--- the records of an array, of whatever length, once k of those behind the one that is gone have moved
-unfoldable pub shifted : List Node → (gone k : ℕ) → List Node
-shifted old gone zero = old
-shifted old gone (suc k) = set (shifted old gone k) (gone + k) (renumberedEntry gone (getD (shifted old gone k) (gone + k + 1) blank))
+-- Those behind the entry that is gone move down by one, each as f makes it, and the last becomes what the list is padded with.
+module _ {A : Type 0} (f : A → A) (rest : A) where
+  -- a list, of whatever length, once k of them have moved
+  unfoldable pub shifted : List A → (gone k : ℕ) → List A
+  shifted old gone zero = old
+  shifted old gone (suc k) = set (shifted old gone k) (gone + k) (f (getD (shifted old gone k) (gone + k + 1) rest))
 
-module _ (old : List Node) (gone : ℕ) where
-  renumbered-blank : renumberedEntry gone blank ≡ blank
-  renumbered-blank = rw (lowered-low gone 0 (omega arith))
-
-  abbrev behind : List Node
-  behind = map (renumberedEntry gone) (drop (gone + 1) old)
-
-  shifted-paste : (k : ℕ) → gone + k < length old → shifted old gone k ≡ paste old gone behind k
+  pub shifted-none : (old : List A) (gone : ℕ) → old ≡ shifted old gone (gone - gone)
   unfolding shifted
-  shifted-paste zero h = paste-zero old gone behind
-  shifted-paste (suc k) h =
-      rw (shifted-paste k (omega arith))
-      (moved-next old gone behind 1 (renumberedEntry gone) blank k (omega arith) enough next)
-    where
-      enough : k < length behind
-      enough = omega (arith, length-map (drop (gone + 1) old) (renumberedEntry gone), length-drop (gone + 1) old)
+  shifted-none old gone = let none : gone - gone ≡ 0 = omega arith in rw none
 
-      next : getD behind k blank ≡ renumberedEntry gone (getD old (gone + k + 1) blank)
-      next =
-          ap (getD behind k) (sym renumbered-blank) ∙ List·getD-map (renumberedEntry gone) (drop (gone + 1) old) k blank
-          ∙ ap (renumberedEntry gone) (getD-drop (gone + 1) old k blank ∙ ap (λ (i : ℕ). getD old i blank) (omega arith))
+  pub shifted-next : (old : List A) (gone i : ℕ) → gone ≤ i
+      → set (shifted old gone (i - gone)) i (f (getD (shifted old gone (i - gone)) (i + 1) rest)) ≡ shifted old gone (i + 1 - gone)
+  unfolding shifted
+  shifted-next old gone i h =
+      let more : i + 1 - gone ≡ suc (i - gone) = omega arith in
+      let here : gone + (i - gone) ≡ i = omega arith in
+      rw (more, here)
+
+  module _ (still : f rest ≡ rest) (old : List A) (gone : ℕ) where
+    abbrev behind : List A
+    behind = map f (drop (gone + 1) old)
+
+    shifted-paste : (k : ℕ) → gone + k < length old → shifted old gone k ≡ paste old gone behind k
+    unfolding shifted
+    shifted-paste zero h = paste-zero old gone behind
+    shifted-paste (suc k) h = rw (shifted-paste k (omega arith)) (moved-next old gone behind 1 f rest k (omega arith) enough next)
+      where
+        enough : k < length behind
+        enough = omega (arith, length-map (drop (gone + 1) old) f, length-drop (gone + 1) old)
+
+        next : getD behind k rest ≡ f (getD old (gone + k + 1) rest)
+        next =
+            ap (getD behind k) (sym still) ∙ List·getD-map f (drop (gone + 1) old) k rest
+            ∙ ap f (getD-drop (gone + 1) old k rest ∙ ap (λ (i : ℕ). getD old i rest) (omega arith))
+
+  module _ (still : f rest ≡ rest) (most : ℕ) (xs : List A) (few : length xs ≤ most) (gone : ℕ) (there : gone < length xs) where
+    abbrev last : ℕ
+    last = length xs - 1
+
+    abbrev moved : List A
+    moved = map f (drop (suc gone) xs)
+
+    abbrev others : List A
+    others = take gone xs ++ moved
+
+    abbrev rests : List A
+    rests = replicate (most - length xs) rest
+
+    abbrev old : List A
+    old = xs ++ rests
+
+    moved-length : length moved ≡ last - gone
+    moved-length = omega (arith, length-map (drop (suc gone) xs) f, length-drop (suc gone) xs)
+
+    others-length : length others ≡ last
+    others-length = omega (arith, length-append (take gone xs) moved, length-take-le gone xs (omega arith), moved-length)
+
+    -- once all have moved, the last entry is left over
+    pasted : paste old gone (behind still old gone) (last - gone) ≡ others ++ drop last old
+    pasted =
+        let end : gone + (last - gone) ≡ last = omega arith in
+        rw (end, take-append-le gone xs rests (omega arith), add-one gone, drop-append-le (suc gone) xs rests (omega arith), map-append)
+        (ap (λ (l : List A). (take gone xs ++ l) ++ drop last old) (take-at moved _ (last - gone) moved-length))
+
+    pub padded-without : set (shifted (padded most rest xs) gone (last - gone)) last rest ≡ padded most rest others
+    unfolding padded
+    padded-without =
+        rw (shifted-paste still old gone (last - gone) (omega (arith, many)), pasted, fewer)
+        (ap (λ (l : List A). set (others ++ l) last rest) left ∙ set-at others (getD old last rest) rests rest last others-length)
+      where
+        many : length old ≡ length xs + length rests
+        many = length-append xs rests
+
+        fewer : most - length others ≡ suc (most - length xs)
+        fewer = omega (arith, others-length)
+
+        left : drop last old ≡ getD old last rest ∷ rests
+        left = drop-cons old last rest (omega (arith, many)) ∙ ap (λ (l : List A). getD old last rest ∷ l) (drop-at xs rests (suc last) (omega arith))
 
 -- ---- those of a netlist
 
@@ -124,74 +179,23 @@ module _ (n : Netlist) (formed : WellFormed n) (gone : ℕ) (there : gone < leng
   abbrev entries : List Node
   entries = map entry (n .nodes)
 
-  abbrev last : ℕ
-  last = length (n .nodes) - 1
-
   -- the records of the nodes before the one that is gone, and renumbered those of the nodes behind it
-  abbrev others : List Node
-  others = take gone entries ++ map (renumberedEntry gone) (drop (suc gone) entries)
-
-  others-removed : map entry (withoutNode n gone .nodes) ≡ others
+  entries-removed : map entry (withoutNode n gone .nodes) ≡ take gone entries ++ map (renumberedEntry gone) (drop (suc gone) entries)
   unfolding withoutNode without
-  others-removed =
+  entries-removed =
       ap (map entry) (map-append (renumbered gone) (take gone (n .nodes)) (drop (suc gone) (n .nodes)))
       ∙ map-append entry (map (renumbered gone) (take gone (n .nodes))) _
       ∙ ap₂ _++_
       (ap (map entry) (front gone gone (n .nodes) (λ i h a t. omega (arith, formed .lower i (omega arith) a t))) ∙ map-take entry gone (n .nodes))
       (entries-renumbered gone (drop (suc gone) (n .nodes)) ∙ ap (map (renumberedEntry gone)) (map-drop entry (suc gone) (n .nodes)))
 
-  others-length : length others ≡ last
-  others-length =
-      omega (
-        arith,
-        length-append (take gone entries) (map (renumberedEntry gone) (drop (suc gone) entries)),
-        length-take-le gone entries (omega (arith, length-map (n .nodes) entry)),
-        length-map (drop (suc gone) entries) (renumberedEntry gone),
-        length-drop (suc gone) entries,
-        length-map (n .nodes) entry,
-      )
-
-  abbrev blanks : List Node
-  blanks = replicate (most-nodes - length entries) blank
-
-  abbrev old : List Node
-  old = entries ++ blanks
-
-  -- once all have moved, the last record is left over
-  pasted : paste old gone (behind old gone) (last - gone) ≡ others ++ drop last old
-  pasted =
-      let here : gone ≤ length entries = omega (arith, length-map (n .nodes) entry) in
-      let end : gone + (last - gone) ≡ last = omega arith in
-      rw (end, take-append-le gone entries blanks here, moved)
-    where
-      many : length (map (renumberedEntry gone) (drop (suc gone) entries)) ≡ last - gone
-      many = omega (arith, length-map (drop (suc gone) entries) (renumberedEntry gone), length-drop (suc gone) entries, length-map (n .nodes) entry)
-
-      moved : take (last - gone) (behind old gone) ≡ map (renumberedEntry gone) (drop (suc gone) entries)
-      moved =
-          rw (add-one gone, drop-append-le (suc gone) entries blanks (omega (arith, length-map (n .nodes) entry)), map-append)
-          (take-at (map (renumberedEntry gone) (drop (suc gone) entries)) _ (last - gone) many)
-
-  pub removed-records : set (shifted (flatOf n .nodes) gone (last - gone)) last blank ≡ flatOf (withoutNode n gone) .nodes
-  unfolding flatOf padded
+  pub removed-records : set (shifted (renumberedEntry gone) blank (flatOf n .nodes) gone (length (n .nodes) - 1 - gone)) (length (n .nodes) - 1) blank
+      ≡ flatOf (withoutNode n gone) .nodes
+  unfolding flatOf
   removed-records =
-      rw (shifted-paste old gone (last - gone) within, pasted, others-removed, fewer)
-      (ap (λ (l : List Node). set (others ++ l) last blank) left ∙ set-at others (getD old last blank) blanks blank last others-length)
-    where
-      many : length entries ≡ suc last
-      many = omega (arith, length-map (n .nodes) entry)
-
-      fewer : most-nodes - length others ≡ suc (most-nodes - length entries)
-      fewer = omega (arith, others-length, many, formed .few-nodes)
-
-      here : last < length old
-      here = omega (arith, length-append entries blanks, many)
-
-      left : drop last old ≡ getD old last blank ∷ blanks
-      left = drop-cons old last blank here ∙ ap (λ (l : List Node). getD old last blank ∷ l) (drop-at entries blanks (suc last) many)
-
-      within : gone + (last - gone) < length old
-      within = omega (arith, length-append entries blanks, many)
+      let many = length-map (n .nodes) entry in
+      rw (entries-removed, ← many)
+      (padded-without (renumberedEntry gone) blank (rw (lowered-low gone 0 (omega arith))) most-nodes entries (omega (arith, formed .few-nodes)) gone (omega arith))
 
 -- ---- a block by value, whose node records move down
 
@@ -204,19 +208,15 @@ shortened block last = record { variables = block .variables; count = last; clas
 
 -- the records up to i have moved
 abbrev pub Reached : (block shorter : Value.Netlist) (gone i : ℕ) → Type 0
-Reached block shorter gone i = shorter ≡ with block (shifted (block .nodes) gone (i - gone))
+Reached block shorter gone i = shorter ≡ with block (shifted (renumberedEntry gone) blank (block .nodes) gone (i - gone))
 
 pub none-moved : (block : Value.Netlist) (gone : ℕ) → Reached block block gone gone
-unfolding shifted
-none-moved block gone = let none : gone - gone ≡ 0 = omega arith in rw none
+none-moved block gone = ap (with block) (shifted-none (renumberedEntry gone) blank (block .nodes) gone)
 
 pub next-moved : (block shorter : Value.Netlist) (gone i : ℕ) (e : Node) → gone ≤ i → Reached block shorter gone i
     → e ≡ renumberedEntry gone (getD (shorter .nodes) (i + 1) blank) → Reached block (with shorter (set (shorter .nodes) i e)) gone (i + 1)
-unfolding shifted
 next-moved block shorter gone i e h reached made =
-    let more : i + 1 - gone ≡ suc (i - gone) = omega arith in
-    let here : gone + (i - gone) ≡ i = omega arith in
-    rw (made, reached, more, here)
+    rw (made, reached) (ap (with block) (shifted-next (renumberedEntry gone) blank (block .nodes) gone i h))
 
 pub all-moved : (block shorter : Value.Netlist) (gone i : ℕ) → gone < block .count → i ≡ block .count - 1 → Reached block shorter gone i
     → (n : Netlist) → WellFormed n → block ≡ flatOf n → shortened shorter (block .count - 1) ≡ flatOf (withoutNode n gone)
@@ -228,6 +228,19 @@ all-moved block shorter gone i there end reached n formed is =
   where
     fewer : length (n .nodes) - 1 ≡ length (withoutNode n gone .nodes)
     fewer = omega (arith, removed-length n gone, lowered-high gone (length (n .nodes)) (omega (arith, value-count n is)))
+
+-- ---- the marks of a layer, which move down
+
+pub removed-marks : (reports : List (Option ℕ)) (gone last : ℕ) → length reports ≡ suc last → length reports ≤ most-nodes → gone ≤ last
+    → set (shifted (λ m. m) 0 (flatMarks reports) gone (last - gone)) last 0 ≡ flatMarks (without gone reports)
+unfolding flatMarks without
+removed-marks reports gone last many few there =
+    let same = length-map reports markNumber in
+    let end : length (map markNumber reports) - 1 ≡ last = omega arith in
+    rw (← end) (padded-without (λ m. m) 0 refl most-nodes (map markNumber reports) (omega arith) gone (omega arith))
+    ∙ ap (padded most-nodes 0)
+    (ap₂ _++_ (sym (map-take markNumber gone reports)) (map-id _ ∙ sym (map-drop markNumber (suc gone) reports))
+    ∙ sym (map-append markNumber (take gone reports) (drop (suc gone) reports)))
 
 -- ---- families that move down
 

@@ -181,9 +181,11 @@ pub fn without_marks(marks: Marks, gone: usize, count: usize) -> Marks
     ensures { λ r. ⌜ ((settled glitch : List (Option ℕ)) → length settled ≡ count → length glitch ≡ count → marks ≡ marksIn settled glitch →
         r ≡ marksIn (without gone settled) (without gone glitch)) ⌝ }
 {
+    let settled = marks.settled;
+    let glitch = marks.glitch;
     Marks {
-        settled: without_mark(marks.settled, gone, count),
-        glitch: without_mark(marks.glitch, gone, count),
+        settled: without_mark(settled, gone, count),
+        glitch: without_mark(glitch, gone, count),
     }
 }
 

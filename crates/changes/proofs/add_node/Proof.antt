@@ -33,13 +33,13 @@ add-offered-requires c κs =
 returns : tie.Need-returns
 returns c =
     let found = ap offeredOf (sym (c .before .before .refusal .given .1)) ∙ c .before .before .before .before .offered .ensures in
-    refuses _ _ _ _ _ _ found (c .refused .ensures .0) (c .refused .ensures .1)
+    refuses _ _ _ _ _ _ _ found (c .refused .ensures .0) (c .refused .ensures .1)
 
 same-length : tie.Need-same-length
 same-length c = search needs
 
 returns-2 : tie.Need-returns-2
-returns-2 c = adds _ _ _ _ _ _ _ (offers (c .before .before .before .before .before)) (c .before .before .add-offered .ensures)
+returns-2 c = adds _ _ _ _ _ _ _ _ (offers (c .before .before .before .before .before)) (c .before .before .add-offered .ensures)
 
 pub add-node-spec : {M : Type 1} → statement M
 add-node-spec =

@@ -11,7 +11,7 @@ refused-requires c κs = search needs
 returns : tie.Need-returns
 returns c =
     let over = c .before .if1 .taken in
-    refused-early _ _ _ _ _ _ (λ n formed s. absurd (omega (arith, over, state-variables n s, formed .few-variables))) (c .refused .ensures .0) (c .refused .ensures .1)
+    refused-early _ _ _ _ _ _ _ (λ n formed s. absurd (omega (arith, over, state-variables n s, formed .few-variables))) (c .refused .ensures .0) (c .refused .ensures .1)
 
 refused-requires-2 : tie.Need-refused-requires-2
 refused-requires-2 c κs = search needs
@@ -19,7 +19,7 @@ refused-requires-2 c κs = search needs
 returns-2 : tie.Need-returns-2
 returns-2 c =
     let over = c .before .if2 .taken in
-    refused-early _ _ _ _ _ _ (λ n formed s. absurd (omega (arith, over, state-count n s, formed .few-nodes))) (c .refused2 .ensures .0) (c .refused2 .ensures .1)
+    refused-early _ _ _ _ _ _ _ (λ n formed s. absurd (omega (arith, over, state-count n s, formed .few-nodes))) (c .refused2 .ensures .0) (c .refused2 .ensures .1)
 
 enum-told : tie.Need-enum-told
 enum-told c = search needs

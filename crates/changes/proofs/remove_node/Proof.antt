@@ -14,14 +14,14 @@ refused-requires c κs = search needs
 
 returns : tie.Need-returns
 returns c =
-    refused-early _ _ _ _ _ _ (λ n formed s. no-such-node _ _ _ _ n (state-count n s) (c .before .if1 .taken)) (c .refused .ensures .0) (c .refused .ensures .1)
+    refused-early _ _ _ _ _ _ _ (λ n formed s. no-such-node _ _ _ _ n (state-count n s) (c .before .if1 .taken)) (c .refused .ensures .0) (c .refused .ensures .1)
 
 refused-requires-2 : tie.Need-refused-requires-2
 refused-requires-2 c κs = search needs
 
 returns-2 : tie.Need-returns-2
 returns-2 c =
-    refused-early _ _ _ _ _ _ (λ n formed s. few-entries _ _ _ _ n (state-count n s) (c .before .before .if1 .left) (c .before .if2 .taken))
+    refused-early _ _ _ _ _ _ _ (λ n formed s. few-entries _ _ _ _ n (state-count n s) (c .before .before .if1 .left) (c .before .if2 .taken))
     (c .refused2 .ensures .0) (c .refused2 .ensures .1)
 
 refused-requires-3 : tie.Need-refused-requires-3
@@ -30,7 +30,7 @@ refused-requires-3 c κs = search needs
 returns-3 : tie.Need-returns-3
 returns-3 c =
     let fits = c .before .before in
-    refused-early _ _ _ _ _ _ (λ n formed s. short-work _ _ _ _ n (state-count n s) (fits .before .if1 .left) (fits .if2 .left) (c .before .if3 .taken))
+    refused-early _ _ _ _ _ _ _ (λ n formed s. short-work _ _ _ _ n (state-count n s) (fits .before .if1 .left) (fits .if2 .left) (c .before .if3 .taken))
     (c .refused3 .ensures .0) (c .refused3 .ensures .1)
 
 give-up-requires : tie.Need-give-up-requires
@@ -43,7 +43,7 @@ returns-4 : tie.Need-returns-4
 returns-4 c =
     let given = c .before .before in
     let fit = given .before .before in
-    removes _ _ _ _ _ _ (fit .before .before .if1 .left) (fit .before .if2 .left) (fit .if3 .left) (given .give-up .ensures)
+    removes _ _ _ _ _ _ _ (fit .before .before .if1 .left) (fit .before .if2 .left) (fit .if3 .left) (given .give-up .ensures)
 
 pub remove-node-spec : {M : Type 1} → statement M
 remove-node-spec =

@@ -42,19 +42,19 @@ use denote.Triple.Walked.{Stays, stay-none-slice, gave-slice, stay-none, walkOf,
 use denote.Exit.{yes}
 use borrow.Rule.Slice.Reshare.{keptS}
 use Rattle.rules.specs.declared.NodeRecord.{NodeRecord}
-use Rattle.netlists.specs.declared.Netlist.{Netlist}
 use Rattle.checker.specs.declared.Examined.{Examined}
 use Rattle.open_blocks.specs.declared.State.{State}
 use Rattle.open_blocks.specs.declared.Edit.{Edit}
 use Rattle.open_blocks.specs.Edits as Edits
 use Rattle.open_blocks.specs.Meaning.{editOf}
-use Rattle.open_blocks.specs.Work.{loaded}
+use Rattle.open_blocks.specs.Work.{loaded, loadedMarks}
+use Rattle.changes.specs.declared.Loaded.{Loaded}
 use Rattle.changes.specs.Changes.{Changes}
 use Rattle.edits.specs.declared.Edited.{Edited}
-use Rattle.edits.specs.Edited.{editedOf}
+use Rattle.edits.specs.Edited.{loadedOf, editedOf}
 use Rattle.rules.proofs.NodeRecord as T
-use Rattle.netlists.proofs.Netlist as N
-use Rattle.netlists.proofs.Netlist.Laws as N′
+use Rattle.changes.proofs.Loaded as N
+use Rattle.changes.proofs.Loaded.Laws as N′
 use Rattle.checker.proofs.Examined as E
 use Rattle.checker.proofs.Examined.Laws as E′
 use Rattle.checker.proofs.Lent.{slice₀, slice₁, slice₂, to-bytes, to-nodes, shown, slices-left, tokens-back, calls-ended, calls-plain, Store, calls-stores}
@@ -194,10 +194,10 @@ module _ {M : Type 1} (𝓤 : URA M) (H : Heap 𝓤) (A : Atoms 𝓤) (W : Given
       qed W (‵ (flft (ν ∷ []) fullShare) ∷ ‵ (Lent ν δ) ∷ []) ∵ nothing ! $ move ! (1 ∷ 0 ∷ []) $ join ! $ nothing ! $ move ! (2 ∷ 0 ∷ []) $ fjoin ! $
       owned ! S.the-row (Is S.the-row) makes-state state _ is-state $ fjoin ! $ move ! (1 ∷ 0 ∷ []) $ join ! $ frame ! $ done !
 
-  abbrev to-change : Netlist → Val → Change 𝓤 H A mem run .Ghost
+  abbrev to-change : Loaded → Val → Change 𝓤 H A mem run .Ghost
   to-change block v = (((κ₀, (κ₂, tt)), (q₀, (q₂, tt)), tt, (block, (asked, (bytes, (length ys, (work, tt))))), (v ∷ [], (s-asked ∷ [], (s₀ ∷ [], (vint w64 (length ys) ∷ [], (s₂ ∷ [], tt)))))), tt)
 
-  goes-change : (block : Netlist) (v : Val) → Is N.the-row block (v ∷ []) → ent 𝓤 (⋆ 𝓤 H A (Alive ∷ ‵ Own₀ ∷ ‵ Own₂ ∷ [])) (Change 𝓤 H A mem run .pre (to-change block v))
+  goes-change : (block : Loaded) (v : Val) → Is N.the-row block (v ∷ []) → ent 𝓤 (⋆ 𝓤 H A (Alive ∷ ‵ Own₀ ∷ ‵ Own₂ ∷ [])) (Change 𝓤 H A mem run .pre (to-change block v))
   goes-change block v is-block =
       qed W (Alive ∷ ‵ Own₀ ∷ ‵ Own₂ ∷ []) ∵ nothing ! $ move ! (3 ∷ 0 ∷ []) $ fjoin ! $ owned ! usize (Is usize) (uint-makes 𝓤 H A W w64) (length ys) _ (refl, room₁ .0) $ fjoin ! $ move ! (2 ∷ 0 ∷ []) $ fjoin ! $
       owned ! D.the-row (Is D.the-row) makes-edit asked _ is-asked $ fjoin ! $ owned ! N.the-row (Is N.the-row) (LL.makes N.the-type N′.the-plain 𝓤 H A) block _ is-block $ fjoin ! $ move ! (1 ∷ 0 ∷ []) $ join ! $ frame ! $ done !
@@ -228,8 +228,8 @@ module _ {M : Type 1} (𝓤 : URA M) (H : Heap 𝓤) (A : Atoms 𝓤) (W : Given
       Relent c₁₂ c₁₁ c₁₀ c₇ c₆ = Locals c₁₂ c₁₁ c₁₀ (fat fullShare (sliceTy to-shared) l₉ 0 s₁) (fat fullShare to-shared l₈ 0 (vptr (nodes .ptr .0) (nodes .ptr .1))) c₇ c₆ []
 
       -- once `load` has returned: what the lent slices own, the tokens, and the locals
-      abbrev Loaded : Val → List (Item 𝓤)
-      Loaded v = Alive ∷ ‵ Own₁ ∷ ‵ (flft κ₁ q₁) ∷ ‵ Own₂ ∷ ‵ Own₀ ∷ Relent (froom (sliceTy to-bytes) l₁₂ 0) (froom to-bytes l₁₁ 0) (froom (tyInt w64) l₁₀ 0) (froom E′.mir l₇ 0) (fat fullShare N′.mir l₆ 0 v)
+      abbrev Holding : Val → List (Item 𝓤)
+      Holding v = Alive ∷ ‵ Own₁ ∷ ‵ (flft κ₁ q₁) ∷ ‵ Own₂ ∷ ‵ Own₀ ∷ Relent (froom (sliceTy to-bytes) l₁₂ 0) (froom to-bytes l₁₁ 0) (froom (tyInt w64) l₁₀ 0) (froom E′.mir l₇ 0) (fat fullShare N′.mir l₆ 0 v)
 
       -- once `change` has returned: what is left of the lent slices, and the locals
       abbrev Between : (v u : Val) → List ℕ → List (Item 𝓤)
@@ -237,7 +237,7 @@ module _ {M : Type 1} (𝓤 : URA M) (H : Heap 𝓤) (A : Atoms 𝓤) (W : Given
           ∷ Relent (fat fullShare (sliceTy to-bytes) l₁₂ 0 s₂) (fat fullShare to-bytes l₁₁ 0 (vptr (work .ptr .0) (work .ptr .1))) (fat fullShare (tyInt w64) l₁₀ 0 (vint w64 (length ys))) (fat fullShare E′.mir l₇ 0 u) (fat fullShare N′.mir l₆ 0 v)
 
       -- the records are stored, and what the edit gives is returned
-      finishes : (examined : Examined) (v u : Val) (ws : List ℕ) → Is E.the-row examined (u ∷ []) → Changes (loaded state ys) e (length ys) examined zs ws → length ws ≡ length zs → Sq W (Between v u ws) (runs C Λ En mir.t-8 (atRet En Post))
+      finishes : (examined : Examined) (v u : Val) (ws : List ℕ) → Is E.the-row examined (u ∷ []) → Changes (loaded state ys) (loadedMarks state ys) e (length ys) examined zs ws → length ws ≡ length zs → Sq W (Between v u ws) (runs C Λ En mir.t-8 (atRet En Post))
       finishes examined v u ws is-examined changed l₂ =
           assigns ! (addr ! (from ! (fld ! refl (hop ! (look-in ! 27 (sub ! 0 refl (whole !))) (stop !))))) (from ! (stop !)) (init ! 7 refl (tt, tt)) $
           assigns ! (agg ! (and-then ! (reads ! (from ! (stop !)) (look ! 7 refl)) (and-then ! (reads ! (from ! (fld ! refl (stop !))) (look-in ! 27 (sub ! 1 refl (whole !)))) (no-more !)))) (from ! (stop !)) (init ! 5 refl (tt, (tt, (record { fits = room₁ .0 }, tt)))) $
@@ -255,7 +255,7 @@ module _ {M : Type 1} (𝓤 : URA M) (H : Heap 𝓤) (A : Atoms 𝓤) (W : Given
           by ! (exits r t ns ws (subst (λ (given : Edited). Promised state e given ys ns zs ws) (sym is-r) (promises state e ys ns zs ws examined changed is-ns l₂)) l₁ l₂))))
 
       -- the block is changed
-      changes : (block : Netlist) (v : Val) → Is N.the-row block (v ∷ []) → block ≡ loaded state ys → Sq W (Loaded v) (runs C Λ En mir.t-4 (atRet En Post))
+      changes : (block : Loaded) (v : Val) → Is N.the-row block (v ∷ []) → block ≡ loadedOf state ys → Sq W (Holding v) (runs C Λ En mir.t-4 (atRet En Post))
       changes block v is-block is-loaded =
           assigns ! (of-opd ! (reads ! (from ! (fld ! refl (stop !))) (look-in ! 27 (sub ! 1 refl (whole !))))) (from ! (stop !)) (init ! 15 refl (tt, record { fits = room₁ .0 })) $
           assigns ! (addr ! (from ! (fld ! refl (hop ! (look-in ! 25 (sub ! 0 refl (whole !))) (stop !))))) (from ! (stop !)) (init ! 13 refl (tt, tt)) $
@@ -267,12 +267,12 @@ module _ {M : Type 1} (𝓤 : URA M) (H : Heap 𝓤) (A : Atoms 𝓤) (W : Given
           calls-ended 𝓤 H A W change.ended (change.clauses 𝓤 H A mem run) (to-change block v) ! fm known-change
           (and-then ! (reads ! (from ! (stop !)) (look ! 22 refl)) (and-then ! (reads ! (from ! (stop !)) (look ! 30 refl)) (and-then ! (reads ! (from ! (stop !)) (look ! 28 refl))
           (and-then ! (reads ! (from ! (stop !)) (look ! 14 refl)) (and-then ! (reads ! (from ! (stop !)) (look ! 10 refl)) (no-more !)))))) (λ u examined ws.
-          use1 W (raw (fact 𝓤 (Changes block e (length ys) examined zs (ws .1 .1 .1 .1 .0)))) (id⊢ 𝓤 _) $ heard ! (Changes block e (length ys) examined zs (ws .1 .1 .1 .1 .0)) (λ changed.
+          use1 W (raw (fact 𝓤 (Changes (block .block) (block .marks) e (length ys) examined zs (ws .1 .1 .1 .1 .0)))) (id⊢ 𝓤 _) $ heard ! (Changes (block .block) (block .marks) e (length ys) examined zs (ws .1 .1 .1 .1 .0)) (λ changed.
           fsplit ! $ drop ! $ fsplit ! $ drop ! $ fsplit ! $ drop ! $ fsplit ! $ drop ! $ fsplit ! $ fsplit ! $ move ! (1 ∷ []) $ feqL ! (λ l.
           -- [the work's last list; …; what the result owns; the tokens; what bytes owns; what nodes owns; the nodes' token; the locals]
           move ! (2 ∷ []) $ facts ! E.the-row (Is E.the-row) (shows 𝓤 H A E.the-row) examined (u ∷ []) (λ is-examined. land ! (from ! (stop !)) (init ! 22 refl (LL.lawful E.the-type E′.the-laws 𝓤 H A W .typed examined _ is-examined .0)) $
           move ! (1 ∷ []) $ drop ! $ move ! (1 ∷ []) $ use1 W Alive (id⊢ 𝓤 _) $ move ! (0 ∷ 1 ∷ 4 ∷ 3 ∷ []) $
-          finishes examined v u (ws .1 .1 .1 .1 .0) is-examined (subst (λ (given : Netlist). Changes given e (length ys) examined zs (ws .1 .1 .1 .1 .0)) is-loaded changed) l))))
+          finishes examined v u (ws .1 .1 .1 .1 .0) is-examined (subst (λ (given : Loaded). Changes (given .block) (given .marks) e (length ys) examined zs (ws .1 .1 .1 .1 .0)) is-loaded changed) l))))
 
       -- the node records are lent, and the block is loaded
       starts : Sq W (Locals (froom (sliceTy to-bytes) l₁₂ 0) (froom to-bytes l₁₁ 0) (froom (tyInt w64) l₁₀ 0) (froom (sliceTy to-shared) l₉ 0) (froom to-shared l₈ 0) (froom E′.mir l₇ 0) (froom N′.mir l₆ 0)
@@ -286,7 +286,7 @@ module _ {M : Type 1} (𝓤 : URA M) (H : Heap 𝓤) (A : Atoms 𝓤) (W : Given
           use2 W (later (some (λ (δ : GName). ‵ (Lent ν δ) ⊛ ‵ (Lender ν)))) (lends-shared 𝓤 H A W T.the-row κ₁ (ν ∷ []) q₁ (nodes .name) (nodes .ptr .0) (nodes .ptr .1) (named 1) (named 0) ys) $ await ! tt $ pick ! (λ δ. split ! $
           move ! (2 ∷ 0 ∷ []) $ use2 W (raw (Load 𝓤 H A mem run .pre (to-load ν δ))) (goes-load ν δ) $
           calls-ended 𝓤 H A W load.ended (load.clauses 𝓤 H A mem run) (to-load ν δ) ! fm known-load (and-then ! (reads ! (from ! (stop !)) (look ! 34 refl)) (and-then ! (reads ! (from ! (stop !)) (look ! 18 refl)) (no-more !))) (λ v block ws.
-          use1 W (raw (fact 𝓤 (block ≡ loaded state ys))) (id⊢ 𝓤 _) $ heard ! (block ≡ loaded state ys) (λ is-loaded. drop ! $
+          use1 W (raw (fact 𝓤 (block ≡ loadedOf state ys))) (id⊢ 𝓤 _) $ heard ! (block ≡ loadedOf state ys) (λ is-loaded. drop ! $
           facts ! N.the-row (Is N.the-row) (shows 𝓤 H A N.the-row) block (v ∷ []) (λ is-block. land ! (from ! (stop !)) (init ! 24 refl (LL.lawful N.the-type N′.the-laws 𝓤 H A W .typed block _ is-block .0)) $
           -- the lifetime is ended, and the nodes come back as they were
           use1 W (‵ (flft (ν ∷ []) fullShare) ⊛ ‵ ftrue) (id⊢ 𝓤 _) $ split ! $ lft-end ! tt $ move ! (0 ∷ 2 ∷ []) $

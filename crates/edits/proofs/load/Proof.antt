@@ -47,15 +47,14 @@ use denote.Triple.Walked.{says, Stays, stay-dropped, walkOf, goes-dropped, Walks
 use denote.Exit.{yes}
 use Rattle.rules.specs.Records.{most-nodes}
 use Rattle.rules.specs.declared.NodeRecord.{NodeRecord}
-use Rattle.netlists.specs.declared.Netlist.{Netlist}
-use Rattle.netlists.specs.Netlists.{blank}
+use Rattle.checker.specs.Work.{unwritten}
+use Rattle.changes.specs.declared.Loaded.{Loaded}
 use Rattle.open_blocks.specs.declared.State.{State}
-use Rattle.open_blocks.specs.Work.{loaded}
-use Rattle.edits.specs.Edited.{unloadedOf, withEntry}
+use Rattle.edits.specs.Edited.{loadedOf, unloadedOf, withEntry}
 use Rattle.rules.proofs.NodeRecord as T
 use Rattle.rules.proofs.NodeRecord.Laws as T′
-use Rattle.netlists.proofs.Netlist as N
-use Rattle.netlists.proofs.Netlist.Laws as N′
+use Rattle.changes.proofs.Loaded as N
+use Rattle.changes.proofs.Loaded.Laws as N′
 use Rattle.open_blocks.proofs.State as S
 use Rattle.open_blocks.proofs.State.Laws as S′
 use Rattle.checker.proofs.Lent.{goes-one, calls-ended, calls-plain}
@@ -108,7 +107,7 @@ module _ {M : Type 1} (𝓤 : URA M) (H : Heap 𝓤) (A : Atoms 𝓤) (W : Given
   abbrev n : ℕ
   n = min (min (state .count) most-nodes) (length ys)
 
-  abbrev after : ℕ → Netlist
+  abbrev after : ℕ → Loaded
   after = loading state ys
 
   -- the machine values
@@ -134,10 +133,10 @@ module _ {M : Type 1} (𝓤 : URA M) (H : Heap 𝓤) (A : Atoms 𝓤) (W : Given
   abbrev Alive : Item 𝓤
   Alive = ‵ (flft κ q) ⊛ ‵ ftrue
 
-  exits : (v : Val) → Is N.the-row (loaded state ys) (v ∷ []) → ent 𝓤 (⋆ 𝓤 H A (Alive ∷ [])) (Post v)
+  exits : (v : Val) → Is N.the-row (loadedOf state ys) (v ∷ []) → ent 𝓤 (⋆ 𝓤 H A (Alive ∷ [])) (Post v)
   exits v is =
-      qed W (Alive ∷ []) ∵ suffices ! _ (ends-at 𝓤 H A load′.ended stayed (load′.clauses 𝓤 H A mem run) W bound v (loaded state ys) (tt, (tt, tt)) (tt, (tt, tt))) $ says ! refl $
-      nothing ! $ nothing ! $ fjoin ! $ nothing ! $ fjoin ! $ move ! (1 ∷ 0 ∷ []) $ frame ! $ frame ! $ owned ! N.the-row (Is N.the-row) (LL.makes N.the-type N′.the-plain 𝓤 H A) (loaded state ys) _ is $ done !
+      qed W (Alive ∷ []) ∵ suffices ! _ (ends-at 𝓤 H A load′.ended stayed (load′.clauses 𝓤 H A mem run) W bound v (loadedOf state ys) (tt, (tt, tt)) (tt, (tt, tt))) $ says ! refl $
+      nothing ! $ nothing ! $ fjoin ! $ nothing ! $ fjoin ! $ move ! (1 ∷ 0 ∷ []) $ frame ! $ frame ! $ owned ! N.the-row (Is N.the-row) (LL.makes N.the-type N′.the-plain 𝓤 H A) (loadedOf state ys) _ is $ done !
 
   -- ---- what each callee's triple binds outside, and that the caller has what it asks
   abbrev to-count : ToLoad 𝓤 H A mem run .Ghost
@@ -182,7 +181,7 @@ module _ {M : Type 1} (𝓤 : URA M) (H : Heap 𝓤) (A : Atoms 𝓤) (W : Given
   Nearer-wf : WellFounded Nearer
   Nearer-wf = InvImage·wf (λ (u : Upto). n - u .i) (Nat·lt-wfRel .wf)
 
-  typed-block : (b : Netlist) (v : Val) → Is N.the-row b (v ∷ []) → Holds (hasTy N′.mir v) × WT v
+  typed-block : (b : Loaded) (v : Val) → Is N.the-row b (v ∷ []) → Holds (hasTy N′.mir v) × WT v
   typed-block b v is = LL.lawful N.the-type N′.the-laws 𝓤 H A W .typed b _ is .0
 
   module _ (𝓣 : Tables 𝓤 H) (known-count : Triple 𝓤 (𝓣 .C #edits·to-load) (ToLoad 𝓤 H A mem run)) (known-block : Triple 𝓤 (𝓣 .C #edits·unloaded) (Unloaded 𝓤 H A mem run))
@@ -226,7 +225,7 @@ module _ {M : Type 1} (𝓤 : URA M) (H : Heap 𝓤) (A : Atoms 𝓤) (W : Given
           use1 W (‵ Own ⊛ ‵ Own) (shr-slice-copy 𝓤 H A W (named 0) κ T.the-row .twice nodes (s ∷ [])) $ split ! $
           move ! (2 ∷ 0 ∷ []) $ use2 W (raw (NodeAt 𝓤 H A mem run .pre (to-node (u .i)))) (goes-node (u .i) less) $
           calls-ended 𝓤 H A W node-at.ended (node-at.clauses 𝓤 H A mem run) (to-node (u .i)) ! fm known-node (and-then ! (load ! (from ! (stop !)) (look ! 14 refl)) (and-then ! (load ! (from ! (stop !)) (look ! 8 refl)) (no-more !))) (λ w e ws.
-          use1 W (raw (fact 𝓤 (e ≡ getD ys (u .i) blank))) (id⊢ 𝓤 _) $ heard ! (e ≡ getD ys (u .i) blank) (λ is-e. drop ! $
+          use1 W (raw (fact 𝓤 (e ≡ getD ys (u .i) unwritten))) (id⊢ 𝓤 _) $ heard ! (e ≡ getD ys (u .i) unwritten) (λ is-e. drop ! $
           facts ! T.the-row (Is T.the-row) (shows 𝓤 H A T.the-row) e (w ∷ []) (λ is-w. use1 W Alive (id⊢ 𝓤 _) $ move ! (1 ∷ []) $
           land ! (from ! (stop !)) (init ! 2 refl (LL.lawful T.the-type T′.the-laws 𝓤 H A W .typed e _ is-w .0)) $
           -- the block with it
@@ -242,12 +241,12 @@ module _ {M : Type 1} (𝓤 : URA M) (H : Heap 𝓤) (A : Atoms 𝓤) (W : Given
           next-fits : u .i + 1 < 2 ^ 64
           next-fits = let l = less in omega arith
 
-          next : (e : NodeRecord) → e ≡ getD ys (u .i) blank → (b : Netlist) → b ≡ withEntry (after (u .i)) (u .i) e → (v : Val) → Is N.the-row b (v ∷ []) → Upto
-          next e is-e b is-b v is-v = record {
+          next : (e : NodeRecord) → e ≡ getD ys (u .i) unwritten → (b : Loaded) → b ≡ withEntry (after (u .i)) (u .i) e → (v : Val) → Is N.the-row b (v ∷ []) → Upto
+          next e is-e b is-b v is-v = let l = less in record {
             i = u .i + 1;
             few = add-one-le less;
             v = v;
-            is-v = subst (λ (m : Netlist). Is N.the-row m (v ∷ [])) (is-b ∙ ap (withEntry (after (u .i)) (u .i)) is-e ∙ sym (loading-more state ys (u .i))) is-v;
+            is-v = subst (λ (m : Loaded). Is N.the-row m (v ∷ [])) (is-b ∙ ap (withEntry (after (u .i)) (u .i)) is-e ∙ sym (loading-more state ys (u .i) (omega arith) (omega arith))) is-v;
           }
       turn-by u false fails =
           assigns ! (bin ! (load ! (from ! (stop !)) (look ! 8 refl)) (load ! (from ! (stop !)) (look ! 12 refl)) tt) (from ! (stop !)) (init ! 4 refl (tt, tt)) $
@@ -258,8 +257,8 @@ module _ {M : Type 1} (𝓤 : URA M) (H : Heap 𝓤) (A : Atoms 𝓤) (W : Given
           move ! (17 ∷ 18 ∷ []) $ free1 ! $ move ! (15 ∷ 16 ∷ []) $ free1 ! $ move ! (13 ∷ 14 ∷ []) $ free1 ! $ move ! (11 ∷ 12 ∷ []) $ free1 ! $ move ! (9 ∷ 10 ∷ []) $ free1 ! $
           move ! (7 ∷ 8 ∷ []) $ free1 ! $ move ! (5 ∷ 6 ∷ []) $ free1 ! $ move ! (3 ∷ 4 ∷ []) $ free1 ! $ move ! (1 ∷ 2 ∷ []) $ free1 ! $ free0 ! $ by ! (exits (u .v) all)
         where
-          all : Is N.the-row (loaded state ys) (u .v ∷ [])
-          all = subst (λ (m : Netlist). Is N.the-row m (u .v ∷ [])) (ap after (le-antisymm (u .few) (ltb-false (u .i) n fails)) ∙ loading-all state ys) (u .is-v)
+          all : Is N.the-row (loadedOf state ys) (u .v ∷ [])
+          all = subst (λ (m : Loaded). Is N.the-row m (u .v ∷ [])) (ap after (le-antisymm (u .few) (ltb-false (u .i) n fails)) ∙ loading-all state ys) (u .is-v)
 
       -- the MIR, up to the loop: how many records are loaded, and the block with none
       starts : Sq W (Locals (froom (tyInt w64) l₆ 0) (froom (tyInt w64) l₅ 0) (froom N′.mir l₄ 0) (froom (tyInt w64) l₃ 0) (Alive ∷ ‵ (owns (S.the-row ∷ ShrSlice (named 0) κ T.the-row ∷ []) x at) ∷ [])) (runs C Λ En mir.t-1 (atRet En Post))
@@ -274,7 +273,7 @@ module _ {M : Type 1} (𝓤 : URA M) (H : Heap 𝓤) (A : Atoms 𝓤) (W : Given
           assigns ! (of-opd ! (lit ! tt)) (from ! (stop !)) (init ! 6 refl (tt, record { fits = lit< tt })) $
           move ! (19 ∷ []) $ fsplit ! $ drop ! $ fsplit ! $ move ! (1 ∷ []) $ drop ! $ move ! (0 ∷ 19 ∷ []) $ first ! $ blocks ! $
           loops ! 𝓣 Nearer Nearer-wf At (λ u. turn-by u (ltb (u .i) n) refl)
-          (record { i = 0; few = zero-le; v = v; is-v = subst (λ (m : Netlist). Is N.the-row m (v ∷ [])) (is-b ∙ sym (loading-none state ys)) is-v })))))
+          (record { i = 0; few = zero-le; v = v; is-v = subst (λ (m : Loaded). Is N.the-row m (v ∷ [])) (is-b ∙ sym (loading-none state ys)) is-v })))))
 
     walk : ent 𝓤 (onEntry 𝓤 H A load′.signature (κ, tt) (q, tt) x at) (WpFn 𝓤 H C Λ code.function (t ∷ s ∷ []) Post)
     walk =

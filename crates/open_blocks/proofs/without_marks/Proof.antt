@@ -1,0 +1,24 @@
+-- `open_blocks::without_marks` meets its contract: each layer is moved. Assumes nothing.
+use mathlib.Core.Path.{ap}
+use borrow.Author.Needs.{needs}
+use Rattle.marks.specs.declared.Marks.{Marks}
+use Rattle.marks.specs.Marks.{marksIn}
+use Rattle.open_blocks.proofs.without_marks.Statement.{statement}
+use Rattle.open_blocks.proofs.without_marks.Tie as tie
+
+without-mark-requires : tie.Need-without-mark-requires
+without-mark-requires c κs = search needs
+
+without-mark-requires-2 : tie.Need-without-mark-requires-2
+without-mark-requires-2 c κs = search needs
+
+returns : tie.Need-returns
+unfolding marksIn
+returns c = λ settled glitch s g is.
+    rw (
+      c .before .without-mark .ensures settled s (ap (λ (m : Marks). m .settled) is),
+      c .without-mark2 .ensures glitch g (ap (λ (m : Marks). m .glitch) is),
+    )
+
+pub without-marks-spec : {M : Type 1} → statement M
+without-marks-spec = tie.close (tie.spec without-mark-requires without-mark-requires-2 returns)
