@@ -74,9 +74,10 @@ fn with_entry(loaded: Loaded, i: usize, taken: NodeRecord) -> Loaded
     requires { ⌜ i < most-nodes ⌝ }
     ensures { λ r. ⌜ r ≡ withEntry loaded i taken ⌝ }
 {
+    let node = taken.node;
     let mut block = loaded.block;
     let mut marks = loaded.marks;
-    block.nodes[i] = taken.node;
+    block.nodes[i] = node;
     marks.settled[i] = taken.settled;
     marks.glitch[i] = taken.glitch;
     Loaded { block, marks }

@@ -256,6 +256,7 @@ module _ {M : Type 1} (𝓤 : URA M) (H : Heap 𝓤) (A : Atoms 𝓤) (W : Given
 
       -- the block is changed
       changes : (block : Loaded) (v : Val) → Is N.the-row block (v ∷ []) → block ≡ loadedOf state ys → Sq W (Holding v) (runs C Λ En mir.t-4 (atRet En Post))
+      unfolding loadedOf
       changes block v is-block is-loaded =
           assigns ! (of-opd ! (reads ! (from ! (fld ! refl (stop !))) (look-in ! 27 (sub ! 1 refl (whole !))))) (from ! (stop !)) (init ! 15 refl (tt, record { fits = room₁ .0 })) $
           assigns ! (addr ! (from ! (fld ! refl (hop ! (look-in ! 25 (sub ! 0 refl (whole !))) (stop !))))) (from ! (stop !)) (init ! 13 refl (tt, tt)) $
