@@ -65,3 +65,44 @@ pub extern "C" fn telgouin_edits(bytes: &[u8], added: &[u8], node: usize, times:
     }
     answered
 }
+
+// A new node at the end or, where there are no bytes of one, the last of so many nodes to give up.
+fn edit_at_the_end(added: usize, count: usize) -> Edit {
+    if added > 0 {
+        return Edit::Add;
+    }
+    if count == 0 {
+        return Edit::Remove(0);
+    }
+    Edit::Remove(count - 1)
+}
+
+// Opens a block, and then, so many times, makes one edit of it as it was opened: takes a new node at the end or, where there are no bytes of one, gives
+// up the last node. Neither changes the families of the block's own nodes, so that the next edit finds them. No times: it is a fresh check alone.
+#[no_mangle]
+pub extern "C" fn telgouin_edit_again(bytes: &[u8], added: &[u8], times: usize) -> usize
+    ensures { λ r. ⌜ r ≤ 65536 ⌝ }
+{
+    let turns = least(times, MOST_TURNS);
+    let mut work = [0u8; MOST_WORK];
+    let opened = edit_trial::open_over(
+        bytes,
+        MOST_NODES,
+        [trial::entry_before(); MOST_NODES],
+        &mut work,
+    );
+    let first = opened.edited;
+    let state = first.state;
+    let nodes = opened.nodes;
+    let edit = edit_at_the_end(added.len(), state.count);
+    let mut answered = 0;
+    let mut turn = 0;
+    while turn < turns {
+        let seen = edit_trial::edit_over(state, edit, added, MOST_NODES, nodes, &mut work);
+        let edited = seen.edited;
+        let reply = edited.reply;
+        answered += one_if_answered(reply);
+        turn += 1;
+    }
+    answered
+}
