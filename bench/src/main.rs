@@ -6,6 +6,7 @@ mod clock;
 mod compare;
 mod derive;
 mod document;
+mod edited;
 mod edits;
 mod memory;
 mod pairs;

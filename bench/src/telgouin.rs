@@ -25,6 +25,14 @@ extern "C" {
         times: usize,
     ) -> usize;
 
+    fn telgouin_edit_again(
+        bytes: *const u8,
+        bytes_len: usize,
+        added: *const u8,
+        added_len: usize,
+        times: usize,
+    ) -> usize;
+
     fn telgouin_derive(
         bytes: *const u8,
         bytes_len: usize,
@@ -73,6 +81,22 @@ pub fn edits(bytes: &[u8], added: &[u8], node: usize, times: usize) -> usize {
             added.as_ptr(),
             added.len(),
             node,
+            times,
+        )
+    }
+}
+
+/// Opens a block, and so many times takes a record's node at the end of it as it was opened or,
+/// where there is no record, gives up its last node: how many of these edits are answered. No times:
+/// it is a fresh check.
+pub fn edit_again(bytes: &[u8], added: &[u8], times: usize) -> usize {
+    // SAFETY: both pointers are valid for their lengths, and the function requires nothing more.
+    unsafe {
+        telgouin_edit_again(
+            bytes.as_ptr(),
+            bytes.len(),
+            added.as_ptr(),
+            added.len(),
             times,
         )
     }
