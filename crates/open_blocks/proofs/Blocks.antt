@@ -1,22 +1,25 @@
 -- Edits of two blocks with what each comes to, which antt computes from the definitions: every refusal, and two that meet in their order; one whose
--- counts differ after it, so that what is said of one probe after an edit is not empty; and a node that is named, whose removal would change another's
--- value. Assumes nothing.
+-- counts differ after it, so that what is said of one probe after an edit is not empty; a node that is named, whose removal would change another's
+-- value; and marks after an edit, with a block that is not as a check leaves it for one mark. Assumes nothing.
 use Prim.Native.Nat.{ℕ}
-use mathlib.Core.Path.{_≡_, refl}
+use mathlib.Core.Path.{_≡_, refl, ap}
 use mathlib.Core.Bool.{false, true, xor}
 use mathlib.Core.List.{List, [], _∷_}
 use native.Mathlib.Omega.{arith}
-use Rattle.rules.specs.Lists.{member, insert, union, count}
+use lib.ListN.{getD, replicate}
+use Rattle.rules.specs.declared.NodeRecord.{NodeRecord}
+use Rattle.rules.specs.Lists.{member, insert, union, count, tabulate}
 use Rattle.rules.specs.Tables.{table}
 use Rattle.rules.specs.Records.{secret, mask, Cell, input, NOT, XOR, AND, OR, register, Netlist, said, size, recordBytes, body, operands, setOf, writtenOut, variablesOut, nodesOut, kindOf, classByte, most-nodes}
 use Rattle.rules.specs.Values.{exclusiveOr, valueRule, values, feedingRule, feedings, feeding, same, howMany, settings, next, others, make, matches, giving, CountsAgree}
 use Rattle.rules.specs.Families.{tested, clear, suspectAt, Finding, Findings}
 use Rattle.rules.specs.Checks.{Outcome, answered, refused, andThen, judged, overLimit, undeclared, undeclaredSet, notBelow, badOperand, read, slicesFit, nodeCheck, most-work}
+use Rattle.rules.specs.Slices.{entry, markNumber, nodeRecord, nodeRecords, filled, nodesAfter}
 use Rattle.rules.specs.Demands.{OneProbe}
 use Rattle.rules.proofs.Each.{Each}
 use Rattle.rules.proofs.Blocks.{replyTo, _and_}
 use Rattle.rules.proofs.BlockCounts.{all-zero, p9}
-use Rattle.open_blocks.specs.Edits.{Edit, add, remove, judgedNode, lowered, renumbered, without, withoutNode, names, naming, givenUp, fits, edited, otherwise, netlistAfter, replyAfter}
+use Rattle.open_blocks.specs.Edits.{Edit, add, remove, judgedNode, lowered, renumbered, without, withoutNode, names, naming, givenUp, fits, edited, otherwise, netlistAfter, replyAfter, recordsAfter, Block, AsChecked}
 
 -- block A before its last gate
 abbrev pub before-a : Netlist
@@ -143,3 +146,36 @@ pub named-changes : (values (shared (input 1 ∷ input 2 ∷ NOT 0 ∷ [])) (tru
     × (values (withoutNode (shared (input 1 ∷ input 2 ∷ NOT 0 ∷ [])) 0) (true ∷ false ∷ []) ≡ false ∷ true ∷ [])
 unfolding table xor exclusiveOr valueRule values lowered renumbered without withoutNode
 named-changes = (refl, refl)
+
+-- ---- marks after an edit
+
+abbrev entryOf : (kind first second set settled glitch : ℕ) → NodeRecord
+entryOf k a b s m g = record { node = record { kind = k; first = a; second = b; set = s }; settled = m; glitch = g }
+
+-- input 0 is the bare secret and has no mark; NOT 0 is marked in both layers and XOR 0 1 for glitches alone; NOT 1, which none names, in neither
+abbrev two-marked : Netlist
+two-marked = shared (input 1 ∷ input 3 ∷ NOT 1 ∷ NOT 0 ∷ XOR 0 1 ∷ [])
+
+-- Without NOT 1 the marks of the two nodes behind it move down with them, and the freed last entry keeps what it held; the last gate of block A is
+-- marked where it is added, and nothing else is written.
+pub marks-after : (recordsAfter two-marked (remove 2) (nodeRecords two-marked) 1280
+    ≡ entryOf 2 0 0 1 0 0 ∷ entryOf 2 0 0 3 0 0 ∷ entryOf 3 0 0 0 1 1 ∷ entryOf 4 0 1 0 0 1 ∷ entryOf 4 0 1 0 0 1 ∷ [])
+    × (recordsAfter before-a (add (4 ∷ 3 ∷ 1 ∷ [])) (replicate 5 (entryOf 9 9 9 9 9 9)) 1280
+    ≡ entryOf 2 0 0 3 0 0 ∷ entryOf 2 0 0 2 0 0 ∷ entryOf 2 0 0 4 0 0 ∷ entryOf 4 0 2 0 0 0 ∷ entryOf 4 3 1 0 0 1 ∷ [])
+unfolding replyTo editedTo entry markNumber nodeRecord nodeRecords tabulate filled recordsAfter
+marks-after = (refl, refl)
+
+-- Block A with its node records, but for the mark of its last gate, which is not there: it is not as a check leaves it.
+abbrev unmarked-a : Block
+unmarked-a = record {
+  netlist = p9;
+  nodes = entryOf 2 0 0 3 0 0 ∷ entryOf 2 0 0 2 0 0 ∷ entryOf 2 0 0 4 0 0 ∷ entryOf 4 0 2 0 0 0 ∷ entryOf 4 3 1 0 0 0 ∷ [];
+  work = replicate 1280 0;
+}
+
+one-is-not-none : ¬ (_≡_ {A = ℕ} 1 0)
+one-is-not-none e = omega arith
+
+pub unmarked : ¬ AsChecked unmarked-a
+unfolding replyTo variablesOut nodesOut writtenOut entry markNumber nodeRecord nodeRecords tabulate filled nodesAfter
+unmarked checked = one-is-not-none (ap (λ (ns : List NodeRecord). getD ns 4 (entryOf 0 0 0 0 0 0) .glitch) (checked .records))
