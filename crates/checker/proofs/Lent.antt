@@ -1,5 +1,5 @@
 -- Steps of the walks that pass lent slices on: a clause that is shown, what is had at exit, a call by what the callee's contract says, and the calls of `examine` and of `store`. Assumes nothing.
-use mathlib.Core.Path.{_≡_, refl, sym, _∙_, ap, subst}
+use mathlib.Core.Path.{_≡_, refl, sym, _∙_, subst}
 use mathlib.Core.Logic.{_↔_}
 use Prim.Native.Nat.{ℕ, _≤_, _<_, _^_}
 use mathlib.Core.List.{List, [], _∷_}

@@ -31,9 +31,6 @@ module _ {A : Type 0} (rest : A) (field : NodeRecord → A) (records : List Node
   abbrev upTo : ℕ → List A
   upTo i = padded most-nodes rest (map field (take i records))
 
-  up-to-none : upTo 0 ≡ padded most-nodes rest (map field (take 0 records))
-  up-to-none = refl
-
   up-to-more : (i : ℕ) → i < length records → i < most-nodes → upTo (i + 1) ≡ set (upTo i) i (field (getD records i unwritten))
   up-to-more i h few =
       let many = length-take-le i records (omega arith) in

@@ -13,7 +13,7 @@ use Rattle.rules.specs.declared.Refusal.{Refusal}
 use Rattle.rules.specs.declared.QueryOutcome.the-variants as Query
 use Rattle.rules.specs.Records.{public, Cell, input, NOT, XOR, AND, OR, register, Record, node, Netlist, WellFormed, said, classOf, classByte, kindOf, operands, setOf, most-variables, most-nodes}
 use Rattle.rules.specs.Slices.{entry}
-use Rattle.rules.specs.Checks.{Outcome, answered, refused, andThen, judgedRecord, read}
+use Rattle.rules.specs.Checks.{Outcome, answered, refused, andThen, judgedRecord, read, most-work}
 use Rattle.rules.specs.Paper.{numberOf, placeOf, queryOf}
 use Rattle.rules.proofs.Members.{all-at}
 use Rattle.rules.proofs.Records.{answer, class-of-byte}
@@ -21,7 +21,7 @@ use Rattle.rules.proofs.Reading.{read-well-formed}
 use Rattle.records.specs.Found.{RecordBytes, foundIf}
 use Rattle.netlists.specs.declared.Netlist.{Netlist as Flat}
 use Rattle.netlists.specs.declared.ReadFile.{ReadFile}
-use Rattle.netlists.specs.Netlists.{padded, blank, flatOf, Formed, kept, Reads}
+use Rattle.netlists.specs.Netlists.{padded, blank, flatOf, Formed, Ready, kept, Reads}
 
 -- ---- padded lists
 
@@ -64,7 +64,7 @@ module _ {ℓ κ} {A : Type ℓ} {B : Type κ} (f : A → B) (k : ℕ) (rest : B
   made-set xs x h =
       rw (map-append, ← (length-map xs f)) (padded-set k rest (map f xs) (f x) (omega (arith, length-map xs f)))
 
-  pub made-at : (xs : List A) (i : ℕ) (d : A) → i < length xs → getD (padded k rest (map f xs)) i rest ≡ f (getD xs i d)
+  made-at : (xs : List A) (i : ℕ) (d : A) → i < length xs → getD (padded k rest (map f xs)) i rest ≡ f (getD xs i d)
   made-at xs i d h = padded-at k rest (map f xs) i rest (omega (arith, length-map xs f)) ∙ map-at xs i h
     where
       map-at : (xs : List A) (i : ℕ) → i < length xs → getD (map f xs) i rest ≡ f (getD xs i d)
@@ -152,6 +152,10 @@ module _ {value : Flat} (f : Formed value) where
 
   pub few-nodes : value .count ≤ most-nodes
   few-nodes = omega (arith, value-count (f .netlist) (f .is), f .obeys .few-nodes)
+
+  -- so many work bytes have room for it, as they have for every netlist
+  pub all-ready : (work : ℕ) → work ≡ most-work → Ready value work
+  all-ready work e = record { formed = f; room = omega (arith, few-nodes) }
 
   -- it is the value of one netlist only, and that one obeys the rules
   pub one-netlist : (n : Netlist) → value ≡ flatOf n → f .netlist ≡ n

@@ -10,7 +10,6 @@ use native.Mathlib.Omega.{arith}
 use lib.Dec.{T}
 use lib.ListN.{length}
 use Rattle.rules.specs.Records.{Netlist}
-use Rattle.rules.specs.Families.{tested}
 use Rattle.rules.specs.Demands.{TestedNode}
 use Rattle.rules.proofs.Tests.{pass, lt-or-le}
 use Rattle.rules.proofs.Each.{Each, each-append}

@@ -6,7 +6,6 @@ use mathlib.Core.Bool.{true, false, xor}
 use mathlib.Core.List.{List, [], _∷_}
 use native.Mathlib.Omega.{arith}
 use lib.ListN.{replicate}
-use Rattle.rules.specs.declared.Node.{Node}
 use Rattle.rules.specs.declared.NodeRecord.{NodeRecord}
 use Rattle.rules.specs.Lists.{tabulate}
 use Rattle.rules.specs.Records.{most-nodes, bits}

@@ -1,5 +1,5 @@
 -- `checker::refused` meets its contract: of no records, no node is marked. Assumes nothing.
-use mathlib.Core.Path.{refl, _∙_}
+use mathlib.Core.Path.{refl}
 use borrow.Author.Needs.{needs}
 use Rattle.rules.specs.Families.{marks, layerMarks}
 use Rattle.marks.specs.Marks.{marksOf}

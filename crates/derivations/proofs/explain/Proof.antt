@@ -3,7 +3,6 @@ use Prim.Native.Nat.{ℕ}
 use mathlib.Core.Path.{_≡_, refl, sym, _∙_}
 use mathlib.Core.Bool.{true}
 use mathlib.Core.List.{List, _++_}
-use native.Mathlib.Omega.{arith}
 use borrow.Author.Needs.{needs}
 use borrow.Author.Tests.{not-true, not-false}
 use lib.ListN.{length, drop, length-replicate}
@@ -12,8 +11,8 @@ use Rattle.rules.specs.Families.{families}
 use Rattle.rules.specs.Checks.{most-work}
 use Rattle.rules.specs.Slices.{workBytes}
 use Rattle.netlists.specs.declared.Netlist.{Netlist}
-use Rattle.netlists.specs.Netlists.{flatOf, Formed, Ready}
-use Rattle.netlists.proofs.Netlists.{few-nodes}
+use Rattle.netlists.specs.Netlists.{flatOf, Formed}
+use Rattle.netlists.proofs.Netlists.{all-ready}
 use Rattle.derivation_rules.specs.Derivations.{inFamily, derived}
 use Rattle.derivations.specs.Written.{Known}
 use Rattle.derivations.proofs.Known.{claim-held}
@@ -22,9 +21,6 @@ use Rattle.derivations.proofs.explain.Statement.{statement}
 use Rattle.derivations.proofs.explain.Tie as tie
 
 module _ {value : Netlist} (f : Formed value) where
-  ready : (k : ℕ) → k ≡ most-work → Ready value k
-  ready k e = record { formed = f; room = omega (arith, few-nodes f) }
-
   -- once the families of all nodes are written, they are known
   all-known : (before work : List ℕ) → length work ≡ most-work
       → ((n : R.Netlist) → value ≡ flatOf n → work ≡ workBytes (families n) ++ drop (length (workBytes (families n))) before) → Known value work
@@ -34,7 +30,7 @@ slice-aggregate-all-families : tie.Need-slice-aggregate-all-families
 slice-aggregate-all-families c = search needs
 
 all-families-requires : tie.Need-all-families-requires
-all-families-requires c κs = ready (c .before .before .pre .0) _ (length-replicate {A = ℕ} most-work 0)
+all-families-requires c κs = all-ready (c .before .before .pre .0) _ (length-replicate {A = ℕ} most-work 0)
 
 slice-aggregate-in-family : tie.Need-slice-aggregate-in-family
 slice-aggregate-in-family c = search needs

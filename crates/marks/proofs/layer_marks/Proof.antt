@@ -1,11 +1,11 @@
 -- `marks::layer_marks` meets its contract. The loop's invariant: the nodes below `from` are marked, and no other. The measure is what is left of
 -- them. Assumes nothing.
-use Prim.Native.Nat.{_-_, _≤_, _<_}
+use Prim.Native.Nat.{_-_, _≤_}
 use mathlib.Core.Path.{_≡_, sym, ap, _∙_}
 use native.Mathlib.Omega.{arith}
 use borrow.Author.Needs.{needs}
 use denote.Ref.{now}
-use lib.ListN.{length, take, replicate}
+use lib.ListN.{take}
 use lib.Seq.{take-all}
 use Rattle.rules.specs.Records as Records
 use Rattle.rules.specs.Records.{most-nodes}

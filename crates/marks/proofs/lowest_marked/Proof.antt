@@ -1,7 +1,7 @@
 -- `marks::lowest_marked` meets its contract. The loop's invariant: the nodes passed have no mark. The measure is what is left of them. Assumes
 -- nothing.
 use Prim.Native.Nat.{ℕ, _-_, _≤_, _<_}
-use mathlib.Core.Path.{_≡_, refl, sym, ap, _∙_}
+use mathlib.Core.Path.{_≡_, sym, ap, _∙_}
 use mathlib.Core.Logic.{⊎-elim}
 use mathlib.Core.List.{List, map}
 use mathlib.Core.Option.{none}
@@ -9,9 +9,8 @@ use native.Mathlib.Nat.{zero-add}
 use native.Mathlib.Omega.{arith}
 use borrow.Author.Count.{below-more}
 use borrow.Author.Needs.{needs}
-use lib.ListN.{length, getD, take, length-take, List·getD-eq-default}
+use lib.ListN.{getD, take, length-take, List·getD-eq-default}
 use lib.Seq.{getD-take}
-use Rattle.rules.specs.Families.{suspectAt}
 use Rattle.rules.specs.Slices.{markOf}
 use Rattle.rules.proofs.Tests.{lt-or-le}
 use Rattle.rules.proofs.Marks.{mark-read}

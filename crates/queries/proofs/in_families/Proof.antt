@@ -12,17 +12,14 @@ use Rattle.rules.specs.Records.{Netlist}
 use Rattle.rules.specs.Families.{families, familiesAt}
 use Rattle.rules.specs.Slices.{workBytes}
 use Rattle.netlists.specs.declared.Netlist as Value
-use Rattle.netlists.specs.Netlists.{flatOf, Formed, Ready}
-use Rattle.netlists.proofs.Netlists.{value-count, few-nodes, well-formed}
+use Rattle.netlists.specs.Netlists.{flatOf, Formed}
+use Rattle.netlists.proofs.Netlists.{value-count, few-nodes, all-ready, well-formed}
 use Rattle.families.specs.Parts.{familyAt}
 use Rattle.families.proofs.Work.{settled-there, glitch-there}
 use Rattle.queries.proofs.in_families.Statement.{statement}
 use Rattle.queries.proofs.in_families.Tie as tie
 
 module _ {value : Value.Netlist} (f : Formed value) where
-  ready : (k : ℕ) → k ≡ most-work → Ready value k
-  ready k e = record { formed = f; room = omega (arith, few-nodes f) }
-
   -- a node's parts are there
   has-part : (k i part : ℕ) → i < value .count → part ≤ 2 * i + 1 → most-work ≡ k → 128 * part + 128 ≤ k
   has-part k i part h l e = omega (arith, few-nodes f)
@@ -40,7 +37,7 @@ slice-aggregate-all-families : tie.Need-slice-aggregate-all-families
 slice-aggregate-all-families c = search needs
 
 all-families-requires : tie.Need-all-families-requires
-all-families-requires c κs = ready (c .before .pre .0) _ (length-replicate {A = ℕ} most-work 0)
+all-families-requires c κs = all-ready (c .before .pre .0) _ (length-replicate {A = ℕ} most-work 0)
 
 slice-aggregate-holds : tie.Need-slice-aggregate-holds
 slice-aggregate-holds c = search needs
