@@ -3,18 +3,19 @@
 //
 // Standard input has one case a line: a command with its numbers, a block and the case's name, with colons between them.
 //
-//     check ENTRIES BYTES : BLOCK : NAME    the reply, and from where on the node entries and the work bytes are as they were
+//     check ENTRIES BYTES : BLOCK : NAME    the reply, from where on the node entries and the work bytes are as they were, and each marked
+//                                           node with its settled and its glitch mark, 0 for none
 //     pairs LIMIT ENTRIES BYTES : BLOCK : NAME    the same with two probes, where at most so many pairs are looked at
 //     ask NODE NUMBER : BLOCK : NAME        all three queries, with the number as assignment and as set
 //     value NODE NUMBER : BLOCK             the settled value alone
 //     points NODE : BLOCK                   the points that feed a node alone
 //     list BYTES : BLOCK : NAME             the listing, its length, and from where on the text is as it was
-//     node NODE : BLOCK : NAME              the reply, the node's record and its two families, set by set
+//     node NODE : BLOCK : NAME              the reply, the node's record with its two marks, and its two families, set by set
 //     derive NODE LAYER SET BYTES : BLOCK : NAME    the reply, the first steps of the derivation, each as node, layer, rule and set, and from
 //                                           where on the slice is as it was
 //     edits ENTRIES BYTES : BLOCK : EDITS : NAME    the block is opened in slices that hold every block, then each edit is made in slices
 //                                           of these lengths; of the opening and of each edit the reply, how many variables and nodes the
-//                                           state then has, and from where to where entries and work bytes change
+//                                           state then has, from where to where entries and work bytes change, and each marked node as above
 //
 // A block is written in hexadecimal digits, with a blank before each record; `200*020000` is a record 200 times. A number is
 // decimal: at most 200 ENTRIES, 51200 BYTES of work, 3654 of text and 2565 of steps, and any usize elsewhere. A line that starts with `=` is
@@ -39,7 +40,7 @@ use report::MOST_TEXT;
 use rules::MOST_NODES;
 use rules::MOST_VARIABLES;
 use rules::MOST_WORK;
-use rules::Node;
+use rules::NodeRecord;
 use rules::QueryOutcome;
 use tools::least;
 use tools::print;
@@ -49,6 +50,7 @@ use tools::print_counts;
 use tools::print_number;
 use tools::print_refusal;
 use tools::print_reply;
+use tools::same_record;
 
 // The most bytes of standard input, and of a block.
 const MOST_INPUT: usize = 65536;
@@ -89,6 +91,26 @@ fn print_marks(marks: [bool; MOST_NODES]) {
     while i < MOST_NODES {
         if marks[i] {
             print_number(i);
+        }
+        i += 1;
+    }
+}
+
+// A node that is marked, with its settled and its glitch mark, 0 for none.
+fn print_mark(i: usize, held: NodeRecord) {
+    print_counts(
+        b", marked###",
+        &[i, held.settled as usize, held.glitch as usize],
+    );
+}
+
+// The marked ones of the first `count` nodes.
+fn print_marked(nodes: [NodeRecord; MOST_NODES], count: usize) {
+    let mut i = 0;
+    while i < MOST_NODES {
+        let held = nodes[i];
+        if (i < count) & ((held.settled != 0) | (held.glitch != 0)) {
+            print_mark(i, held);
         }
         i += 1;
     }
@@ -264,7 +286,7 @@ fn put_block(bytes: &mut [u8; MOST_BLOCK], words: &[u8]) -> usize {
 // ---- commands: what each prints behind the case's name, but the last line feed
 
 // Checks a block over so many entries and this work slice: prints the reply, and gives all entries.
-fn reply_to(bytes: &[u8], entries: usize, work: &mut [u8]) -> [Node; MOST_NODES] {
+fn reply_to(bytes: &[u8], entries: usize, work: &mut [u8]) -> [NodeRecord; MOST_NODES] {
     let seen = trial::check_over(bytes, entries, trial::entry_before(), work);
     let reply = seen.reply;
     let nodes = seen.nodes;
@@ -282,6 +304,7 @@ fn check(bytes: &[u8], entries: usize, room: usize)
     let nodes = reply_to(bytes, entries, work);
     let from = trial::entries_kept_from(nodes);
     print_counts(b", kept from# and#", &[from, trial::work_kept_from(work)]);
+    print_marked(nodes, from);
 }
 
 // What a search over pairs found, and how many it looked at.
@@ -322,6 +345,7 @@ fn check_pairs(bytes: &[u8], limit: usize, entries: usize, room: usize)
     print_pairs(reply);
     let from = trial::entries_kept_from(nodes);
     print_counts(b", kept from# and#", &[from, trial::work_kept_from(work)]);
+    print_marked(nodes, from);
 }
 
 fn value(bytes: &[u8], node: usize, assignment: usize) {
@@ -376,16 +400,19 @@ fn list(bytes: &[u8], room: usize)
     print_listing(text, length);
 }
 
-fn print_node(i: usize, node: Node) {
+fn print_node(i: usize, held: NodeRecord) {
+    let node = held.node;
     print_byte(b'\n');
     print_counts(
-        b"node# kind# operands## set#",
+        b"node# kind# operands## set# marks##",
         &[
             i,
             node.kind as usize,
             node.first as usize,
             node.second as usize,
             node.set as usize,
+            held.settled as usize,
+            held.glitch as usize,
         ],
     );
 }
@@ -478,7 +505,7 @@ fn derive(bytes: &[u8], node: usize, layer: usize, set: usize, room: usize)
 // A block that is open: its state, and what both slices hold.
 struct Desk {
     state: State,
-    nodes: [Node; MOST_NODES],
+    nodes: [NodeRecord; MOST_NODES],
     work: [u8; MOST_WORK],
 }
 
@@ -505,16 +532,11 @@ fn with_place(span: Span, k: usize, changes: bool) -> Span
     }
 }
 
-fn entries_span(before: [Node; MOST_NODES], after: [Node; MOST_NODES]) -> Span {
+fn entries_span(before: [NodeRecord; MOST_NODES], after: [NodeRecord; MOST_NODES]) -> Span {
     let mut span = Span { from: 0, to: 0 };
     let mut i = 0;
     while i < MOST_NODES {
-        let a = before[i];
-        let b = after[i];
-        let kept = (a.kind == b.kind)
-            & (a.first == b.first)
-            & (a.second == b.second)
-            & (a.set == b.set);
+        let kept = same_record(before[i], after[i]);
         span = with_place(span, i, !kept);
         i += 1;
     }
@@ -554,6 +576,7 @@ fn print_edited(before: Desk, seen: SeenEdit, work: [u8; MOST_WORK]) -> Desk {
             bytes.to,
         ],
     );
+    print_marked(nodes, state.count);
     Desk { state, nodes, work }
 }
 

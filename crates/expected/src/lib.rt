@@ -1,11 +1,11 @@
-// What a check of a block is to give, as the second checker sees it: the refusal or the answer, the node records, the families in the
-// work bytes, and what a search over pairs finds; and how long the lent slices are, and the limit on pairs. For test programs.
+// What a check of a block is to give, as the second checker sees it: the refusal or the answer, the node records with their marks, the families
+// in the work bytes, and what a search over pairs finds; and how long the lent slices are, and the limit on pairs. For test programs.
 use generator::least;
 use generator::next;
 use generator::pick;
 use rules::Answer;
 use rules::Half;
-use rules::Node;
+use rules::NodeRecord;
 use second::Block;
 use second::FirstPair;
 use second::LISTS;
@@ -16,6 +16,9 @@ use second::first_suspect;
 use second::length_of;
 use second::number_if;
 use second::set_at;
+use std::num::wrapping_add_usize;
+use tools::one_if;
+use tools::same_record;
 
 pub mod written;
 
@@ -103,22 +106,66 @@ pub fn same_answer(answer: Answer, block: Block, settled: usize, glitch: usize) 
         & (half_number(glitch_half) == glitch)
 }
 
-// Whether the first `written` entries are the block's.
-pub fn same_entries(nodes: [Node; 200], block: Block, written: usize) -> bool {
+// ---- node records
+
+// Whether the first `written` of two slices' entries are the same, marks included.
+pub fn same_entries(a: [NodeRecord; 200], b: [NodeRecord; 200], written: usize) -> bool {
     let mut same = true;
     let mut i = 0;
     while i < 200 {
-        let a = nodes[i];
-        let b = block.nodes[i];
-        let alike = (a.kind == b.kind)
-            & (a.first == b.first)
-            & (a.second == b.second)
-            & (a.set == b.set);
-        same = same & (alike | (i >= written));
+        same = same & (same_record(a[i], b[i]) | (i >= written));
         i += 1;
     }
     same
 }
+
+// How many nodes are marked for settled signals, for glitching ones, and for these alone; how many have two marks that differ; and how many
+// registers are marked.
+pub struct Marked {
+    pub settled: usize,
+    pub glitch: usize,
+    pub glitch_alone: usize,
+    pub unlike: usize,
+    pub registers: usize,
+}
+
+// What was counted, with a node.
+fn with_marks(marked: Marked, held: NodeRecord) -> Marked {
+    let node = held.node;
+    let settled = held.settled != 0;
+    let glitch = held.glitch != 0;
+    Marked {
+        settled: wrapping_add_usize(marked.settled, one_if(settled)),
+        glitch: wrapping_add_usize(marked.glitch, one_if(glitch)),
+        glitch_alone: wrapping_add_usize(marked.glitch_alone, one_if(glitch & !settled)),
+        unlike: wrapping_add_usize(
+            marked.unlike,
+            one_if(glitch & settled & (held.settled != held.glitch)),
+        ),
+        registers: wrapping_add_usize(marked.registers, one_if(glitch & (node.kind == 7))),
+    }
+}
+
+// The nodes from `from` on and below `to`, counted by their marks.
+pub fn marked_of(records: [NodeRecord; 200], from: usize, to: usize) -> Marked {
+    let mut marked = Marked {
+        settled: 0,
+        glitch: 0,
+        glitch_alone: 0,
+        unlike: 0,
+        registers: 0,
+    };
+    let mut i = 0;
+    while i < 200 {
+        if (from <= i) & (i < to) {
+            marked = with_marks(marked, records[i]);
+        }
+        i += 1;
+    }
+    marked
+}
+
+// ---- families
 
 // Takes the sets of a list out of its family in the work bytes. A set that is not there goes in.
 fn take_out(work: &mut Work, store: &Store, list: usize) {

@@ -1,17 +1,19 @@
 // Compares the checker and the queries with the second checker over random blocks, valid and damaged, in slices of many
-// lengths: replies with number and place, node records, families, what lies beyond them, and the three queries. Prints what it
-// saw, and how often a reply, a slice or a query differs.
+// lengths: replies with number and place, node records with their marks, families, what lies beyond them, and the three queries.
+// Prints what it saw, and how often a reply, a slice or a query differs.
 use expected::Expected;
 use expected::Lent;
 use expected::Work;
 use expected::expected_check;
 use expected::families_differ;
 use expected::lengths_for;
+use expected::marked_of;
 use expected::same_answer;
 use expected::same_entries;
 use generator::Shape;
 use generator::next;
 use generator::pick;
+use rules::Node;
 use rules::QueryOutcome;
 use rules::Reply;
 use second::Block;
@@ -24,7 +26,7 @@ use tools::print_counts;
 const BLOCKS: usize = 4000;
 
 // What was seen: counts, in the order of the names that `run` prints.
-type Tally = [usize; 38];
+type Tally = [usize; 48];
 
 // The checks answered, and behind them those refused with 1 to 11.
 const CHECKS: usize = 1;
@@ -48,16 +50,35 @@ const LOWER: usize = 20;
 
 const TIES: usize = 21;
 
+// The nodes that are marked for settled signals, for glitching ones, and for these alone; those with two marks that differ; the registers that are
+// marked; and the inputs whose set is suspect, which have no mark.
+const SETTLED_MARKS: usize = 22;
+
+const GLITCH_MARKS: usize = 23;
+
+const GLITCH_ALONE: usize = 24;
+
+const UNLIKE: usize = 25;
+
+const REGISTERS: usize = 26;
+
+const BARE_INPUTS: usize = 27;
+
+// Of the blocks, for each layer, the most marked nodes of one, and how many have several.
+const MOST_MARKS: usize = 28;
+
+const SEVERAL_MARKS: usize = 30;
+
 // The queries answered, and behind them those refused with 1 to 9, 12 and 13.
-const QUERIES: usize = 22;
+const QUERIES: usize = 32;
 
-const VALUES: usize = 34;
+const VALUES: usize = 44;
 
-const POINTS: usize = 35;
+const POINTS: usize = 45;
 
-const MEMBERS: usize = 36;
+const MEMBERS: usize = 46;
 
-const DIFFERENCES: usize = 37;
+const DIFFERENCES: usize = 47;
 
 // The generator's state, and what was seen.
 struct State {
@@ -66,7 +87,7 @@ struct State {
 }
 
 fn count(tally: &mut Tally, at: usize, more: usize) {
-    tally[at % 38] = wrapping_add_usize(tally[at % 38], more);
+    tally[at % 48] = wrapping_add_usize(tally[at % 48], more);
 }
 
 // ---- the check
@@ -126,6 +147,47 @@ fn count_answer(tally: &mut Tally, block: Block, store: &Store) {
     }
 }
 
+// Whether a node is an input whose own set is suspect.
+fn is_bare(node: Node, secrets: usize, masks: usize) -> bool {
+    let set = node.set as usize;
+    (node.kind == 2) & (set & secrets != 0) & (set & masks == 0)
+}
+
+// Counts the inputs whose set is suspect.
+fn count_inputs(tally: &mut Tally, block: Block) {
+    let secrets = block.classes[0];
+    let masks = block.classes[1];
+    let mut i = 0;
+    while i < 200 {
+        let bare = is_bare(block.nodes[i], secrets, masks);
+        count(tally, BARE_INPUTS, one_if(bare & (i < block.count)));
+        i += 1;
+    }
+}
+
+// Counts a block with so many marked nodes in a layer.
+fn count_layer(tally: &mut Tally, layer: usize, marks: usize) {
+    let most = MOST_MARKS + layer % 2;
+    count(tally, SEVERAL_MARKS + layer % 2, one_if(marks > 1));
+    if marks > tally[most] {
+        tally[most] = marks;
+    }
+}
+
+// Counts the marks of an answered block.
+fn count_marks(tally: &mut Tally, block: Block, store: &Store) {
+    let records = second::records_of(block, store);
+    let marked = marked_of(records, 0, block.count);
+    count(tally, SETTLED_MARKS, marked.settled);
+    count(tally, GLITCH_MARKS, marked.glitch);
+    count(tally, GLITCH_ALONE, marked.glitch_alone);
+    count(tally, UNLIKE, marked.unlike);
+    count(tally, REGISTERS, marked.registers);
+    count_inputs(tally, block);
+    count_layer(tally, 0, marked.settled);
+    count_layer(tally, 1, marked.glitch);
+}
+
 // Compares the check of a block over so many entries and these work bytes. Tells whether it is to be answered.
 fn compare_check(
     tally: &mut Tally,
@@ -138,13 +200,14 @@ fn compare_check(
     let expected = expected_check(block, lent);
     let settled = second::first_suspect(block, store, 0);
     let glitch = second::first_suspect(block, store, 1);
+    let records = second::records_of(block, store);
     let seen = trial::check_over(bytes, lent.entries, trial::entry_before(), work);
     let reply = seen.reply;
     let nodes = seen.nodes;
     let answered = expected.number == 0;
     let written = number_if(answered, block.count % 256);
     let same = same_reply(reply, expected, block, settled, glitch)
-        & same_entries(nodes, block, written)
+        & same_entries(nodes, records, written)
         & (trial::entries_kept_from(nodes) <= written)
         & (trial::work_kept_from(work) <= 256 * written);
     count(tally, CHECKS + expected.number % 12, 1);
@@ -305,6 +368,7 @@ fn compare_block(tally: &mut Tally, seed: u32, bytes: &[u8]) -> u32 {
     let answered = compare_check(tally, bytes, block, &store, lent, &mut work[..m]);
     if answered {
         count_answer(tally, block, &store);
+        count_marks(tally, block, &store);
         let differ = families_differ(&mut work, &store, block.count);
         count(tally, DIFFERENCES, one_if(differ));
     }
@@ -328,7 +392,7 @@ fn one_block(state: State, turn: usize) -> State {
 
 fn print_tally(tally: Tally) {
     print_counts(
-        b"blocks\nanswered\nchecks refused with 1:\nchecks refused with 2:\nchecks refused with 3:\nchecks refused with 4:\nchecks refused with 5:\nchecks refused with 6:\nchecks refused with 7:\nchecks refused with 8:\nchecks refused with 9:\nchecks refused with 10:\nchecks refused with 11:\nnodes\nsets in their families\nlargest family\nfamilies of more than 100 sets\nsettled suspects\nglitch suspects\nclear for glitches\nreported sets with a lower one suspect\nreported sets with a tie\nqueries answered\nqueries refused with 1:\nqueries refused with 2:\nqueries refused with 3:\nqueries refused with 4:\nqueries refused with 5:\nqueries refused with 6:\nqueries refused with 7:\nqueries refused with 8:\nqueries refused with 9:\nqueries refused with 12:\nqueries refused with 13:\nvalues 1\nfeeding points asked of a node\nmemberships yes\ndifferences\n",
+        b"blocks\nanswered\nchecks refused with 1:\nchecks refused with 2:\nchecks refused with 3:\nchecks refused with 4:\nchecks refused with 5:\nchecks refused with 6:\nchecks refused with 7:\nchecks refused with 8:\nchecks refused with 9:\nchecks refused with 10:\nchecks refused with 11:\nnodes\nsets in their families\nlargest family\nfamilies of more than 100 sets\nsettled suspects\nglitch suspects\nclear for glitches\nreported sets with a lower one suspect\nreported sets with a tie\nnodes marked for settled signals\nnodes marked for glitches\nnodes marked for glitches alone\nnodes with two marks that differ\nregisters marked\ninputs with a suspect set, not marked\nmost settled marks in a block\nmost glitch marks in a block\nblocks with several settled marks\nblocks with several glitch marks\nqueries answered\nqueries refused with 1:\nqueries refused with 2:\nqueries refused with 3:\nqueries refused with 4:\nqueries refused with 5:\nqueries refused with 6:\nqueries refused with 7:\nqueries refused with 8:\nqueries refused with 9:\nqueries refused with 12:\nqueries refused with 13:\nvalues 1\nfeeding points asked of a node\nmemberships yes\ndifferences\n",
         &tally,
     );
 }
@@ -337,7 +401,7 @@ fn print_tally(tally: Tally) {
 pub(crate) fn run() {
     let mut state = State {
         seed: 1,
-        tally: [0; 38],
+        tally: [0; 48],
     };
     let mut turn = 0;
     while turn < BLOCKS {

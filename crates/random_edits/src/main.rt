@@ -1,8 +1,8 @@
-// Random runs of edits over random blocks, some of them refused. After each edit the reply, the state, all node records and all work bytes
-// are compared with a fresh check of the written-out block in the same slices, and after some of them with the second checker; a refusal is
-// compared by number and place, with the state and both slices as they were. The written-out block and the refusals are the second
-// checker's. Where a small block is clear after an edit, mask settings are counted by force. Prints what was seen: every count is above 0
-// but `differences` and `contradictions`, which must be 0.
+// Random runs of edits over random blocks, some of them refused. After each edit the reply, the state, all node records with their marks and all
+// work bytes are compared with a fresh check of the written-out block in the same slices; answer and node records with the second checker's too,
+// and after some edits the families; a refusal is compared by number and place, with the state and both slices as they were. The written-out
+// block and the refusals are the second checker's. Where a small block is clear after an edit, mask settings are counted by force. Prints what
+// was seen: every count is above 0 but `differences` and `contradictions`, which must be 0.
 use check::same;
 use edit_trial::SeenEdit;
 use edits::Edited;
@@ -11,6 +11,7 @@ use expected::Lent;
 use expected::Work;
 use expected::families_differ;
 use expected::half_number;
+use expected::marked_of;
 use expected::same_entries;
 use expected::written::Changed;
 use expected::written::Written;
@@ -24,8 +25,10 @@ use generator::next;
 use generator::pick;
 use open_blocks::Edit;
 use open_blocks::State;
-use rules::Node;
+use rules::NodeRecord;
 use rules::Reply;
+use second::Block;
+use second::Store;
 use second::number_if;
 use std::num::wrapping_add_usize;
 use tools::one_if;
@@ -36,7 +39,7 @@ const BLOCKS: usize = 400;
 const EDITS: usize = 24;
 
 // What was seen: counts, in the order of the names that are printed.
-type Tally = [usize; 24];
+type Tally = [usize; 36];
 
 const RUNS: usize = 0;
 
@@ -51,15 +54,43 @@ const FULL: usize = 17;
 
 const EMPTY: usize = 18;
 
-const AGAINST_SECOND: usize = 19;
+// The edits after which answer and node records are compared with the second checker's; the marks that they leave in each layer, and how many of them
+// leave several there.
+const MARKS_COMPARED: usize = 19;
 
-const DIFFERENCES: usize = 20;
+const SETTLED_MARKS: usize = 20;
 
-const CLEAR_COUNTED: usize = 21;
+const GLITCH_MARKS: usize = 21;
 
-const COUNTS_DIFFER: usize = 22;
+const SEVERAL_SETTLED: usize = 22;
 
-const CONTRADICTIONS: usize = 23;
+const SEVERAL_GLITCH: usize = 23;
+
+// The new nodes that are marked and those that are not; the removals that move a marked node down, and how many nodes these are; the marked nodes
+// that are given up, and those of them that a half of the answer named while there were others; and the marks that refused edits keep.
+const ADDED_MARKED: usize = 24;
+
+const ADDED_UNMARKED: usize = 25;
+
+const MOVING: usize = 26;
+
+const MOVED: usize = 27;
+
+const REMOVED_MARKED: usize = 28;
+
+const REMOVED_FIRST: usize = 29;
+
+const KEPT_MARKS: usize = 30;
+
+const AGAINST_SECOND: usize = 31;
+
+const DIFFERENCES: usize = 32;
+
+const CLEAR_COUNTED: usize = 33;
+
+const COUNTS_DIFFER: usize = 34;
+
+const CONTRADICTIONS: usize = 35;
 
 // Where an edit with this outcome is counted.
 fn place_of(adds: bool, number: usize) -> usize {
@@ -71,13 +102,13 @@ fn place_of(adds: bool, number: usize) -> usize {
 }
 
 fn count(tally: &mut Tally, at: usize, more: usize) {
-    tally[at % 24] = wrapping_add_usize(tally[at % 24], more);
+    tally[at % 36] = wrapping_add_usize(tally[at % 36], more);
 }
 
 // An open block: its state, what both slices hold, and the block written out.
 struct Open {
     state: State,
-    nodes: [Node; 200],
+    nodes: [NodeRecord; 200],
     work: Work,
     written: Written,
 }
@@ -208,30 +239,13 @@ fn same_state(a: State, b: State) -> bool {
     (a.variables == b.variables) & (a.count == b.count) & same(&ours, &theirs)
 }
 
-// Whether all entries are the same.
-fn same_nodes(a: [Node; 200], b: [Node; 200]) -> bool {
-    let mut alike = true;
-    let mut i = 0;
-    while i < 200 {
-        let one = a[i];
-        let other = b[i];
-        alike = alike
-            & (one.kind == other.kind)
-            & (one.first == other.first)
-            & (one.second == other.second)
-            & (one.set == other.set);
-        i += 1;
-    }
-    alike
-}
-
 // Whether an edit, with these work bytes behind it, leaves these numbers, this state, these entries and these work bytes.
 fn leaves(
     seen: SeenEdit,
     work: Work,
     numbers: [usize; 5],
     state: State,
-    nodes: [Node; 200],
+    nodes: [NodeRecord; 200],
     kept: Work,
 ) -> bool {
     let given = seen.edited;
@@ -240,7 +254,7 @@ fn leaves(
     let given_state = given.state;
     same_numbers(reply_numbers(reply), numbers)
         & same_state(given_state, state)
-        & same_nodes(given_nodes, nodes)
+        & same_entries(given_nodes, nodes, 200)
         & same(&work, &kept)
 }
 
@@ -268,16 +282,14 @@ fn is_refused(seen: SeenEdit, work: Work, before: Open, expected: Expected) -> b
     leaves(seen, work, numbers, state, nodes, old_work)
 }
 
-// Compares the answer, the node records and the families with the second checker's. Where the block is small enough, counts mask settings by
-// force: where the glitch half is clear, those of no tested node may differ.
-fn try_second(tally: &mut Tally, seen: SeenEdit, work: Work, written: Written, clear: bool) {
-    let mut store = [0u16; 427024];
-    let mut left = work;
-    let all = bytes_of(written);
-    let n = written.length % 1025;
-    let block = second::work_out(&all[..n], &mut store);
-    let settled = second::first_suspect(block, &store, 0);
-    let glitch = second::first_suspect(block, &store, 1);
+// ---- the second checker
+
+// Compares the answer and the node records with the second checker's, and counts the marks.
+fn try_marks(tally: &mut Tally, seen: SeenEdit, block: Block, store: &Store) {
+    let settled = second::first_suspect(block, store, 0);
+    let glitch = second::first_suspect(block, store, 1);
+    let records = second::records_of(block, store);
+    let marked = marked_of(records, 0, block.count);
     let given = seen.edited;
     let nodes = seen.nodes;
     let reply = given.reply;
@@ -285,17 +297,73 @@ fn try_second(tally: &mut Tally, seen: SeenEdit, work: Work, written: Written, c
         reply_numbers(reply),
         [0, block.variables, block.count, settled, glitch],
     )
-        & same_entries(nodes, block, block.count)
-        & !families_differ(&mut left, &store, block.count);
-    count(tally, AGAINST_SECOND, 1);
+        & same_entries(nodes, records, block.count);
+    count(tally, MARKS_COMPARED, 1);
     count(tally, DIFFERENCES, one_if(!alike));
+    count(tally, SETTLED_MARKS, marked.settled);
+    count(tally, GLITCH_MARKS, marked.glitch);
+    count(tally, SEVERAL_SETTLED, one_if(marked.settled > 1));
+    count(tally, SEVERAL_GLITCH, one_if(marked.glitch > 1));
+}
+
+// Compares the families with the second checker's. Where the block is small enough, counts mask settings by force: where the glitch half is
+// clear, those of no tested node may differ.
+fn try_families(tally: &mut Tally, work: Work, block: Block, store: &Store, clear: bool) {
+    let mut left = work;
+    let differ = families_differ(&mut left, store, block.count);
+    count(tally, AGAINST_SECOND, 1);
+    count(tally, DIFFERENCES, one_if(differ));
     if (block.variables > 5) | (block.count >= counting::NODES) {
         return;
     }
-    let counted = counting::count_pairs(block, &store);
+    let counted = counting::count_pairs(block, store);
     count(tally, CLEAR_COUNTED, one_if(clear));
     count(tally, COUNTS_DIFFER, one_if(counted.lowest == 0));
     count(tally, CONTRADICTIONS, one_if(clear & (counted.lowest == 0)));
+}
+
+// Compares what an edit gave with the second checker's, with the families where that is asked for.
+fn try_second(
+    tally: &mut Tally,
+    seen: SeenEdit,
+    work: Work,
+    written: Written,
+    clear: bool,
+    with_families: bool,
+) {
+    let mut store = [0u16; 427024];
+    let all = bytes_of(written);
+    let n = written.length % 1025;
+    let block = second::work_out(&all[..n], &mut store);
+    try_marks(tally, seen, block, &store);
+    if with_families {
+        try_families(tally, work, block, &store, clear);
+    }
+}
+
+// ---- marks of one node
+
+// Counts a new node, the last of so many, by its mark for glitches, which it has wherever it has one for settled signals.
+fn count_new(tally: &mut Tally, nodes: [NodeRecord; 200], number: usize) {
+    let marked = marked_of(nodes, number - least(number, 1), number);
+    count(tally, ADDED_MARKED, marked.glitch);
+    count(tally, ADDED_UNMARKED, one_if(marked.glitch == 0));
+}
+
+// Counts a node that goes, of so many, by its mark for glitches and those of the nodes around it.
+fn count_gone(tally: &mut Tally, nodes: [NodeRecord; 200], gone: usize, number: usize) {
+    let behind = gone % 256 + 1;
+    let lower = marked_of(nodes, 0, gone);
+    let itself = marked_of(nodes, gone, behind);
+    let higher = marked_of(nodes, behind, number);
+    count(tally, MOVING, one_if(higher.glitch > 0));
+    count(tally, MOVED, higher.glitch);
+    count(tally, REMOVED_MARKED, itself.glitch);
+    count(
+        tally,
+        REMOVED_FIRST,
+        one_if((lower.glitch == 0) & (itself.glitch > 0) & (higher.glitch > 0)),
+    );
 }
 
 // ---- one edit, and a run of them
@@ -318,14 +386,15 @@ fn edit_of(asked: Asked) -> Edit {
     Edit::Remove(asked.node)
 }
 
-// Counts an edit that is made, whether it leaves what a fresh check does, and compares it with the second checker where that is asked for.
+// Counts an edit that is made, whether it leaves what a fresh check does, and compares it with the second checker, families included where that is
+// asked for.
 fn count_made(
     tally: &mut Tally,
     seen: SeenEdit,
     work: Work,
     written: Written,
     fresh: bool,
-    with_second: bool,
+    with_families: bool,
 ) {
     let edited = seen.edited;
     let reply = edited.reply;
@@ -336,13 +405,11 @@ fn count_made(
     count(tally, CLEAR, one_if(clear));
     count(tally, FULL, one_if(state.count == 200));
     count(tally, EMPTY, one_if(state.count == 0));
-    if with_second {
-        try_second(tally, seen, work, written, clear);
-    }
+    try_second(tally, seen, work, written, clear, with_families);
 }
 
-// Makes an edit and compares what it gives, with the second checker too where that is asked for. Gives the block after it.
-fn try_edit(tally: &mut Tally, open: Open, asked: Asked, with_second: bool) -> Open {
+// Makes an edit and compares what it gives, the families with the second checker's too where that is asked for. Gives the block after it.
+fn try_edit(tally: &mut Tally, open: Open, asked: Asked, with_families: bool) -> Open {
     let state = open.state;
     let nodes = open.nodes;
     let written = open.written;
@@ -365,6 +432,8 @@ fn try_edit(tally: &mut Tally, open: Open, asked: Asked, with_second: bool) -> O
     let edited = seen.edited;
     count(tally, place_of(asked.adds, expected.number), 1);
     if expected.number > 0 {
+        let kept = marked_of(nodes, 0, state.count);
+        count(tally, KEPT_MARKS, kept.glitch);
         count(
             tally,
             DIFFERENCES,
@@ -373,9 +442,14 @@ fn try_edit(tally: &mut Tally, open: Open, asked: Asked, with_second: bool) -> O
         return open;
     }
     let fresh = is_fresh(seen, work, open, next_written, lent);
-    count_made(tally, seen, work, next_written, fresh, with_second);
+    count_made(tally, seen, work, next_written, fresh, with_families);
     let next_state = edited.state;
     let next_nodes = seen.nodes;
+    if asked.adds {
+        count_new(tally, next_nodes, next_state.count);
+    } else {
+        count_gone(tally, nodes, asked.node, state.count);
+    }
     Open {
         state: next_state,
         nodes: next_nodes,
@@ -462,13 +536,13 @@ fn run(tally: &mut Tally, seed: u32, turn: usize) -> u32 {
 
 fn print_tally(tally: Tally) {
     print_counts(
-        b"runs\nnodes added\nadditions refused with 1:\nadditions refused with 3:\nadditions refused with 4:\nadditions refused with 6:\nadditions refused with 7:\nadditions refused with 8:\nadditions refused with 9:\nadditions refused with 10:\nadditions refused with 11:\nnodes removed\nremovals refused with 10:\nremovals refused with 11:\nremovals refused with 12:\nremovals refused with 14:\nclear for glitches after an edit\nfull after an edit\nempty after an edit\nedits compared with the second checker\ndifferences\nclear blocks counted by force\nblocks whose counts differ\ncontradictions\n",
+        b"runs\nnodes added\nadditions refused with 1:\nadditions refused with 3:\nadditions refused with 4:\nadditions refused with 6:\nadditions refused with 7:\nadditions refused with 8:\nadditions refused with 9:\nadditions refused with 10:\nadditions refused with 11:\nnodes removed\nremovals refused with 10:\nremovals refused with 11:\nremovals refused with 12:\nremovals refused with 14:\nclear for glitches after an edit\nfull after an edit\nempty after an edit\nedits whose answer and marks are compared with the second checker\nsettled marks after them\nglitch marks after them\nedits that leave several settled marks\nedits that leave several glitch marks\nadded nodes that are marked\nadded nodes that are not\nremovals below a marked node\nmarked nodes that move down\nmarked nodes removed\nof those the first of several\nmarked nodes that a refused edit keeps\nedits compared with the second checker\ndifferences\nclear blocks counted by force\nblocks whose counts differ\ncontradictions\n",
         &tally,
     );
 }
 
 fn main() {
-    let mut tally = [0usize; 24];
+    let mut tally = [0usize; 36];
     let mut seed = 1;
     let mut turn = 0;
     while turn < BLOCKS {

@@ -1,6 +1,6 @@
 // Compares the checker with two probes with the second checker over random blocks, valid and damaged, in slices of many lengths and
 // under many limits: replies with number and place, the answer for one probe, what the search over pairs finds and how many it
-// looks at, node records, families, and what lies beyond them. Prints what it saw, and how often a reply or a slice differs.
+// looks at, node records with their marks, families, and what lies beyond them. Prints what it saw, and how often a reply or a slice differs.
 use expected::Expected;
 use expected::Lent;
 use expected::NO_PAIR;
@@ -14,6 +14,7 @@ use expected::expected_check;
 use expected::families_differ;
 use expected::half_number;
 use expected::lengths_for;
+use expected::marked_of;
 use expected::same_answer;
 use expected::same_entries;
 use expected::seek;
@@ -34,7 +35,7 @@ use tools::print_counts;
 const BLOCKS: usize = 2000;
 
 // What was seen: counts, in the order of the names that are printed.
-pub(crate) type Tally = [usize; 26];
+pub(crate) type Tally = [usize; 29];
 
 // The checks answered, and behind them those refused with 1 to 11.
 const CHECKS: usize = 1;
@@ -61,7 +62,14 @@ const LOWER: usize = 23;
 
 const TIES: usize = 24;
 
-const DIFFERENCES: usize = 25;
+// The nodes that are marked for settled signals, for glitching ones, and for these alone.
+const SETTLED_MARKS: usize = 25;
+
+const GLITCH_MARKS: usize = 26;
+
+const GLITCH_ALONE: usize = 27;
+
+const DIFFERENCES: usize = 28;
 
 // The generator's state, and what was seen.
 pub(crate) struct State {
@@ -70,7 +78,7 @@ pub(crate) struct State {
 }
 
 pub(crate) fn count(tally: &mut Tally, at: usize, more: usize) {
-    tally[at % 26] = wrapping_add_usize(tally[at % 26], more);
+    tally[at % 29] = wrapping_add_usize(tally[at % 29], more);
 }
 
 // ---- the search over pairs
@@ -154,6 +162,15 @@ fn same_reply(
     }
 }
 
+// Counts the marks of an answered block.
+fn count_marks(tally: &mut Tally, block: Block, store: &Store) {
+    let records = second::records_of(block, store);
+    let marked = marked_of(records, 0, block.count);
+    count(tally, SETTLED_MARKS, marked.settled);
+    count(tally, GLITCH_MARKS, marked.glitch);
+    count(tally, GLITCH_ALONE, marked.glitch_alone);
+}
+
 // Compares the check of a block over so many entries and these work bytes. Tells whether it is to be answered.
 fn compare_check(
     tally: &mut Tally,
@@ -166,6 +183,7 @@ fn compare_check(
 ) -> bool {
     let expected = expected_check(block, lent);
     let settled = second::first_suspect(block, store, 0);
+    let records = second::records_of(block, store);
     let before = trial::entry_before();
     let seen = trial::check_pairs_over(bytes, lent.entries, before, work, sought.limit);
     let reply = seen.reply;
@@ -173,7 +191,7 @@ fn compare_check(
     let answered = expected.number == 0;
     let written = number_if(answered, block.count % 256);
     let same = same_reply(reply, expected, block, settled, sought)
-        & same_entries(nodes, block, written)
+        & same_entries(nodes, records, written)
         & (trial::entries_kept_from(nodes) <= written)
         & (trial::work_kept_from(work) <= 256 * written);
     count(tally, CHECKS + expected.number % 12, 1);
@@ -252,6 +270,7 @@ fn compare_block(tally: &mut Tally, seed: u32, bytes: &[u8]) -> u32 {
     let answered = compare_check(tally, bytes, block, &store, lent, sought, &mut work[..m]);
     if answered {
         count_search(tally, sought);
+        count_marks(tally, block, &store);
         let differ = families_differ(&mut work, &store, block.count);
         count(tally, DIFFERENCES, one_if(differ));
     }
@@ -272,7 +291,7 @@ fn one_block(state: State, turn: usize) -> State {
 
 fn print_tally(tally: Tally) {
     print_counts(
-        b"blocks\nanswered\nchecks refused with 1:\nchecks refused with 2:\nchecks refused with 3:\nchecks refused with 4:\nchecks refused with 5:\nchecks refused with 6:\nchecks refused with 7:\nchecks refused with 8:\nchecks refused with 9:\nchecks refused with 10:\nchecks refused with 11:\nsingle suspects\nno pair\npairs found\nlimit spent\nno pair to look at\npairs looked at\nhighest position\nlimit just the position\nlimit one below it\nlimit just the number of pairs\nsets of pairs with a lower one suspect\nsets of pairs with a tie\ndifferences\n",
+        b"blocks\nanswered\nchecks refused with 1:\nchecks refused with 2:\nchecks refused with 3:\nchecks refused with 4:\nchecks refused with 5:\nchecks refused with 6:\nchecks refused with 7:\nchecks refused with 8:\nchecks refused with 9:\nchecks refused with 10:\nchecks refused with 11:\nsingle suspects\nno pair\npairs found\nlimit spent\nno pair to look at\npairs looked at\nhighest position\nlimit just the position\nlimit one below it\nlimit just the number of pairs\nsets of pairs with a lower one suspect\nsets of pairs with a tie\nnodes marked for settled signals\nnodes marked for glitches\nnodes marked for glitches alone\ndifferences\n",
         &tally,
     );
 }
@@ -281,7 +300,7 @@ fn print_tally(tally: Tally) {
 pub(crate) fn run() {
     let mut state = State {
         seed: 1,
-        tally: [0; 26],
+        tally: [0; 29],
     };
     let mut turn = 0;
     while turn < BLOCKS {

@@ -96,7 +96,7 @@ fn print_tally(tally: Tally) {
 pub(crate) fn run() {
     let mut state = State {
         seed: 1,
-        tally: [0; 26],
+        tally: [0; 29],
     };
     let mut turn = 0;
     while turn < BLOCKS {

@@ -1,13 +1,14 @@
 // A second checker, to compare the first with. It shares nothing with it but the record types, and goes about each
 // task another way: a file is read byte by byte, families are lists of set numbers in the order in which the sets arise,
 // all settled families are made before any glitch family, suspects are looked for from the last node down and from the last
-// pair back, no product is made of a pair and its position is a formula, settled values are truth tables over all assignments
-// at once, and feeding points are rows of bits.
+// pair back, every node's marks are worked out by themselves, no product is made of a pair and its position is a formula, settled
+// values are truth tables over all assignments at once, and feeding points are rows of bits.
 //
 // It is tested and not proved right: what is proved of it is that it is safe and ends. For test programs.
 ghost use Prim.Native.Nat.{_<_, _≤_};
 use generator::least;
 use rules::Node;
+use rules::NodeRecord;
 
 // All that is worked out of a block is in one array of numbers. First the lists of sets: list i is the settled family of node i, and list
 // 200 + i its glitch family; then their lengths; then for each set the last list that it went to.
@@ -334,6 +335,45 @@ pub fn first_suspect(block: Block, store: &Store, layer: usize) -> usize {
         }
     }
     found
+}
+
+// The mark of a node whose family is a list: the set that it reports, or 0 where no set is suspect (`NO_SET` leaves 0) or the node is an input.
+fn mark_of(store: &Store, node: Node, list: usize, secrets: usize, masks: usize) -> u16 {
+    let choice = suspect_sets(store, list, 0, secrets, masks);
+    if node.kind == 2 {
+        return 0;
+    }
+    (choice.first % LONGEST) as u16
+}
+
+// The node records of a block, each with its marks in both layers.
+pub fn records_of(block: Block, store: &Store) -> [NodeRecord; 200] {
+    let none = Node {
+        kind: 0,
+        first: 0,
+        second: 0,
+        set: 0,
+    };
+    let mut records = [NodeRecord {
+        node: none,
+        settled: 0,
+        glitch: 0,
+    }; 200];
+    let secrets = block.classes[0];
+    let masks = block.classes[1];
+    let mut i = 0;
+    while i < block.count {
+        let node = block.nodes[i % 200];
+        let settled = mark_of(store, node, i % 200, secrets, masks);
+        let glitch = mark_of(store, node, 200 + i % 200, secrets, masks);
+        records[i % 200] = NodeRecord {
+            node,
+            settled,
+            glitch,
+        };
+        i += 1;
+    }
+    records
 }
 
 // ---- pairs of tested nodes

@@ -1,10 +1,13 @@
-// What the test programs share: counts, and printing.
+// What the test programs share: counts, node records compared, and printing.
 ghost use mathlib.Core.Path.{_≡_};
+ghost use mathlib.Core.Bool.{_&&_};
 ghost use Prim.Native.Nat.{min};
+ghost use lib.Dec.{eqb};
 ghost use Rattle.rules.specs.Lists.{digit};
 use libc::STDOUT_FILENO;
 use rules::Answer;
 use rules::Half;
+use rules::NodeRecord;
 use rules::Refusal;
 use rules::Reply;
 
@@ -18,6 +21,22 @@ pub fn least(a: usize, b: usize) -> usize
     ensures { λ r. ⌜ r ≡ min a b ⌝ }
 {
     if a < b { a } else { b }
+}
+
+// Whether two node records are the same, marks included.
+pub fn same_record(a: NodeRecord, b: NodeRecord) -> bool
+    ensures { λ r. ⌜ r ≡ (eqb (a .node .kind) (b .node .kind) && eqb (a .node .first) (b .node .first)
+        && eqb (a .node .second) (b .node .second) && eqb (a .node .set) (b .node .set)
+        && eqb (a .settled) (b .settled) && eqb (a .glitch) (b .glitch)) ⌝ }
+{
+    let ours = a.node;
+    let theirs = b.node;
+    (ours.kind == theirs.kind)
+        & (ours.first == theirs.first)
+        & (ours.second == theirs.second)
+        & (ours.set == theirs.set)
+        & (a.settled == b.settled)
+        & (a.glitch == b.glitch)
 }
 
 // ---- printing

@@ -13,17 +13,20 @@ abbrev μ-loop : tie.MeasureT-loop
 loop-holds : tie.Need-loop-holds Inv-loop μ-loop
 loop-holds c = search needs
 
-mul-a : tie.Need-mul-a Inv-loop μ-loop
-mul-a c = search needs
+mul-same-record : tie.Need-mul-same-record Inv-loop μ-loop
+mul-same-record c = search needs
 
-array-copy-out-a : tie.Need-array-copy-out-a Inv-loop μ-loop
-array-copy-out-a c = search needs
+array-copy-out-same-record : tie.Need-array-copy-out-same-record Inv-loop μ-loop
+array-copy-out-same-record c = search needs
 
-mul-b : tie.Need-mul-b Inv-loop μ-loop
-mul-b c = search needs
+mul-same-record-2 : tie.Need-mul-same-record-2 Inv-loop μ-loop
+mul-same-record-2 c = search needs
 
-array-copy-out-b : tie.Need-array-copy-out-b Inv-loop μ-loop
-array-copy-out-b c = search needs
+array-copy-out-same-record-2 : tie.Need-array-copy-out-same-record-2 Inv-loop μ-loop
+array-copy-out-same-record-2 c = search needs
+
+same-record-requires : tie.Need-same-record-requires Inv-loop μ-loop
+same-record-requires c κs = search needs
 
 with-place-requires : tie.Need-with-place-requires Inv-loop μ-loop
 with-place-requires c κs = search needs
@@ -47,10 +50,11 @@ entries-span-spec =
     Inv-loop
     μ-loop
     loop-holds
-    mul-a
-    array-copy-out-a
-    mul-b
-    array-copy-out-b
+    mul-same-record
+    array-copy-out-same-record
+    mul-same-record-2
+    array-copy-out-same-record-2
+    same-record-requires
     with-place-requires
     add-i
     loop-less

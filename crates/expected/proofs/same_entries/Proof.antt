@@ -5,25 +5,28 @@ use Rattle.expected.proofs.same_entries.Statement.{statement}
 use Rattle.expected.proofs.same_entries.Tie as tie
 
 abbrev Inv-loop : tie.InvT-loop
-Inv-loop written nodes block same₀ i₀ same i = i ≤ 200
+Inv-loop written a b same₀ i₀ same i = i ≤ 200
 
 abbrev μ-loop : tie.MeasureT-loop
-μ-loop written nodes block same₀ i₀ same i = 200 - i
+μ-loop written a b same₀ i₀ same i = 200 - i
 
 loop-holds : tie.Need-loop-holds Inv-loop μ-loop
 loop-holds c = search needs
 
-mul-a : tie.Need-mul-a Inv-loop μ-loop
-mul-a c = search needs
+mul-same-record : tie.Need-mul-same-record Inv-loop μ-loop
+mul-same-record c = search needs
 
-array-copy-out-a : tie.Need-array-copy-out-a Inv-loop μ-loop
-array-copy-out-a c = search needs
+array-copy-out-same-record : tie.Need-array-copy-out-same-record Inv-loop μ-loop
+array-copy-out-same-record c = search needs
 
-mul-b : tie.Need-mul-b Inv-loop μ-loop
-mul-b c = search needs
+mul-same-record-2 : tie.Need-mul-same-record-2 Inv-loop μ-loop
+mul-same-record-2 c = search needs
 
-element-copy-out-b : tie.Need-element-copy-out-b Inv-loop μ-loop
-element-copy-out-b c = search needs
+array-copy-out-same-record-2 : tie.Need-array-copy-out-same-record-2 Inv-loop μ-loop
+array-copy-out-same-record-2 c = search needs
+
+same-record-requires : tie.Need-same-record-requires Inv-loop μ-loop
+same-record-requires c κs = search needs
 
 add-i : tie.Need-add-i Inv-loop μ-loop
 add-i c = search needs
@@ -44,10 +47,11 @@ same-entries-spec =
     Inv-loop
     μ-loop
     loop-holds
-    mul-a
-    array-copy-out-a
-    mul-b
-    element-copy-out-b
+    mul-same-record
+    array-copy-out-same-record
+    mul-same-record-2
+    array-copy-out-same-record-2
+    same-record-requires
     add-i
     loop-less
     loop-again

@@ -1,6 +1,6 @@
 -- `random_edits::try_edit` is safe: no more bytes are read or lent than there are. Assumes nothing.
-use native.Mathlib.Omega.{arith}
 use mathlib.Core.Path.{sym}
+use native.Mathlib.Omega.{arith}
 use lib.Seq.{length-take-le}
 use borrow.Author.Needs.{needs}
 use Rattle.random_edits.proofs.try_edit.Statement.{statement}
@@ -39,14 +39,20 @@ place-of-requires c κs = search needs
 count-requires : tie.Need-count-requires
 count-requires c κs = search needs
 
+marked-of-requires : tie.Need-marked-of-requires
+marked-of-requires c κs = search needs
+
+count-requires-2 : tie.Need-count-requires-2
+count-requires-2 c κs = search needs
+
 is-refused-requires : tie.Need-is-refused-requires
 is-refused-requires c κs = search needs
 
 one-if-requires : tie.Need-one-if-requires
 one-if-requires c κs = search needs
 
-count-requires-2 : tie.Need-count-requires-2
-count-requires-2 c κs = search needs
+count-requires-3 : tie.Need-count-requires-3
+count-requires-3 c κs = search needs
 
 returns : tie.Need-returns
 returns c = search needs
@@ -57,8 +63,17 @@ is-fresh-requires c κs = search needs
 count-made-requires : tie.Need-count-made-requires
 count-made-requires c κs = search needs
 
+count-new-requires : tie.Need-count-new-requires
+count-new-requires c κs = search needs
+
+count-gone-requires : tie.Need-count-gone-requires
+count-gone-requires c κs = search needs
+
 returns-2 : tie.Need-returns-2
 returns-2 c = search needs
+
+returns-3 : tie.Need-returns-3
+returns-3 c = search needs
 
 pub try-edit-spec : {M : Type 1} → statement M
 try-edit-spec =
@@ -75,10 +90,15 @@ try-edit-spec =
     edit-over-requires
     place-of-requires
     count-requires
+    marked-of-requires
+    count-requires-2
     is-refused-requires
     one-if-requires
-    count-requires-2
+    count-requires-3
     returns
     is-fresh-requires
     count-made-requires
-    returns-2)
+    count-new-requires
+    count-gone-requires
+    returns-2
+    returns-3)

@@ -27,6 +27,9 @@ compare-check-requires c κs = search needs
 count-answer-requires : tie.Need-count-answer-requires
 count-answer-requires c κs = search needs
 
+count-marks-requires : tie.Need-count-marks-requires
+count-marks-requires c κs = search needs
+
 families-differ-requires : tie.Need-families-differ-requires
 families-differ-requires c κs = search needs
 
@@ -65,6 +68,7 @@ compare-block-spec =
     slice-aggregate-compare-check
     compare-check-requires
     count-answer-requires
+    count-marks-requires
     families-differ-requires
     one-if-requires
     count-requires

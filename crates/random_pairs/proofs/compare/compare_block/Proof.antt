@@ -39,6 +39,9 @@ compare-check-requires c κs = search needs
 count-search-requires : tie.Need-count-search-requires
 count-search-requires c κs = search needs
 
+count-marks-requires : tie.Need-count-marks-requires
+count-marks-requires c κs = search needs
+
 families-differ-requires : tie.Need-families-differ-requires
 families-differ-requires c κs = search needs
 
@@ -72,6 +75,7 @@ compare-block-spec =
     slice-aggregate-compare-check
     compare-check-requires
     count-search-requires
+    count-marks-requires
     families-differ-requires
     one-if-requires
     count-requires
