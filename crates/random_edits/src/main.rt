@@ -5,7 +5,6 @@
 // was seen: every count is above 0 but `differences` and `contradictions`, which must be 0.
 use check::same;
 use edit_trial::SeenEdit;
-use edits::Edited;
 use expected::Expected;
 use expected::Lent;
 use expected::Work;
