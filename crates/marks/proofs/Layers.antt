@@ -30,7 +30,7 @@ mark-some zero h = absurd (h refl)
 mark-some (suc A) h = refl
 
 module _ (reports : List (Option ℕ)) where
-  pub flat-length : length reports ≤ most-nodes → length (flatMarks reports) ≡ most-nodes
+  flat-length : length reports ≤ most-nodes → length (flatMarks reports) ≡ most-nodes
   unfolding flatMarks padded
   flat-length h =
       let many = length-map reports markNumber in

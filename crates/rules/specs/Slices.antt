@@ -37,11 +37,6 @@ nodeRecords n =
     (λ i. nodeRecord (getD (n .nodes) i (input 0)) (getD (layerMarks (λ F. F .settled) n) i none) (getD (layerMarks (λ F. F .glitch) n) i none))
     (length (n .nodes))
 
--- what a mark in a record says
-unfoldable pub markOf : ℕ → Option ℕ
-markOf zero = none
-markOf (suc A) = some (suc A)
-
 -- a byte's worth of a family: its lowest bit is for the set A, and n bits in all
 unfoldable pub packed : Family → (A n : ℕ) → ℕ
 packed F A zero = 0
@@ -77,6 +72,11 @@ unfoldable pub reply : List ℕ → (entries work : ℕ) → Outcome Findings
 reply bytes entries work = andThen (admitted bytes entries work) (λ n. answered (findings n))
 
 -- ---- the answer from the marks
+
+-- what a mark in a record says
+unfoldable pub markOf : ℕ → Option ℕ
+markOf zero = none
+markOf (suc A) = some (suc A)
 
 -- what a layer's marks in so many node records say: the lowest marked node with its mark, or clear where there is none
 unfoldable pub lowestMarked : (NodeRecord → ℕ) → (count : ℕ) → List NodeRecord → Finding
