@@ -19,6 +19,7 @@ use Rattle.rules.specs.Demands.{OneProbe}
 use Rattle.rules.proofs.Each.{Each}
 use Rattle.rules.proofs.Blocks.{replyTo, _and_}
 use Rattle.rules.proofs.BlockCounts.{all-zero, p9}
+use Rattle.rules.proofs.BlockOutputs.{fields}
 use Rattle.open_blocks.specs.Edits.{Edit, add, remove, judgedNode, lowered, renumbered, without, withoutNode, names, naming, givenUp, fits, edited, otherwise, netlistAfter, replyAfter, recordsAfter, Block, AsChecked}
 
 -- block A before its last gate
@@ -149,9 +150,6 @@ named-changes = (refl, refl)
 
 -- ---- marks after an edit
 
-abbrev entryOf : (kind first second set settled glitch : ℕ) → NodeRecord
-entryOf k a b s m g = record { node = record { kind = k; first = a; second = b; set = s }; settled = m; glitch = g }
-
 -- input 0 is the bare secret and has no mark; NOT 0 is marked in both layers and XOR 0 1 for glitches alone; NOT 1, which none names, in neither
 abbrev two-marked : Netlist
 two-marked = shared (input 1 ∷ input 3 ∷ NOT 1 ∷ NOT 0 ∷ XOR 0 1 ∷ [])
@@ -159,9 +157,9 @@ two-marked = shared (input 1 ∷ input 3 ∷ NOT 1 ∷ NOT 0 ∷ XOR 0 1 ∷ [])
 -- Without NOT 1 the marks of the two nodes behind it move down with them, and the freed last entry keeps what it held; the last gate of block A is
 -- marked where it is added, and nothing else is written.
 pub marks-after : (recordsAfter two-marked (remove 2) (nodeRecords two-marked) 1280
-    ≡ entryOf 2 0 0 1 0 0 ∷ entryOf 2 0 0 3 0 0 ∷ entryOf 3 0 0 0 1 1 ∷ entryOf 4 0 1 0 0 1 ∷ entryOf 4 0 1 0 0 1 ∷ [])
-    × (recordsAfter before-a (add (4 ∷ 3 ∷ 1 ∷ [])) (replicate 5 (entryOf 9 9 9 9 9 9)) 1280
-    ≡ entryOf 2 0 0 3 0 0 ∷ entryOf 2 0 0 2 0 0 ∷ entryOf 2 0 0 4 0 0 ∷ entryOf 4 0 2 0 0 0 ∷ entryOf 4 3 1 0 0 1 ∷ [])
+    ≡ fields 2 0 0 1 0 0 ∷ fields 2 0 0 3 0 0 ∷ fields 3 0 0 0 1 1 ∷ fields 4 0 1 0 0 1 ∷ fields 4 0 1 0 0 1 ∷ [])
+    × (recordsAfter before-a (add (4 ∷ 3 ∷ 1 ∷ [])) (replicate 5 (fields 9 9 9 9 9 9)) 1280
+    ≡ fields 2 0 0 3 0 0 ∷ fields 2 0 0 2 0 0 ∷ fields 2 0 0 4 0 0 ∷ fields 4 0 2 0 0 0 ∷ fields 4 3 1 0 0 1 ∷ [])
 unfolding replyTo editedTo entry markNumber nodeRecord nodeRecords tabulate filled recordsAfter
 marks-after = (refl, refl)
 
@@ -169,7 +167,7 @@ marks-after = (refl, refl)
 abbrev unmarked-a : Block
 unmarked-a = record {
   netlist = p9;
-  nodes = entryOf 2 0 0 3 0 0 ∷ entryOf 2 0 0 2 0 0 ∷ entryOf 2 0 0 4 0 0 ∷ entryOf 4 0 2 0 0 0 ∷ entryOf 4 3 1 0 0 0 ∷ [];
+  nodes = fields 2 0 0 3 0 0 ∷ fields 2 0 0 2 0 0 ∷ fields 2 0 0 4 0 0 ∷ fields 4 0 2 0 0 0 ∷ fields 4 3 1 0 0 0 ∷ [];
   work = replicate 1280 0;
 }
 
@@ -178,4 +176,4 @@ one-is-not-none e = omega arith
 
 pub unmarked : ¬ AsChecked unmarked-a
 unfolding replyTo variablesOut nodesOut writtenOut entry markNumber nodeRecord nodeRecords tabulate filled nodesAfter
-unmarked checked = one-is-not-none (ap (λ (ns : List NodeRecord). getD ns 4 (entryOf 0 0 0 0 0 0) .glitch) (checked .records))
+unmarked checked = one-is-not-none (ap (λ (ns : List NodeRecord). getD ns 4 (fields 0 0 0 0 0 0) .glitch) (checked .records))

@@ -1,7 +1,7 @@
 -- The listing, the node records and the queries on blocks, which antt computes from the rules: document 01's text for block A, a node of each
 -- kind, and each refusal of a query. Assumes nothing.
 use Prim.Native.Nat.{ℕ, _-_}
-use mathlib.Core.Path.{_≡_, refl}
+use mathlib.Core.Path.{_≡_, refl, ap}
 use mathlib.Core.Bool.{true, false, xor}
 use mathlib.Core.List.{List, [], _∷_}
 use native.Mathlib.Omega.{arith}
@@ -10,7 +10,7 @@ use Rattle.rules.specs.declared.NodeRecord.{NodeRecord}
 use Rattle.rules.specs.Lists.{tabulate}
 use Rattle.rules.specs.Records.{most-nodes, bits}
 use Rattle.rules.specs.Values.{exclusiveOr, valueRule, values, feedingRule, feedings, feeding}
-use Rattle.rules.specs.Families.{familiesAt, Finding, suspectAt, Findings}
+use Rattle.rules.specs.Families.{familiesAt, lowest, Finding, clear, suspectAt, Findings}
 use Rattle.rules.specs.Checks.{answered, refused, nodeCheck, numberCheck, queried, queriedWith}
 use Rattle.rules.specs.Slices.{entry, markNumber, markOf, nodeRecord, nodeRecords, filled, nodesAfter, lowestMarked, FromMarks}
 use Rattle.rules.specs.Listing.{word, digits, decimal, line, kindName, nodeLines, halfLine, netlistText, textOf, listing}
@@ -38,16 +38,16 @@ texts = (refl, refl, refl)
 
 -- ---- the node records
 
--- a node, with its settled and its glitch mark
-abbrev node : (kind first second set settled glitch : ℕ) → NodeRecord
-node k a b s m g = record { node = record { kind = k; first = a; second = b; set = s }; settled = m; glitch = g }
+-- a node record by its fields: kind, operands and set, settled and glitch mark
+abbrev pub fields : (kind first second set settled glitch : ℕ) → NodeRecord
+fields k a b s m g = record { node = record { kind = k; first = a; second = b; set = s }; settled = m; glitch = g }
 
 abbrev stays : NodeRecord
-stays = node 9 9 9 9 9 9
+stays = fields 9 9 9 9 9 9
 
 -- the entries of a netlist of seven nodes, none of which reports a set, in a slice of nine, whose last two stay; and on a refusal all stay
 pub records : (nodesAfter each-kind (replicate 9 stays) 1792
-    ≡ node 2 0 0 3 0 0 ∷ node 2 0 0 4 0 0 ∷ node 3 1 0 0 0 0 ∷ node 4 2 0 0 0 0 ∷ node 5 3 1 0 0 0 ∷ node 6 4 0 0 0 0 ∷ node 7 5 0 0 0 0
+    ≡ fields 2 0 0 3 0 0 ∷ fields 2 0 0 4 0 0 ∷ fields 3 1 0 0 0 0 ∷ fields 4 2 0 0 0 0 ∷ fields 5 3 1 0 0 0 ∷ fields 6 4 0 0 0 0 ∷ fields 7 5 0 0 0 0
     ∷ replicate 2 stays)
     × (nodesAfter each-kind (replicate 9 stays) 1791 ≡ replicate 9 stays)
 unfolding replyTo entry markNumber nodeRecord nodeRecords tabulate filled nodesAfter
@@ -63,30 +63,35 @@ marked =
     ∷ 0x04 ∷ 0x00 ∷ 0x01 ∷ 0x03 ∷ 0x00 ∷ 0x07 ∷ 0x03 ∷ 0x04 ∷ 0x02 ∷ 0x01 ∷ 0x04 ∷ 0x01 ∷ 0x01 ∷ 0x07 ∷ 0x02
     ∷ 0x00 ∷ []
 
-pub marked-records : nodesAfter marked (replicate 8 stays) 2048
-    ≡ node 2 0 0 1 0 0 ∷ node 2 0 0 3 0 0 ∷ node 4 0 1 0 0 1 ∷ node 3 0 0 0 1 1 ∷ node 7 3 0 0 1 1 ∷ node 4 2 1 0 1 1 ∷ node 4 1 1 0 0 0 ∷ node 7 2 0 0 0 0 ∷ []
+abbrev marked-after : List NodeRecord
+marked-after =
+    fields 2 0 0 1 0 0 ∷ fields 2 0 0 3 0 0 ∷ fields 4 0 1 0 0 1 ∷ fields 3 0 0 0 1 1 ∷ fields 7 3 0 0 1 1 ∷ fields 4 2 1 0 1 1
+    ∷ fields 4 1 1 0 0 0 ∷ fields 7 2 0 0 0 0 ∷ []
+
+pub marked-records : nodesAfter marked (replicate 8 stays) 2048 ≡ marked-after
 unfolding replyTo entry markNumber nodeRecord nodeRecords tabulate filled nodesAfter
 marked-records = refl
 
--- The settled half is node 3 and the glitch half node 2, each the lowest marked one of its layer with its mark; `FromMarks` is false of the halves
--- exchanged, of the highest marked node, and of the bare input.
+-- The settled half is node 3 and the glitch half node 2, each the lowest marked one of its layer with its mark; of those records `FromMarks` is false with
+-- the halves exchanged, with the highest marked node, and with the bare input.
 abbrev halves : (settled glitch : Finding) → Findings
 halves s g = record { variables = 2; nodes = 8; settled = s; glitch = g }
 
-abbrev after : List NodeRecord
-after = nodesAfter marked (replicate 8 stays) 2048
-
-pub marked-answer : (replyTo marked ≡ answered (halves (suspectAt 3 1) (suspectAt 2 1))) × FromMarks (halves (suspectAt 3 1) (suspectAt 2 1)) after
-unfolding replyTo entry markNumber markOf nodeRecord nodeRecords tabulate filled nodesAfter lowestMarked
+pub marked-answer : (replyTo marked ≡ answered (halves (suspectAt 3 1) (suspectAt 2 1))) × FromMarks (halves (suspectAt 3 1) (suspectAt 2 1)) marked-after
+unfolding replyTo markOf lowestMarked
 marked-answer = (refl, record { settled = refl; glitch = refl })
 
-pub marked-otherwise : (FromMarks (halves (suspectAt 2 1) (suspectAt 3 1)) after → ⊥) × (FromMarks (halves (suspectAt 5 1) (suspectAt 2 1)) after → ⊥)
-    × (FromMarks (halves (suspectAt 0 1) (suspectAt 0 1)) after → ⊥)
-unfolding replyTo entry markNumber markOf nodeRecord nodeRecords tabulate filled nodesAfter lowestMarked
+abbrev nodeOf : Finding → ℕ
+nodeOf clear = 0
+nodeOf (suspectAt i A) = i
+
+pub marked-otherwise : ¬ FromMarks (halves (suspectAt 2 1) (suspectAt 3 1)) marked-after × ¬ FromMarks (halves (suspectAt 5 1) (suspectAt 2 1)) marked-after
+    × ¬ FromMarks (halves (suspectAt 0 1) (suspectAt 0 1)) marked-after
+unfolding lowest markOf lowestMarked
 marked-otherwise = (
-  λ m. let no : _≡_ {A = ℕ} 2 3 = cc (m .settled) in absurd (omega arith),
-  λ m. let no : _≡_ {A = ℕ} 5 3 = cc (m .settled) in absurd (omega arith),
-  λ m. let no : _≡_ {A = ℕ} 0 3 = cc (m .settled) in absurd (omega arith),
+  λ m. let no : _≡_ {A = ℕ} 2 3 = ap nodeOf (m .settled) in omega (arith, no),
+  λ m. let no : _≡_ {A = ℕ} 5 3 = ap nodeOf (m .settled) in omega (arith, no),
+  λ m. let no : _≡_ {A = ℕ} 0 3 = ap nodeOf (m .settled) in omega (arith, no),
 )
 
 -- ---- queries
