@@ -9,6 +9,7 @@ use lib.ListN.{length}
 use borrow.Author.Tests.{lt-ltb, le-ltb, le-leb, lt-leb}
 use Rattle.rules.specs.declared.Refusal.the-variants.{StillNamed}
 use Rattle.rules.specs.declared.Reply.the-variants.{Refused}
+use Rattle.rules.specs.Lists.{without}
 use Rattle.rules.specs.Records.{Netlist, WellFormed, most-nodes}
 use Rattle.rules.specs.Checks.{answered, refused, andThen, judged, slicesFit, nodeCheck}
 use Rattle.rules.proofs.Marks.{layer-marks-length}
@@ -20,7 +21,7 @@ use Rattle.marks.specs.Marks.{marksIn, marksOf}
 use Rattle.checker.specs.declared.Examined.{Examined}
 use Rattle.checker.specs.Work.{NothingKept, Examines, Looks}
 use Rattle.checker.proofs.Core.{refusal, answers}
-use Rattle.open_blocks.specs.Edits.{remove, without, withoutNode, naming, givenUp, fits, edited}
+use Rattle.open_blocks.specs.Edits.{remove, withoutNode, naming, givenUp, fits, edited}
 use Rattle.open_blocks.specs.Work.{movedDown, HoldsFamilies}
 use Rattle.open_blocks.proofs.Removing.{moved-families}
 use Rattle.changes.specs.Changes.{GivesUp, Changes}

@@ -76,7 +76,7 @@ fn give_up(block: Netlist, marks: Marks, gone: usize, work: &mut [u8]) -> Examin
         return checker::refused(Refusal::StillNamed(by));
     }
     open_blocks::move_down(work, gone, count);
-    let fewer = open_blocks::without_marks(marks, gone, count);
+    let fewer = marks::without_marks(marks, gone, count);
     checker::look(open_blocks::without_node(block, gone), fewer)
 }
 

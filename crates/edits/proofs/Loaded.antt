@@ -20,9 +20,9 @@ use Rattle.marks.specs.Marks.{flatMarks, marksIn, marksOf}
 use Rattle.checker.specs.Work.{unwritten}
 use Rattle.open_blocks.specs.declared.State.{State}
 use Rattle.open_blocks.specs.Meaning.{stateOf, IsOpen}
-use Rattle.open_blocks.specs.Work.{stateIn, column, loaded, loadedMarks}
+use Rattle.open_blocks.specs.Work.{stateIn}
 use Rattle.changes.specs.declared.Loaded.{Loaded}
-use Rattle.edits.specs.Edited.{loadedOf, unloadedOf, withEntry}
+use Rattle.edits.specs.Edited.{column, loadedOf, unloadedOf, withEntry}
 
 -- ---- a field of the first records
 
@@ -75,7 +75,7 @@ module _ (state : State) (records : List NodeRecord) where
       )
 
   pub loading-all : loading state records (min (min (state .count) most-nodes) (length records)) ≡ loadedOf state records
-  unfolding loading loadedOf loaded loadedMarks
+  unfolding loading loadedOf
   loading-all =
       rw (
         up-to-all blank (λ r. r .node) records state,
@@ -85,8 +85,8 @@ module _ (state : State) (records : List NodeRecord) where
 
   -- ---- a block that is loaded
 
-  pub loaded-state : stateIn (loaded state records) ≡ state
-  unfolding loaded
+  pub loaded-state : stateIn (loadedOf state records .block) ≡ state
+  unfolding loadedOf
   loaded-state = refl
 
 -- of an open block
@@ -95,10 +95,10 @@ module _ {n : Records.Netlist} {state : State} {records : List NodeRecord} {work
   unfolding stateOf
   front = rw (opened .itsState, min-eq-left (opened .obeys .few-nodes)) (opened .holds .records)
 
-  pub loaded-flat : loaded state records ≡ flatOf n
-  unfolding loaded stateOf flatOf column
+  pub loaded-flat : loadedOf state records .block ≡ flatOf n
+  unfolding loadedOf stateOf flatOf column
   loaded-flat = rw (front, record-nodes n, opened .itsState)
 
-  pub loaded-marks : loadedMarks state records ≡ marksOf n
-  unfolding loadedMarks marksOf marksIn flatMarks column
+  pub loaded-marks : loadedOf state records .marks ≡ marksOf n
+  unfolding loadedOf marksOf marksIn flatMarks column
   loaded-marks = rw (front, record-settled n, record-glitch n)

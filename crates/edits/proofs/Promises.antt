@@ -28,11 +28,11 @@ use Rattle.checker.proofs.Stored.{stored-none, stored-length, netlist-stored}
 use Rattle.open_blocks.specs.declared.State.{State}
 use Rattle.open_blocks.specs.Edits.{Edit, fits, edited, otherwise, netlistAfter, replyAfter, recordsAfter, bytesAfter, NothingSuspectAfter}
 use Rattle.open_blocks.specs.Meaning.{stateOf, IsOpen}
-use Rattle.open_blocks.specs.Work.{stateIn, loaded, loadedMarks}
+use Rattle.open_blocks.specs.Work.{stateIn}
 use Rattle.changes.specs.Changes.{Changes}
 use Rattle.changes.proofs.Changing.{value-state}
 use Rattle.edits.specs.declared.Edited.{Edited}
-use Rattle.edits.specs.Edited.{nextState, editedOf, Kept}
+use Rattle.edits.specs.Edited.{loadedOf, nextState, editedOf, Kept}
 use Rattle.edits.proofs.Loaded.{loaded-state, loaded-flat, loaded-marks}
 use Rattle.edits.proofs.Kept.{made, afresh-reply}
 
@@ -99,7 +99,7 @@ refused-state (Answered a) state after k p e = let z : _≡_ {A = ℕ} 0 1 = cc 
 
 -- what an edit promises, from what `load`, `change`, `store` and `edited_of` promise
 pub promises : (state : State) (e : Edit) (ys ns : List NodeRecord) (zs ws : List ℕ) (examined : Examined)
-    → Changes (loaded state ys) (loadedMarks state ys) e (length ys) examined zs ws
+    → Changes (loadedOf state ys .block) (loadedOf state ys .marks) e (length ys) examined zs ws
     → ns ≡ stored (recordIn examined) ys (examined .netlist .count)
     → length ws ≡ length zs
     → Promised state e (editedOf state examined) ys ns zs ws

@@ -1,25 +1,37 @@
--- What a call gives beside both slices, and what holds of a call whatever it was handed. Cited by the contracts of this crate. Assumes nothing.
-use Prim.Native.Nat.{ℕ}
+-- A block as it is loaded from a lent slice of node records; what a call gives beside both slices; and what holds of a call whatever it was handed. Cited by the contracts of this crate. Assumes nothing.
+use Prim.Native.Nat.{ℕ, min}
 use mathlib.Core.Path.{_≡_}
-use mathlib.Core.List.{List, []}
-use lib.ListN.{length, set, replicate}
+use mathlib.Core.List.{List, [], map}
+use lib.ListN.{length, take, set, replicate}
 use Rattle.rules.specs.declared.NodeRecord.{NodeRecord}
 use Rattle.rules.specs.declared.Reply.{Reply}
 use Rattle.rules.specs.declared.Reply.the-variants.{Refused, Answered}
 use Rattle.rules.specs.Records.{most-nodes}
 use Rattle.rules.specs.Checks as Checks
 use Rattle.rules.specs.Paper.{replyOf}
-use Rattle.netlists.specs.Netlists.{blank}
+use Rattle.netlists.specs.Netlists.{padded, blank}
 use Rattle.marks.specs.Marks.{marksIn}
 use Rattle.checker.specs.declared.Examined.{Examined}
 use Rattle.open_blocks.specs.declared.State.{State}
-use Rattle.open_blocks.specs.Work.{stateIn, loaded, loadedMarks}
+use Rattle.open_blocks.specs.Work.{stateIn}
 use Rattle.changes.specs.declared.Loaded.{Loaded}
 use Rattle.edits.specs.declared.Edited.{Edited}
 
--- a block by value and its marks, of a state and a slice of node records; one with no node records yet; and one with a node record in its place
+-- a field of the node records of a slice, of which no more are taken than the state says and than there may be nodes
+unfoldable pub column : {A : Type 0} → (rest : A) → (NodeRecord → A) → State → List NodeRecord → List A
+column rest field state nodes = padded most-nodes rest (map field (take (min (state .count) most-nodes) nodes))
+
+-- a block by value with its marks, of a state and a slice of node records; one with no node records yet; and one with a node record in its place
 unfoldable pub loadedOf : State → List NodeRecord → Loaded
-loadedOf state nodes = record { block = loaded state nodes; marks = loadedMarks state nodes }
+loadedOf state nodes = record {
+  block = record {
+    variables = state .variables;
+    count = state .count;
+    classes = state .classes;
+    nodes = column blank (λ r. r .node) state nodes;
+  };
+  marks = record { settled = column 0 (λ r. r .settled) state nodes; glitch = column 0 (λ r. r .glitch) state nodes };
+}
 
 abbrev pub unloadedOf : State → Loaded
 unloadedOf state = record {

@@ -1,14 +1,15 @@
--- Marks by value: what stands at a node's number, one mark more, and what a scan that goes on has marked so far; over work bytes that hold the
--- families of a netlist, they are the netlist's marks, from which both halves of its answer are read. Assumes nothing.
+-- Marks by value: what stands at a node's number, one mark more, what a scan that goes on has marked so far, and those behind a node that is given up;
+-- over work bytes that hold the families of a netlist, they are the netlist's marks, from which both halves of its answer are read. Assumes nothing.
 use Prim.Native.Nat.{ℕ, zero, suc, _+_, _-_, _≤_, _<_}
 use mathlib.Core.Path.{_≡_, refl, sym, ap, ap₂, subst, _∙_}
 use mathlib.Core.Logic.{_≢_, ⊎-elim}
-use mathlib.Core.List.{List, [], _∷_, _++_, map}
+use mathlib.Core.List.{List, [], _∷_, _++_, map, map-id, map-append}
 use mathlib.Core.Option.{Option, none, some}
 use native.Mathlib.Numerals.{add-one}
 use native.Mathlib.Omega.{arith}
 use lib.ListN.{length, getD, take, drop, set, replicate, length-append, length-map, length-take, length-replicate, List·getD-eq-default}
 use lib.Seq.{length-take-le, take-at, take-suc, getD-take, getD-drop, ext-getD}
+use Rattle.rules.specs.Lists.{without}
 use Rattle.rules.specs.Records.{Netlist, WellFormed, most-nodes}
 use Rattle.rules.specs.Families.{Family, Families, families, Finding, clear, suspectAt, layerMarks, lowest, half}
 use Rattle.rules.specs.Slices.{markNumber, markOf, workBytes}
@@ -17,6 +18,7 @@ use Rattle.rules.proofs.Halves.{NoneBefore, Lowest, lowest-says}
 use Rattle.rules.proofs.Marks.{mark-written, layer-marks-length, marks-told}
 use Rattle.netlists.specs.Netlists.{padded}
 use Rattle.netlists.proofs.Netlists.{padded-same, made-set}
+use Rattle.netlists.proofs.Without.{shifted, padded-without, map-take, map-drop}
 use Rattle.suspects.specs.Suspects.{reportsIn, foundFrom}
 use Rattle.suspects.proofs.Search.{reports-are}
 use Rattle.marks.specs.Marks.{flatMarks, marksIn, marksOf}
@@ -126,6 +128,19 @@ last-found reports from A e =
     let (k, at, is, before) = scan-says reports from (suspectAt from A) e in
     let here : from + k ≡ from = sym at in
     ap markNumber (sym (rw here at (sym (getD-drop from reports k none) ∙ is)))
+
+-- ---- marks that move down
+
+pub removed-marks : (reports : List (Option ℕ)) (gone last : ℕ) → length reports ≡ suc last → length reports ≤ most-nodes → gone ≤ last
+    → set (shifted (λ m. m) 0 (flatMarks reports) gone (last - gone)) last 0 ≡ flatMarks (without gone reports)
+unfolding flatMarks without
+removed-marks reports gone last many few there =
+    let same = length-map reports markNumber in
+    let end : length (map markNumber reports) - 1 ≡ last = omega arith in
+    rw (← end) (padded-without (λ m. m) 0 refl most-nodes (map markNumber reports) (omega arith) gone (omega arith))
+    ∙ ap (padded most-nodes 0)
+    (ap₂ _++_ (sym (map-take markNumber gone reports)) (map-id _ ∙ sym (map-drop markNumber (suc gone) reports))
+    ∙ sym (map-append markNumber (take gone reports) (drop (suc gone) reports)))
 
 -- ---- the marks of a netlist
 

@@ -1,10 +1,12 @@
 // Marks by value: in each layer the set that a node reports, or 0 for none. A layer's marks are those of a scan that goes on from behind the last
-// node that it found; those of a node at the end are found by scanning that node alone; and a half of the answer is read from a layer's marks.
+// node that it found; those of a node at the end are found by scanning that node alone; where a node is given up, those behind it move down; and a
+// half of the answer is read from a layer's marks.
 ghost use mathlib.Core.Path.{_≡_};
-ghost use mathlib.Core.List.{[], map};
-ghost use mathlib.Core.Option.{none};
-ghost use Prim.Native.Nat.{_-_, _<_, _≤_};
+ghost use mathlib.Core.List.{List, [], map};
+ghost use mathlib.Core.Option.{Option, none};
+ghost use Prim.Native.Nat.{ℕ, _-_, _<_, _≤_};
 ghost use lib.ListN.{length, getD, take};
+ghost use Rattle.rules.specs.Lists.{without};
 ghost use Rattle.rules.specs.Records as Records;
 ghost use Rattle.rules.specs.Records.{most-nodes};
 ghost use Rattle.rules.specs.Families.{lowest};
@@ -93,6 +95,38 @@ pub fn with_last(netlist: Netlist, marks: Marks, work: &[u8]) -> Marks
     longer.settled[last] = last_mark(netlist, 0, work);
     longer.glitch[last] = last_mark(netlist, 1, work);
     longer
+}
+
+// ---- a node given up
+
+// The marks of one layer without a node's: those behind it move down by one, and the last of so many is gone.
+fn without_mark(marks: [u16; MOST_NODES], gone: usize, count: usize) -> [u16; MOST_NODES]
+    requires { ⌜ (gone < count) × (count ≤ most-nodes) ⌝ }
+    ensures { λ r. ⌜ ((reports : List (Option ℕ)) → length reports ≡ count → marks ≡ flatMarks reports → r ≡ flatMarks (without gone reports)) ⌝ }
+{
+    let last = count - 1;
+    let mut fewer = marks;
+    let mut i = gone;
+    while i < last {
+        fewer[i] = fewer[i + 1];
+        i += 1;
+    }
+    fewer[last] = 0;
+    fewer
+}
+
+// The marks of both layers without a node's.
+pub fn without_marks(marks: Marks, gone: usize, count: usize) -> Marks
+    requires { ⌜ (gone < count) × (count ≤ most-nodes) ⌝ }
+    ensures { λ r. ⌜ ((settled glitch : List (Option ℕ)) → length settled ≡ count → length glitch ≡ count → marks ≡ marksIn settled glitch →
+        r ≡ marksIn (without gone settled) (without gone glitch)) ⌝ }
+{
+    let settled = marks.settled;
+    let glitch = marks.glitch;
+    Marks {
+        settled: without_mark(settled, gone, count),
+        glitch: without_mark(glitch, gone, count),
+    }
 }
 
 // ---- the answer

@@ -8,7 +8,7 @@ use mathlib.Core.List.{List, [], _∷_}
 use native.Mathlib.Omega.{arith}
 use lib.ListN.{getD, replicate}
 use Rattle.rules.specs.declared.NodeRecord.{NodeRecord}
-use Rattle.rules.specs.Lists.{member, insert, union, count, tabulate}
+use Rattle.rules.specs.Lists.{member, insert, union, count, without, tabulate}
 use Rattle.rules.specs.Tables.{table}
 use Rattle.rules.specs.Records.{secret, mask, Cell, input, NOT, XOR, AND, OR, register, Netlist, said, size, recordBytes, body, operands, setOf, writtenOut, variablesOut, nodesOut, kindOf, classByte, most-nodes}
 use Rattle.rules.specs.Values.{exclusiveOr, valueRule, values, feedingRule, feedings, feeding, same, howMany, settings, next, others, make, matches, giving, CountsAgree}
@@ -20,7 +20,7 @@ use Rattle.rules.proofs.Each.{Each}
 use Rattle.rules.proofs.Blocks.{replyTo, _and_}
 use Rattle.rules.proofs.BlockCounts.{all-zero, p9}
 use Rattle.rules.proofs.BlockOutputs.{fields}
-use Rattle.open_blocks.specs.Edits.{Edit, add, remove, judgedNode, lowered, renumbered, without, withoutNode, names, naming, givenUp, fits, edited, otherwise, netlistAfter, replyAfter, recordsAfter, Block, AsChecked}
+use Rattle.open_blocks.specs.Edits.{Edit, add, remove, judgedNode, lowered, renumbered, withoutNode, names, naming, givenUp, fits, edited, otherwise, netlistAfter, replyAfter, recordsAfter, Block, AsChecked}
 
 -- block A before its last gate
 abbrev pub before-a : Netlist

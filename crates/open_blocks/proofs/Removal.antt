@@ -13,7 +13,7 @@ use lib.Dec.{T, eqb}
 use lib.ListN.{length, getD, length-append, length-map, List·getD-append, List·getD-eq-default, List·getD-map}
 use lib.Seq.{getD-at, ext-getD}
 use borrow.Author.Tests.{lt-ltb, le-ltb, eq-eqb, ne-eqb}
-use Rattle.rules.specs.Lists.{member, insert, union}
+use Rattle.rules.specs.Lists.{member, insert, union, without}
 use Rattle.rules.specs.Tables.{table}
 use Rattle.rules.specs.Records.{Cell, input, NOT, XOR, AND, OR, register, Netlist, WellFormed, operands, setOf}
 use Rattle.rules.specs.Values.{Assignment, valueRule, values, feedingRule, feedings, feeding}
@@ -22,7 +22,7 @@ use Rattle.rules.proofs.Lists.{member-head, member-tail}
 use Rattle.rules.proofs.Halves.{layer-mark}
 use Rattle.rules.proofs.Marks.{layer-marks-length}
 use Rattle.rules.proofs.Members.{All, all-none, all-front, all-single, all-union}
-use Rattle.open_blocks.specs.Edits.{lowered, renumbered, without, withoutNode, names, naming}
+use Rattle.open_blocks.specs.Edits.{lowered, renumbered, withoutNode, names, naming}
 
 -- ---- numbers that follow where node `gone` is
 

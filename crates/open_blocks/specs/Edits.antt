@@ -8,7 +8,7 @@ use mathlib.Core.List.{List, [], _∷_, _++_, map}
 use lib.Dec.{leb, ltb}
 use lib.ListN.{length, getD, take, drop}
 use Rattle.rules.specs.declared.NodeRecord.{NodeRecord}
-use Rattle.rules.specs.Lists.{member}
+use Rattle.rules.specs.Lists.{member, without}
 use Rattle.rules.specs.Records.{Cell, input, NOT, XOR, AND, OR, register, Record, end, variable, node, Netlist, WellFormed, withNode, last-kind, said, size, operands, writtenOut}
 use Rattle.rules.specs.Families.{families, Findings, findings}
 use Rattle.rules.specs.Checks.{Outcome, answered, refused, andThen, check, judged, overLimit, undeclaredSet, badOperand, slicesFit, nodeCheck}
@@ -62,10 +62,6 @@ renumbered gone (XOR a b) = XOR (lowered gone a) (lowered gone b)
 renumbered gone (AND a b) = AND (lowered gone a) (lowered gone b)
 renumbered gone (OR a b) = OR (lowered gone a) (lowered gone b)
 renumbered gone (register a) = register (lowered gone a)
-
--- a list without its entry i
-unfoldable pub without {ℓ} : {A : Type ℓ} → (i : ℕ) → List A → List A
-without i xs = take i xs ++ drop (suc i) xs
 
 unfoldable pub withoutNode : Netlist → (gone : ℕ) → Netlist
 withoutNode n gone = record { variables = n .variables; nodes = map (renumbered gone) (without gone (n .nodes)) }

@@ -1,23 +1,18 @@
 // What an edit of an open block is made of: the node that a record's bytes offer; the lowest node that names another; a block by value
-// without one of its nodes, and its marks and families moved down. Request A3 is in `specs/`.
+// without one of its nodes, and its families moved down. Request A3 is in `specs/`.
 ghost use mathlib.Core.Path.{_≡_};
-ghost use mathlib.Core.List.{List};
-ghost use mathlib.Core.Option.{Option};
-ghost use Prim.Native.Nat.{ℕ, _+_, _*_, _<_, _≤_};
+ghost use Prim.Native.Nat.{_+_, _*_, _<_, _≤_};
 ghost use lib.ListN.{length, getD};
 ghost use Rattle.rules.specs.Records as Records;
 ghost use Rattle.rules.specs.Records.{Cell, WellFormed, most-nodes};
 ghost use Rattle.rules.specs.Slices.{entry};
 ghost use Rattle.rules.specs.Checks.{answered, andThen};
 ghost use Rattle.netlists.specs.Netlists.{flatOf};
-ghost use Rattle.marks.specs.Marks.{flatMarks, marksIn};
 ghost use Rattle.open_blocks.specs.Edits as Edits;
-ghost use Rattle.open_blocks.specs.Edits.{judgedNode, without, withoutNode};
+ghost use Rattle.open_blocks.specs.Edits.{judgedNode, withoutNode};
 ghost use Rattle.open_blocks.specs.Work.{offeredOf, renumberedEntry, movedDown, stateIn};
-use marks::Marks;
 use netlists::Netlist;
 use records::Found;
-use rules::MOST_NODES;
 use rules::MOST_VARIABLES;
 use rules::Node;
 use rules::Refusal;
@@ -157,36 +152,6 @@ pub fn without_node(block: Netlist, gone: usize) -> Netlist
     };
     shorter.count = last;
     shorter
-}
-
-// The marks of one layer without a node's: those behind it move down by one, and the last of so many is gone.
-fn without_mark(marks: [u16; MOST_NODES], gone: usize, count: usize) -> [u16; MOST_NODES]
-    requires { ⌜ (gone < count) × (count ≤ most-nodes) ⌝ }
-    ensures { λ r. ⌜ ((reports : List (Option ℕ)) → length reports ≡ count → marks ≡ flatMarks reports → r ≡ flatMarks (without gone reports)) ⌝ }
-{
-    let last = count - 1;
-    let mut fewer = marks;
-    let mut i = gone;
-    while i < last {
-        fewer[i] = fewer[i + 1];
-        i += 1;
-    }
-    fewer[last] = 0;
-    fewer
-}
-
-// The marks of both layers without a node's.
-pub fn without_marks(marks: Marks, gone: usize, count: usize) -> Marks
-    requires { ⌜ (gone < count) × (count ≤ most-nodes) ⌝ }
-    ensures { λ r. ⌜ ((settled glitch : List (Option ℕ)) → length settled ≡ count → length glitch ≡ count → marks ≡ marksIn settled glitch →
-        r ≡ marksIn (without gone settled) (without gone glitch)) ⌝ }
-{
-    let settled = marks.settled;
-    let glitch = marks.glitch;
-    Marks {
-        settled: without_mark(settled, gone, count),
-        glitch: without_mark(glitch, gone, count),
-    }
 }
 
 // The families behind a node's move down, over its own. The last 256 bytes keep what they held.

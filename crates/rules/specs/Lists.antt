@@ -4,6 +4,7 @@ use Prim.Native.Nat.{ℕ, zero, suc, _+_}
 use mathlib.Core.Bool.{Bool, true, false, cond, _||_}
 use mathlib.Core.List.{List, [], _∷_, _++_}
 use lib.Dec.{eqb}
+use lib.ListN.{take, drop}
 
 -- 1 for yes and 0 for no
 abbrev pub digit : Bool → ℕ
@@ -28,6 +29,10 @@ union (x ∷ xs) ys = insert x (union xs ys)
 unfoldable pub count {ℓ} : {A : Type ℓ} → (A → Bool) → List A → ℕ
 count test [] = 0
 count test (x ∷ xs) = digit (test x) + count test xs
+
+-- a list without its entry i
+unfoldable pub without {ℓ} : {A : Type ℓ} → (i : ℕ) → List A → List A
+without i xs = take i xs ++ drop (suc i) xs
 
 -- the entries f 0, f 1, .. of which there are n
 unfoldable pub tabulate {ℓ} : {A : Type ℓ} → (ℕ → A) → ℕ → List A

@@ -47,7 +47,6 @@ use Rattle.open_blocks.specs.declared.State.{State}
 use Rattle.open_blocks.specs.declared.Edit.{Edit}
 use Rattle.open_blocks.specs.Edits as Edits
 use Rattle.open_blocks.specs.Meaning.{editOf}
-use Rattle.open_blocks.specs.Work.{loaded, loadedMarks}
 use Rattle.changes.specs.declared.Loaded.{Loaded}
 use Rattle.changes.specs.Changes.{Changes}
 use Rattle.edits.specs.declared.Edited.{Edited}
@@ -237,7 +236,7 @@ module _ {M : Type 1} (𝓤 : URA M) (H : Heap 𝓤) (A : Atoms 𝓤) (W : Given
           ∷ Relent (fat fullShare (sliceTy to-bytes) l₁₂ 0 s₂) (fat fullShare to-bytes l₁₁ 0 (vptr (work .ptr .0) (work .ptr .1))) (fat fullShare (tyInt w64) l₁₀ 0 (vint w64 (length ys))) (fat fullShare E′.mir l₇ 0 u) (fat fullShare N′.mir l₆ 0 v)
 
       -- the records are stored, and what the edit gives is returned
-      finishes : (examined : Examined) (v u : Val) (ws : List ℕ) → Is E.the-row examined (u ∷ []) → Changes (loaded state ys) (loadedMarks state ys) e (length ys) examined zs ws → length ws ≡ length zs → Sq W (Between v u ws) (runs C Λ En mir.t-8 (atRet En Post))
+      finishes : (examined : Examined) (v u : Val) (ws : List ℕ) → Is E.the-row examined (u ∷ []) → Changes (loadedOf state ys .block) (loadedOf state ys .marks) e (length ys) examined zs ws → length ws ≡ length zs → Sq W (Between v u ws) (runs C Λ En mir.t-8 (atRet En Post))
       finishes examined v u ws is-examined changed l₂ =
           assigns ! (addr ! (from ! (fld ! refl (hop ! (look-in ! 27 (sub ! 0 refl (whole !))) (stop !))))) (from ! (stop !)) (init ! 7 refl (tt, tt)) $
           assigns ! (agg ! (and-then ! (reads ! (from ! (stop !)) (look ! 7 refl)) (and-then ! (reads ! (from ! (fld ! refl (stop !))) (look-in ! 27 (sub ! 1 refl (whole !)))) (no-more !)))) (from ! (stop !)) (init ! 5 refl (tt, (tt, (record { fits = room₁ .0 }, tt)))) $
@@ -256,7 +255,6 @@ module _ {M : Type 1} (𝓤 : URA M) (H : Heap 𝓤) (A : Atoms 𝓤) (W : Given
 
       -- the block is changed
       changes : (block : Loaded) (v : Val) → Is N.the-row block (v ∷ []) → block ≡ loadedOf state ys → Sq W (Holding v) (runs C Λ En mir.t-4 (atRet En Post))
-      unfolding loadedOf
       changes block v is-block is-loaded =
           assigns ! (of-opd ! (reads ! (from ! (fld ! refl (stop !))) (look-in ! 27 (sub ! 1 refl (whole !))))) (from ! (stop !)) (init ! 15 refl (tt, record { fits = room₁ .0 })) $
           assigns ! (addr ! (from ! (fld ! refl (hop ! (look-in ! 25 (sub ! 0 refl (whole !))) (stop !))))) (from ! (stop !)) (init ! 13 refl (tt, tt)) $

@@ -8,7 +8,7 @@ use native.Mathlib.Omega.{arith}
 use lib.ListN.{length, getD, drop, set, length-drop, length-set}
 use lib.Seq.{paste, paste-zero, getD-drop}
 use Rattle.open_blocks.specs.Work.{movedDown}
-use Rattle.open_blocks.proofs.Removing.{moved-next}
+use Rattle.netlists.proofs.Without.{moved-next}
 use Rattle.open_blocks.proofs.move_down.Statement.{statement}
 use Rattle.open_blocks.proofs.move_down.Tie as tie
 

@@ -1,10 +1,10 @@
--- `open_blocks::without_marks` meets its contract: each layer is moved. Assumes nothing.
+-- `marks::without_marks` meets its contract: each layer is moved. Assumes nothing.
 use mathlib.Core.Path.{ap}
 use borrow.Author.Needs.{needs}
 use Rattle.marks.specs.declared.Marks.{Marks}
 use Rattle.marks.specs.Marks.{marksIn}
-use Rattle.open_blocks.proofs.without_marks.Statement.{statement}
-use Rattle.open_blocks.proofs.without_marks.Tie as tie
+use Rattle.marks.proofs.without_marks.Statement.{statement}
+use Rattle.marks.proofs.without_marks.Tie as tie
 
 without-mark-requires : tie.Need-without-mark-requires
 without-mark-requires c κs = search needs

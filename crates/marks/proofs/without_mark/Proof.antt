@@ -1,11 +1,12 @@
--- `open_blocks::without_mark` meets its contract. The loop's invariant: of the marks behind the one that is gone those up to `i` have moved down
+-- `marks::without_mark` meets its contract. The loop's invariant: of the marks behind the one that is gone those up to `i` have moved down
 -- by one, and all others stand. The measure is what is left of the marks. Assumes nothing.
 use Prim.Native.Nat.{_-_, _≤_}
 use mathlib.Core.Path.{_≡_}
 use native.Mathlib.Omega.{arith}
-use Rattle.open_blocks.proofs.Removing.{shifted, shifted-none, shifted-next, removed-marks}
-use Rattle.open_blocks.proofs.without_mark.Statement.{statement}
-use Rattle.open_blocks.proofs.without_mark.Tie as tie
+use Rattle.netlists.proofs.Without.{shifted, shifted-none, shifted-next}
+use Rattle.marks.proofs.Layers.{removed-marks}
+use Rattle.marks.proofs.without_mark.Statement.{statement}
+use Rattle.marks.proofs.without_mark.Tie as tie
 
 abbrev Inv-loop : tie.InvT-loop
 Inv-loop gone count last fewer₀ i₀ fewer i = (gone ≤ i) × (i ≤ last) × (fewer ≡ shifted (λ m. m) 0 fewer₀ gone (i - gone))
