@@ -2,23 +2,21 @@
 -- down over its own, and which are then those of the netlist without the node. Assumes nothing.
 use Prim.Native.Nat.{ℕ, zero, suc, _+_, _*_, _-_, _≤_, _<_}
 use mathlib.Core.Path.{_≡_, refl, sym, ap, ap₂, _∙_}
-use mathlib.Core.List.{List, [], _∷_, _++_, map, map-id, map-append, append-assoc, append-nil}
-use mathlib.Core.Option.{Option}
-use native.Mathlib.Numerals.{add-one}
+use mathlib.Core.List.{List, [], _∷_, _++_, map, map-append, append-assoc, append-nil}
 use native.Mathlib.Omega.{arith}
-use lib.ListN.{length, getD, take, drop, set, replicate, length-append, length-map, length-drop, List·getD-map}
-use lib.Seq.{paste, paste-zero, paste-suc, drop-paste, getD-drop, take-append-le, drop-append-le, take-append-add, drop-append-add, take-at, drop-at, set-at, drop-cons, length-take-le, take-take, take-add}
+use lib.ListN.{length, getD, take, drop, set, length-map}
+use lib.Seq.{take-append-add, drop-append-add, drop-at, length-take-le, take-take, take-add}
 use Rattle.rules.specs.declared.Node.{Node}
 use Rattle.rules.specs.Records.{Cell, input, NOT, XOR, AND, OR, register, Netlist, WellFormed, kindOf, operands, setOf, most-nodes}
 use Rattle.rules.specs.Families.{Families, families}
-use Rattle.rules.specs.Slices.{entry, markNumber, nodeBytes, workBytes}
+use Rattle.rules.specs.Slices.{entry, nodeBytes, workBytes}
 use Rattle.rules.proofs.Members.{All}
 use Rattle.rules.proofs.Exit.{families-length}
 use Rattle.rules.proofs.Packing.{work-length}
 use Rattle.netlists.specs.declared.Netlist as Value
-use Rattle.netlists.specs.Netlists.{padded, blank, flatOf}
+use Rattle.netlists.specs.Netlists.{blank, flatOf}
 use Rattle.netlists.proofs.Netlists.{value-count}
-use Rattle.netlists.proofs.Without.{moved-next, shifted, shifted-none, shifted-next, padded-without, map-take, map-drop}
+use Rattle.netlists.proofs.Without.{shifted, shifted-none, shifted-next, padded-without, map-take, map-drop}
 use Rattle.rules.specs.Lists.{without}
 use Rattle.open_blocks.specs.Edits.{lowered, renumbered, withoutNode}
 use Rattle.open_blocks.specs.Work.{renumberedEntry, movedDown, HoldsFamilies}

@@ -4,9 +4,9 @@
 use Prim.Native.Nat.{ℕ, suc, _*_, _-_}
 use mathlib.Core.Path.{_≡_}
 use mathlib.Core.Bool.{Bool, cond, _||_}
-use mathlib.Core.List.{List, [], _∷_, _++_, map}
+use mathlib.Core.List.{List, [], _∷_, map}
 use lib.Dec.{leb, ltb}
-use lib.ListN.{length, getD, take, drop}
+use lib.ListN.{length, getD, take}
 use Rattle.rules.specs.declared.NodeRecord.{NodeRecord}
 use Rattle.rules.specs.Lists.{member, without}
 use Rattle.rules.specs.Records.{Cell, input, NOT, XOR, AND, OR, register, Record, end, variable, node, Netlist, WellFormed, withNode, last-kind, said, size, operands, writtenOut}
