@@ -59,7 +59,7 @@ sets-in-order-requires : tie.Need-sets-in-order-requires Inv-loop μ-loop Inv-no
 sets-in-order-requires c κs = search needs
 
 nodes-holds : tie.Need-nodes-holds Inv-loop μ-loop Inv-nodes μ-nodes
-nodes-holds c = (omega arith, c .before .before .before .before .pre .2, λ n e j h l. absurd (omega arith))
+nodes-holds c = let within = c .before .before .before .before .pre .2 in (omega arith, omega arith, λ n e j h l. absurd (omega arith))
 
 mul-node : tie.Need-mul-node Inv-loop μ-loop Inv-nodes μ-nodes
 mul-node c = omega (arith, few (start (c .before)))
