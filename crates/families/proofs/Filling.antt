@@ -18,6 +18,7 @@ use Rattle.rules.proofs.Lists.{member-union}
 use Rattle.rules.proofs.Sets.{lowest-bit, other-bits}
 use Rattle.families.specs.Parts.{HasPart, holdsAt, familyAt, withFamily}
 use Rattle.families.proofs.Parts.{member-at, written}
+use Rattle.families.proofs.Present.{bits-of}
 
 -- a byte that is byte j of a family
 pub record ByteOf (F : Family) (j byte : ℕ) : Type 0 where
@@ -65,11 +66,7 @@ module _ {before : List ℕ} {part : ℕ} {F : Family} where
 -- bit k of byte j of a part is for set 8 × j + k
 pub bit-at : (bytes : List ℕ) (part j k : ℕ) → j < 128 → k < 8
     → odd (getD bytes (128 * part + j) 0 / 2 ^ k) ≡ member (8 * j + k) (familyAt bytes part)
-unfolding holdsAt
-bit-at bytes part j k h l =
-    let byteOf : (8 * j + k) / 8 ≡ j = omega arith in
-    let bitOf : (8 * j + k) % 8 ≡ k = omega arith in
-    rw (byteOf, bitOf) at (sym (member-at bytes part (8 * j + k) (omega arith)))
+bit-at bytes part j k h l = bits-of bytes part j k l ∙ sym (member-at bytes part (8 * j + k) (omega arith))
 
 -- a byte that the loop has not written, of this part or of another, is that of its part's family
 pub unwritten : {before after : List ℕ} {part j : ℕ} {F : Family} (other i : ℕ) → Filled before part F j after

@@ -27,7 +27,7 @@ use Rattle.families.specs.Parts.{HasPart, holdsAt, setsBelow, familyAt, 
 
 module _ (bytes : List ℕ) (part : ℕ) where
   -- those of the sets below k are below k
-  sets-below : (k : ℕ) → All (λ A. A < k) (setsBelow bytes part k)
+  pub sets-below : (k : ℕ) → All (λ A. A < k) (setsBelow bytes part k)
   unfolding setsBelow
   sets-below zero = all-none (λ A. A < zero)
   sets-below (suc k) = go (holdsAt bytes part k) (λ A t. let h : A < k = sets-below k A t in omega arith)
@@ -70,7 +70,7 @@ module _ (bytes : List ℕ) (part : ℕ) where
       go false rest = rest
 
   -- and there are at most k
-  length-below : (k : ℕ) → length (setsBelow bytes part k) ≤ k
+  pub length-below : (k : ℕ) → length (setsBelow bytes part k) ≤ k
   unfolding setsBelow
   length-below zero = omega arith
   length-below (suc k) = go (holdsAt bytes part k) (length-below k)
@@ -198,6 +198,11 @@ written before after part F has len out byte bit =
     at i (inl p) q = outside i (inl p)
     at i (inr p) (inl q) = rw (← (add-sub-of-le p)) (inside (i - 128 * part) (omega arith))
     at i (inr p) (inr q) = outside i (inr q)
+
+-- a part to which what it holds is written is as it was
+pub with-own : (bytes : List ℕ) (part : ℕ) → HasPart bytes part → ((i : ℕ) → getD bytes i 0 < 256) → bytes ≡ withFamily bytes part (familyAt bytes part)
+with-own bytes part has low =
+    written bytes bytes part (familyAt bytes part) has refl (λ j o. refl) (λ j h. low (128 * part + j)) (λ A h. sym (member-at bytes part A h))
 
 -- a second write to the part
 pub with-twice : (bytes : List ℕ) (part : ℕ) (F G : Family) → HasPart bytes part

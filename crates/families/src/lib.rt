@@ -2,16 +2,17 @@
 // of its byte A / 8. Each promise is one equation for the whole slice: every bit of the part that is written, and all
 // else as it was. Where a family is made from others, they are in lower parts.
 ghost use mathlib.Core.Path.{_≡_};
-ghost use mathlib.Core.Bool.{cond, _||_};
-ghost use mathlib.Core.List.{[], _∷_, map};
-ghost use Prim.Native.Nat.{ℕ, _<_, _/_, _^_};
+ghost use mathlib.Core.Bool.{_||_};
+ghost use mathlib.Core.List.{List, [], _∷_, _++_, map};
+ghost use Prim.Native.Nat.{ℕ, _+_, _*_, _/_, _^_, _<_, _≤_};
 ghost use lib.Bits.{bitXor};
 ghost use lib.Dec.{eqb};
-ghost use lib.ListN.{length};
-ghost use Rattle.rules.specs.Lists.{digit, member, insert, union};
+ghost use lib.ListN.{length, take, drop};
+ghost use Rattle.rules.specs.Lists.{member, insert, union};
 ghost use Rattle.rules.specs.Records.{odd, most-sets};
 ghost use Rattle.rules.specs.Families.{product, spread};
 ghost use Rattle.families.specs.Parts.{HasPart, familyAt, withFamily};
+ghost use Rattle.families.specs.Present.{listAt, bitsBelow, BitsOf, Listed, Sets};
 use rules::MOST_VARIABLES;
 
 // How many sets so many variables have, and how many bytes hold a bit for each.
@@ -27,25 +28,28 @@ pub fn holds(work: &[u8], part: usize, set: usize) -> bool
     (work[PART * part + set / 8] >> (set % 8)) % 2 == 1
 }
 
-// The number of sets in a part.
+// How many of a byte's bits are set: those of each two, then of each four, then of all eight.
+fn ones(byte: u8) -> u8
+    ensures { λ r. ⌜ r ≡ bitsBelow byte 8 ⌝ }
+{
+    let twos = byte - (byte / 2 & 85);
+    let fours = (twos & 51) + (twos / 4 & 51);
+    fours % 16 + fours / 16
+}
+
+// The number of sets in a part, counted byte by byte.
 pub fn size(work: &[u8], part: usize) -> usize
     requires { ⌜ HasPart (now work) part ⌝ }
     ensures { λ r. ⌜ r ≡ length (familyAt (now (work .entry)) part) ⌝ }
 {
+    let from = PART * part;
     let mut sets = 0;
-    let mut set = 0;
-    while set < SETS {
-        sets += one_if(holds(work, part, set));
-        set += 1;
+    let mut counted = 0;
+    while counted < PART {
+        sets += ones(work[from + counted]) as usize;
+        counted += 1;
     }
     sets
-}
-
-// 1 for yes and 0 for no.
-fn one_if(yes: bool) -> usize
-    ensures { λ r. ⌜ r ≡ digit yes ⌝ }
-{
-    if yes { 1 } else { 0 }
 }
 
 // Takes every set out of a part.
@@ -111,85 +115,112 @@ pub fn copy(work: &mut [u8], into: usize, from: usize)
     unite(work, into, from);
 }
 
-// A byte with neighbouring bits, pairs of bits or halves changed over: bit k of the result is bit k xor 1, 2 or 4.
-fn bits_over(byte: u8) -> u8
-    ensures { λ r. ⌜ ((k : ℕ) → k < 8 → odd (r / 2 ^ k) ≡ odd (byte / 2 ^ bitXor k 1)) ⌝ }
-{
-    (byte & 85) * 2 + (byte / 2 & 85)
-}
+// ---- the list of a part
 
-fn pairs_over(byte: u8) -> u8
-    ensures { λ r. ⌜ ((k : ℕ) → k < 8 → odd (r / 2 ^ k) ≡ odd (byte / 2 ^ bitXor k 2)) ⌝ }
+// Behind the sets that are listed so far, which are below `low`, lists those of one byte, whose bit k is set low + k. Returns how many are listed then.
+fn list_byte(byte: u8, low: usize, sets: &mut [u16], listed: usize) -> usize
+    requires { ⌜ (low + 8 ≤ most-sets) × (listed + 8 ≤ length (now sets)) ⌝ }
+    ensures { λ r. ⌜ ((bytes start : List ℕ) (part : ℕ) → BitsOf byte bytes part low → Listed bytes part low start (now (sets .entry)) listed →
+        Listed bytes part (low + 8) start (now (sets .exit)) r) ⌝ }
+    ensures few { λ r. ⌜ r ≤ listed + 8 ⌝ }
 {
-    (byte & 51) * 4 + (byte / 4 & 51)
-}
-
-fn halves_over(byte: u8) -> u8
-    ensures { λ r. ⌜ ((k : ℕ) → k < 8 → odd (r / 2 ^ k) ≡ odd (byte / 2 ^ bitXor k 4)) ⌝ }
-{
-    (byte % 16) * 16 + byte / 16
-}
-
-// A byte whose bit k is bit k xor `by` of the given one.
-fn turned(byte: u8, by: usize) -> u8
-    requires { ⌜ by < 8 ⌝ }
-    ensures { λ r. ⌜ ((k : ℕ) → k < 8 → odd (r / 2 ^ k) ≡ odd (byte / 2 ^ bitXor k by)) ⌝ }
-{
-    let mut b = byte;
-    if by % 2 == 1 {
-        b = bits_over(b);
+    let mut at = listed;
+    let mut k = 0;
+    while k < 8 {
+        if (byte >> k) % 2 == 1 {
+            sets[at] = (low + k) as u16;
+            at += 1;
+        }
+        k += 1;
     }
-    if by / 2 % 2 == 1 {
-        b = pairs_over(b);
-    }
-    if by / 4 == 1 {
-        b = halves_over(b);
-    }
-    b
+    at
 }
 
-// Puts the symmetric differences of one set with all sets of a lower part into a part.
-fn differences(work: &mut [u8], into: usize, from: usize, set: usize)
-    requires { ⌜ HasPart (now work) into × (from < into) × (set < most-sets) ⌝ }
-    ensures { λ _. ⌜ now (work .exit) ≡ withFamily (now (work .entry)) into
-        (union (map (bitXor set) (familyAt (now (work .entry)) from)) (familyAt (now (work .entry)) into)) ⌝ }
+// Lists the sets that a part holds, each once and from the lowest-numbered up, at the front of `sets`. Goes over the part's bytes and looks into
+// those that are not 0. Returns how many there are.
+pub fn list_sets(work: &[u8], part: usize, sets: &mut [u16]) -> usize
+    requires { ⌜ HasPart (now work) part × (most-sets ≤ length (now sets)) ⌝ }
+    ensures sets { λ r. ⌜ now (sets .exit) ≡ listAt (now (work .entry)) part ++ drop r (now (sets .entry)) ⌝ }
+    ensures count { λ r. ⌜ r ≡ length (familyAt (now (work .entry)) part) ⌝ }
 {
-    let a = PART * into;
-    let b = PART * from;
-    let high = set / 8;
-    let low = set % 8;
+    let from = PART * part;
+    let mut listed = 0;
+    let mut passed = 0;
+    while passed < PART {
+        let byte = work[from + passed];
+        if byte != 0 {
+            listed = list_byte(byte, 8 * passed, sets, listed);
+        }
+        passed += 1;
+    }
+    listed
+}
+
+// ---- the product
+
+// Tries one pair: puts the symmetric difference of its sets into a part, and counts it.
+fn try_pair(work: &mut [u8], into: usize, set: u16, other: u16, tried: usize) -> usize
+    requires { ⌜ HasPart (now work) into × (set < most-sets) × (other < most-sets) × (tried < 2 ^ 32) ⌝ }
+    ensures made { λ _. ⌜ now (work .exit) ≡ withFamily (now (work .entry)) into
+        (insert (bitXor set other) (familyAt (now (work .entry)) into)) ⌝ }
+    ensures tried { λ r. ⌜ r ≡ tried + 1 ⌝ }
+{
+    insert(work, into, (set ^ other) as usize);
+    tried + 1
+}
+
+// Tries one set with each of the first `count` others.
+fn try_row(
+    work: &mut [u8],
+    into: usize,
+    set: u16,
+    others: &[u16],
+    count: usize,
+    before: usize,
+) -> usize
+    requires { ⌜ HasPart (now work) into × (set < most-sets) × (count ≤ length (now others)) × Sets (now others)
+        × (before + count ≤ 2 ^ 32) ⌝ }
+    ensures made { λ _. ⌜ now (work .exit) ≡ withFamily (now (work .entry)) into
+        (union (map (bitXor set) (take count (now (others .entry)))) (familyAt (now (work .entry)) into)) ⌝ }
+    ensures tried { λ r. ⌜ r ≡ before + count ⌝ }
+{
+    let mut tried = before;
     let mut j = 0;
-    while j < PART {
-        work[a + j] = work[a + j] | turned(work[b + (j ^ high)], low);
+    while j < count {
+        tried = try_pair(work, into, set, others[j], tried);
         j += 1;
     }
+    tried
 }
 
-// The turn of `multiply` at one set of the first family, or none where that family lacks it.
-fn multiply_by(work: &mut [u8], into: usize, first: usize, second: usize, set: usize)
-    requires { ⌜ HasPart (now work) into × (first < into) × (second < into) × (set < most-sets) ⌝ }
-    ensures { λ _. ⌜ now (work .exit) ≡ cond (member set (familyAt (now (work .entry)) first))
-        (withFamily (now (work .entry)) into
-        (union (map (bitXor set) (familyAt (now (work .entry)) second)) (familyAt (now (work .entry)) into)))
-        (now (work .entry)) ⌝ }
+// A part holds the product of two lower ones: lists the sets of each, and tries each pair of them once. Returns how many pairs it tried.
+pub fn product(work: &mut [u8], into: usize, first: usize, second: usize) -> usize
+    requires { ⌜ HasPart (now work) into × (first < into) × (second < into) ⌝ }
+    ensures made { λ _. ⌜ now (work .exit) ≡ withFamily (now (work .entry)) into
+        (product (familyAt (now (work .entry)) first) (familyAt (now (work .entry)) second)) ⌝ }
+    ensures tried { λ r. ⌜ r ≡ length (familyAt (now (work .entry)) first) * length (familyAt (now (work .entry)) second) ⌝ }
 {
-    if holds(work, first, set) {
-        differences(work, into, second, set);
+    let mut sets = [0u16; SETS];
+    let mut others = [0u16; SETS];
+    let rows = list_sets(work, first, &mut sets);
+    let columns = list_sets(work, second, &mut others);
+    make_empty(work, into);
+    let mut pairs = 0;
+    let mut i = 0;
+    while i < rows {
+        pairs = try_row(work, into, sets[i], &others, columns, pairs);
+        i += 1;
     }
+    pairs
 }
 
-// A part holds the product of two lower ones. Goes through the sets that the first holds.
+// The same for whoever does not ask how many pairs were tried.
 pub fn multiply(work: &mut [u8], into: usize, first: usize, second: usize)
     requires { ⌜ HasPart (now work) into × (first < into) × (second < into) ⌝ }
     ensures { λ _. ⌜ now (work .exit) ≡ withFamily (now (work .entry)) into
         (product (familyAt (now (work .entry)) first) (familyAt (now (work .entry)) second)) ⌝ }
 {
-    make_empty(work, into);
-    let mut set = 0;
-    while set < SETS {
-        multiply_by(work, into, first, second, set);
-        set += 1;
-    }
+    product(work, into, first, second);
 }
 
 // A part holds the empty set, two lower families and their product.

@@ -1,60 +1,46 @@
--- `families::size` meets its contract. The loop's invariant: `sets` counts those of the sets passed that the part holds. The measure is
--- what is left of the 1,024 sets. Assumes nothing.
-use Prim.Native.Nat.{ℕ, _+_, _-_, _≤_}
-use mathlib.Core.Path.{_≡_, refl, ap, _∙_}
-use mathlib.Core.Bool.{Bool, true, false, cond}
-use mathlib.Core.List.{List, _∷_}
-use native.Mathlib.Numerals.{add-one}
+-- `families::size` meets its contract. The loop's invariant: `sets` counts those of the sets of the bytes passed that the part holds. The measure is
+-- what is left of the 128 bytes. Assumes nothing.
+use Prim.Native.Nat.{_+_, _*_, _-_, _≤_}
+use mathlib.Core.Path.{_≡_, refl}
 use native.Mathlib.Omega.{arith}
 use lib.ListN.{length}
 use Rattle.rules.specs.Records.{most-sets}
-use Rattle.rules.specs.Lists.{digit}
-use Rattle.rules.specs.Families.{Family}
-use Rattle.rules.proofs.Lists.{digit-small}
-use Rattle.families.specs.Parts.{holdsAt, setsBelow, familyAt}
-use Rattle.families.proofs.Parts.{member-at}
+use Rattle.families.specs.Parts.{setsBelow, familyAt}
+use Rattle.families.proofs.Parts.{length-below}
+use Rattle.families.proofs.Present.{bits-of, length-more}
 use Rattle.families.proofs.size.Statement.{statement}
 use Rattle.families.proofs.size.Tie as tie
 
--- one set more
-one-more : (bytes : List ℕ) (part k : ℕ) → length (setsBelow bytes part (k + 1)) ≡ length (setsBelow bytes part k) + digit (holdsAt bytes part k)
-unfolding setsBelow
-one-more bytes part k = rw (add-one k) (go (holdsAt bytes part k))
-  where
-    F : Family
-    F = setsBelow bytes part k
-
-    go : (b : Bool) → length (cond b (k ∷ F) F) ≡ length F + digit b
-    go true = omega arith
-    go false = omega arith
-
 abbrev Inv-loop : tie.InvT-loop
-Inv-loop work part sets₀ set₀ sets set = (set ≤ most-sets) × (sets ≤ set) × (sets ≡ length (setsBelow work part set))
+Inv-loop work part from sets₀ counted₀ sets counted = (counted ≤ 128) × (sets ≡ length (setsBelow work part (8 * counted)))
 
 abbrev μ-loop : tie.MeasureT-loop
-μ-loop work part sets₀ set₀ sets set = most-sets - set
+μ-loop work part from sets₀ counted₀ sets counted = 128 - counted
 
--- what a turn adds
-counted : (c : tie.After-one-if Inv-loop μ-loop)
-    → c .one-if .result
-    ≡ digit (holdsAt (c .before .before .before .before .before .args .work .now) (c .before .before .before .before .before .args .part) (c .before .before .before .loop .set))
-counted c = c .one-if .ensures ∙ ap digit (c .before .holds .ensures ∙ member-at _ _ _ (c .before .before .loop-test .taken))
+mul-from : tie.Need-mul-from Inv-loop μ-loop
+mul-from c = omega arith
 
 loop-holds : tie.Need-loop-holds Inv-loop μ-loop
 unfolding setsBelow
-loop-holds c = (omega arith, omega arith, refl)
+loop-holds c = (omega arith, refl)
 
-holds-requires : tie.Need-holds-requires Inv-loop μ-loop
-holds-requires c κs = (c .before .before .before .pre, c .loop-test .taken)
+add-ones : tie.Need-add-ones Inv-loop μ-loop
+add-ones c = omega arith
 
-one-if-requires : tie.Need-one-if-requires Inv-loop μ-loop
-one-if-requires c κs = tt
+shared-slice-read-ones : tie.Need-shared-slice-read-ones Inv-loop μ-loop
+shared-slice-read-ones c = omega arith
+
+ones-requires : tie.Need-ones-requires Inv-loop μ-loop
+ones-requires c κs = tt
+
+cast-sets : tie.Need-cast-sets Inv-loop μ-loop
+cast-sets c = omega arith
 
 add-sets : tie.Need-add-sets Inv-loop μ-loop
-add-sets c = omega (arith, c .one-if .ensures, digit-small (c .before .holds .result))
+add-sets c = omega (arith, length-below (c .before .before .before .before .before .args .work .now) (c .before .before .before .before .before .args .part) (8 * c .before .before .before .loop .counted))
 
-add-set : tie.Need-add-set Inv-loop μ-loop
-add-set c = omega arith
+add-counted : tie.Need-add-counted Inv-loop μ-loop
+add-counted c = omega arith
 
 loop-less : tie.Need-loop-less Inv-loop μ-loop
 loop-less c = omega arith
@@ -62,14 +48,15 @@ loop-less c = omega arith
 loop-again : tie.Need-loop-again Inv-loop μ-loop
 loop-again c =
     let args = c .before .before .before .before .before .args in
-    let set = c .before .before .before .loop .set in
-    (omega arith, omega (arith, c .one-if .ensures, digit-small (c .before .holds .result)), omega (arith, one-more (args .work .now) (args .part) set, counted c))
+    let j = c .before .before .before .loop .counted in
+    let next : 8 * (j + 1) ≡ 8 * j + 8 = omega arith in
+    (omega arith, rw next (omega (arith, c .ones .ensures, length-more (args .work .now) (args .part) (8 * j) _ (bits-of (args .work .now) (args .part) j) 8 (omega arith))))
 
 returns : tie.Need-returns Inv-loop μ-loop
 unfolding familyAt
 returns c =
-    let all : c .before .loop .set ≡ most-sets = omega arith in
-    rw all at (c .before .loop .inv .2)
+    let all : 8 * c .before .loop .counted ≡ most-sets = omega arith in
+    rw all at (c .before .loop .inv .1)
 
 pub size-spec : {M : Type 1} → statement M
 size-spec =
@@ -77,11 +64,14 @@ size-spec =
     (tie.spec
     Inv-loop
     μ-loop
+    mul-from
     loop-holds
-    holds-requires
-    one-if-requires
+    add-ones
+    shared-slice-read-ones
+    ones-requires
+    cast-sets
     add-sets
-    add-set
+    add-counted
     loop-less
     loop-again
     returns)
