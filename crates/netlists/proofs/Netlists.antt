@@ -133,6 +133,25 @@ flat-injective n m e =
 
 -- ---- a netlist by value
 
+-- a class byte, or a node's record, is stored behind the last one
+abbrev pub withClass : Flat → (byte : ℕ) → Flat
+withClass value b =
+    record {
+      variables = value .variables + 1;
+      count = value .count;
+      classes = set (value .classes) (value .variables) b;
+      nodes = value .nodes;
+    }
+
+abbrev pub withEntry : Flat → Node → Flat
+withEntry value last =
+    record {
+      variables = value .variables;
+      count = value .count + 1;
+      classes = value .classes;
+      nodes = set (value .nodes) (value .count) last;
+    }
+
 module _ {value : Flat} (n : Netlist) (e : value ≡ flatOf n) where
   pub value-variables : value .variables ≡ length (n .variables)
   unfolding flatOf
@@ -145,26 +164,14 @@ module _ {value : Flat} (n : Netlist) (e : value ≡ flatOf n) where
   pub value-entry : (i : ℕ) → i < value .count → getD (value .nodes) i blank ≡ entry (getD (n .nodes) i (input 0))
   value-entry i h = ap (λ (t : Flat). getD (t .nodes) i blank) e ∙ flat-entry-at n i (omega (arith, value-count))
 
-  -- with a class or a node stored behind its last one it is that of one variable or node more
-  pub value-variable : (c : Class) → value .variables < most-variables
-      → record {
-        variables = value .variables + 1;
-        count = value .count;
-        classes = set (value .classes) (value .variables) (classByte c);
-        nodes = value .nodes;
-      } ≡ flatOf (withVariable n c)
+  -- with one class or one node's record more it is that of one variable or one node more
+  pub value-variable : (c : Class) → value .variables < most-variables → withClass value (classByte c) ≡ flatOf (withVariable n c)
   unfolding flatOf
   value-variable c h =
       let room : length (n .variables) < most-variables = omega (arith, value-variables) in
       rw (e, made-set classByte most-variables 0 (n .variables) c room) (cc (length-append (n .variables) (c ∷ [])))
 
-  pub value-node : (cell : Cell) → value .count < most-nodes
-      → record {
-        variables = value .variables;
-        count = value .count + 1;
-        classes = value .classes;
-        nodes = set (value .nodes) (value .count) (entry cell);
-      } ≡ flatOf (withNode n cell)
+  pub value-node : (cell : Cell) → value .count < most-nodes → withEntry value (entry cell) ≡ flatOf (withNode n cell)
   unfolding flatOf
   value-node cell h =
       let room : length (n .nodes) < most-nodes = omega (arith, value-count) in
@@ -248,15 +255,10 @@ pub record Stands (file : ReadFile) (end : Outcome Netlist) : Type 0 where
   pub value : file .netlist ≡ flatOf netlist
 
 module _ {file : ReadFile} where
-  -- its netlist by value
-  pub read-value : (n : Netlist) → Reads file (answered n) → file .netlist ≡ flatOf n
-  unfolding kept
-  read-value n r = r .netlist
-
   -- it is answered, and so stands; or it is refused
   pub read-stands : (end : Outcome Netlist) → Reads file end → file .outcome ≡ Query.Answered → Stands file end
-  unfolding andThen
-  read-stands (answered n) r o = record { netlist = n; is = refl; value = read-value n r }
+  unfolding andThen kept
+  read-stands (answered n) r o = record { netlist = n; is = refl; value = r .netlist }
   read-stands (refused k p) r o = let no : _≡_ {A = ℕ} 0 1 = cc (ap queryOf o) in absurd (omega arith)
 
   pub read-refused : (end : Outcome Netlist) (refusal : Refusal) → Reads file end → file .outcome ≡ Query.Refused refusal

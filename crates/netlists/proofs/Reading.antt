@@ -1,18 +1,17 @@
 -- The reading of a file, as a loop takes it: before each record the rules are still reading, with this netlist and at this offset. A refusal and the
 -- end record end the reading with the rules' own outcome (`ends`); a variable or a node that is stored behind the others is what the rules take next.
 -- Assumes nothing.
-use Prim.Native.Nat.{ℕ, suc, _+_, _≤_, _<_}
+use Prim.Native.Nat.{ℕ, _+_, _≤_, _<_}
 use mathlib.Core.Path.{_≡_, refl, sym, ap, _∙_}
 use mathlib.Core.List.{List}
 use native.Mathlib.Numerals.{add-one}
-use native.Mathlib.Omega.{arith}
-use lib.ListN.{length, getD, set}
+use lib.ListN.{length, getD}
 use borrow.Author.Tests.{leb-false, ltb-false}
 use Rattle.rules.specs.declared.Node.{Node}
 use Rattle.rules.specs.declared.Refusal.{Refusal}
 use Rattle.rules.specs.Records.{Cell, Record, node, Netlist, withVariable, withNode, most-variables, most-nodes, last-kind, classOf, said, size}
 use Rattle.rules.specs.Slices.{entry}
-use Rattle.rules.specs.Checks.{Outcome, answered, refused, overLimit, judgedAt, recordAt, reading, finished, taken, step, after, read}
+use Rattle.rules.specs.Checks.{Outcome, answered, refused, overLimit, judgedAt, recordAt, reading, taken, step, after, read}
 use Rattle.rules.specs.Paper.{numberOf, placeOf}
 use Rattle.rules.proofs.Records.{Accepted, accepted, byte-of-class}
 use Rattle.rules.proofs.Reading.{ends}
@@ -20,7 +19,7 @@ use Rattle.records.specs.declared.Found.the-variants as Found
 use Rattle.records.specs.Found.{RecordBytes, foundOf, foundAt}
 use Rattle.netlists.specs.declared.Netlist.{Netlist as Flat}
 use Rattle.netlists.specs.Netlists.{flatOf}
-use Rattle.netlists.proofs.Netlists.{value-variables, value-count, value-variable, value-node, says-end, says-variable, says-node, found-record, found-refusal}
+use Rattle.netlists.proofs.Netlists.{withClass, withEntry, value-variables, value-count, value-variable, value-node, says-end, says-variable, says-node, found-record, found-refusal}
 
 -- after so many records the rules are reading, with this netlist by value, at this offset
 pub record Reached (bytes : List ℕ) (records : ℕ) (value : Flat) (here : ℕ) : Type 0 where
@@ -91,14 +90,7 @@ module _ {bytes : List ℕ} {records : ℕ} {value : Flat} {here k b c : ℕ} (t
 
   -- and once it is stored, the next record is reached
   pub variable-stored : (s : ℕ) → k ≡ 1 → s ≡ size (said k b c)
-      → Reached bytes (records + 1)
-      (record {
-        variables = value .variables + 1;
-        count = value .count;
-        classes = set (value .classes) (value .variables) b;
-        nodes = value .nodes;
-      })
-      (here + s)
+      → Reached bytes (records + 1) (withClass value b) (here + s)
   unfolding taken
   variable-stored s one sized =
       let says = says-variable k b c one in
@@ -110,14 +102,7 @@ module _ {bytes : List ℕ} {records : ℕ} {value : Flat} {here k b c : ℕ} (t
       }
 
   pub node-stored : (s : ℕ) (last : Node) → 2 ≤ k → s ≡ size (said k b c) → ((cell : Cell) → said k b c ≡ node cell → last ≡ entry cell)
-      → Reached bytes (records + 1)
-      (record {
-        variables = value .variables;
-        count = value .count + 1;
-        classes = value .classes;
-        nodes = set (value .nodes) (value .count) last;
-      })
-      (here + s)
+      → Reached bytes (records + 1) (withEntry value last) (here + s)
   unfolding taken
   node-stored s last more sized own =
       let (cell, says) = says-node k b c more known in

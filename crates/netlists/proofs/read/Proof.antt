@@ -1,9 +1,10 @@
 -- `netlists::read` meets its contract. The loop's invariant: after as many records as were taken, at most `most-records`, the rules are still reading,
 -- with this netlist at this offset (`Reached`). The measure is what is left of them. Assumes nothing.
-use Prim.Native.Nat.{_-_, _≤_}
+use Prim.Native.Nat.{_-_, _≤_, _<_}
 use mathlib.Core.Path.{_≡_, refl, sym, ap, _∙_}
 use native.Mathlib.Omega.{arith}
 use borrow.Author.Needs.{needs}
+use Rattle.rules.specs.Records.{most-nodes}
 use Rattle.rules.specs.Checks.{after, most-records, outcomeOf, read}
 use Rattle.records.specs.Found.{foundOf}
 use Rattle.netlists.proofs.Reading.{Reached, refused-here, Turn, inside, known, answered-here, variable-room, node-room, variable-stored, node-stored}
@@ -88,17 +89,21 @@ loop-again c =
 entry-of-requires : tie.Need-entry-of-requires Inv-loop μ-loop
 entry-of-requires c κs = search needs
 
+-- a record that says neither the end nor a variable says a node, which has room
 more : (c : tie.After-entry-of Inv-loop μ-loop) → 2 ≤ c .before .before .before .before .before .k .given .0 .0
 more c = omega arith
 
+room : (c : tie.After-entry-of Inv-loop μ-loop) → c .before .before .before .before .before .before .before .before .before .loop .netlist .count < most-nodes
+room c = node-room (turn (c .before .before .before .before)) (more c)
+
 mul-t23 : tie.Need-mul-t23 Inv-loop μ-loop
-mul-t23 c = omega (arith, node-room (turn (c .before .before .before .before)) (more c))
+mul-t23 c = omega (arith, room c)
 
 element-set-from-netlist : tie.Need-element-set-from-netlist Inv-loop μ-loop
-element-set-from-netlist c = omega (arith, node-room (turn (c .before .before .before .before)) (more c))
+element-set-from-netlist c = room c
 
 add-netlist-2 : tie.Need-add-netlist-2 Inv-loop μ-loop
-add-netlist-2 c = omega (arith, node-room (turn (c .before .before .before .before)) (more c))
+add-netlist-2 c = omega (arith, room c)
 
 loop-less-2 : tie.Need-loop-less-2 Inv-loop μ-loop
 loop-less-2 c = search needs
