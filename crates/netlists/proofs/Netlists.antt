@@ -1,7 +1,7 @@
 -- Netlists by value: a store behind the entries is one entry more, each entry stands in the flat form, and no two netlists have the same one. By laws
 -- of padded lists of any length, so that no array is unfolded. And what follows of one record that was found, and of a file that was read, where
 -- it is answered and where it is refused. Assumes nothing.
-use Prim.Native.Nat.{ℕ, zero, suc, _-_, _≤_, _<_}
+use Prim.Native.Nat.{ℕ, zero, suc, _+_, _-_, _≤_, _<_}
 use mathlib.Core.Path.{_≡_, refl, sym, ap, subst, _∙_}
 use mathlib.Core.List.{List, [], _∷_, _++_, map, map-append}
 use native.Mathlib.Nat.{sub-zero}
@@ -11,7 +11,7 @@ use lib.Seq.{append-snoc, set-append-seam, take-at}
 use Rattle.rules.specs.declared.Node.{Node}
 use Rattle.rules.specs.declared.Refusal.{Refusal}
 use Rattle.rules.specs.declared.QueryOutcome.the-variants as Query
-use Rattle.rules.specs.Records.{public, Cell, input, NOT, XOR, AND, OR, register, Record, node, Netlist, WellFormed, said, classOf, classByte, kindOf, operands, setOf, most-variables, most-nodes}
+use Rattle.rules.specs.Records.{Class, public, Cell, input, NOT, XOR, AND, OR, register, Record, end, variable, node, Netlist, WellFormed, withVariable, withNode, said, classOf, classByte, kindOf, operands, setOf, most-variables, most-nodes}
 use Rattle.rules.specs.Slices.{entry}
 use Rattle.rules.specs.Checks.{Outcome, answered, refused, andThen, judgedRecord, read, most-work}
 use Rattle.rules.specs.Paper.{numberOf, placeOf, queryOf}
@@ -133,6 +133,25 @@ flat-injective n m e =
 
 -- ---- a netlist by value
 
+-- a class byte, or a node's record, is stored behind the last one
+abbrev pub withClass : Flat → (byte : ℕ) → Flat
+withClass value b =
+    record {
+      variables = value .variables + 1;
+      count = value .count;
+      classes = set (value .classes) (value .variables) b;
+      nodes = value .nodes;
+    }
+
+abbrev pub withEntry : Flat → Node → Flat
+withEntry value last =
+    record {
+      variables = value .variables;
+      count = value .count + 1;
+      classes = value .classes;
+      nodes = set (value .nodes) (value .count) last;
+    }
+
 module _ {value : Flat} (n : Netlist) (e : value ≡ flatOf n) where
   pub value-variables : value .variables ≡ length (n .variables)
   unfolding flatOf
@@ -144,6 +163,19 @@ module _ {value : Flat} (n : Netlist) (e : value ≡ flatOf n) where
 
   pub value-entry : (i : ℕ) → i < value .count → getD (value .nodes) i blank ≡ entry (getD (n .nodes) i (input 0))
   value-entry i h = ap (λ (t : Flat). getD (t .nodes) i blank) e ∙ flat-entry-at n i (omega (arith, value-count))
+
+  -- with one class or one node's record more it is that of one variable or one node more
+  pub value-variable : (c : Class) → value .variables < most-variables → withClass value (classByte c) ≡ flatOf (withVariable n c)
+  unfolding flatOf
+  value-variable c h =
+      let room : length (n .variables) < most-variables = omega (arith, value-variables) in
+      rw (e, made-set classByte most-variables 0 (n .variables) c room) (cc (length-append (n .variables) (c ∷ [])))
+
+  pub value-node : (cell : Cell) → value .count < most-nodes → withEntry value (entry cell) ≡ flatOf (withNode n cell)
+  unfolding flatOf
+  value-node cell h =
+      let room : length (n .nodes) < most-nodes = omega (arith, value-count) in
+      rw (e, made-set entry most-nodes blank (n .nodes) cell room) (cc (length-append (n .nodes) (cell ∷ [])))
 
 -- of one that obeys the record rules
 module _ {value : Flat} (f : Formed value) where
@@ -180,7 +212,15 @@ module _ {value : Flat} (f : Formed value) where
 
 -- ---- one record of a file
 
--- a kind from 2 to 7 says a node
+-- kind 0 says the end, kind 1 a variable, and a kind from 2 to 7 a node
+pub says-end : (k b c : ℕ) → k ≡ 0 → said k b c ≡ end
+unfolding said
+says-end k b c e = rw e
+
+pub says-variable : (k b c : ℕ) → k ≡ 1 → said k b c ≡ variable (classOf b)
+unfolding said
+says-variable k b c e = rw e
+
 pub says-node : (k b c : ℕ) → 2 ≤ k → k ≤ 7 → (cell : Cell) × (said k b c ≡ node cell)
 unfolding said
 says-node zero b c p q = absurd (omega arith)
@@ -215,15 +255,10 @@ pub record Stands (file : ReadFile) (end : Outcome Netlist) : Type 0 where
   pub value : file .netlist ≡ flatOf netlist
 
 module _ {file : ReadFile} where
-  -- its netlist by value
-  pub read-value : (n : Netlist) → Reads file (answered n) → file .netlist ≡ flatOf n
-  unfolding kept
-  read-value n r = r .netlist
-
   -- it is answered, and so stands; or it is refused
   pub read-stands : (end : Outcome Netlist) → Reads file end → file .outcome ≡ Query.Answered → Stands file end
-  unfolding andThen
-  read-stands (answered n) r o = record { netlist = n; is = refl; value = read-value n r }
+  unfolding andThen kept
+  read-stands (answered n) r o = record { netlist = n; is = refl; value = r .netlist }
   read-stands (refused k p) r o = let no : _≡_ {A = ℕ} 0 1 = cc (ap queryOf o) in absurd (omega arith)
 
   pub read-refused : (end : Outcome Netlist) (refusal : Refusal) → Reads file end → file .outcome ≡ Query.Refused refusal

@@ -1,19 +1,16 @@
--- Netlists by value, a file that is being read, and one that was read. Cited by this crate's contracts and its callers'. Assumes nothing.
-use Prim.Native.Nat.{ℕ, _+_, _*_, _-_, _^_, _≤_, _<_}
+-- Netlists by value, and a file that was read. Cited by this crate's contracts and its callers'. Assumes nothing.
+use Prim.Native.Nat.{ℕ, _*_, _-_, _≤_}
 use mathlib.Core.Path.{_≡_}
-use mathlib.Core.Bool.{Bool, true, false}
 use mathlib.Core.List.{List, _++_, map}
 use lib.ListN.{length, replicate}
 use Rattle.rules.specs.declared.Node.{Node}
 use Rattle.rules.specs.Records as R
-use Rattle.rules.specs.Records.{empty, most-variables, most-nodes, said, classByte, last-kind, most-record}
+use Rattle.rules.specs.Records.{empty, most-variables, most-nodes, classByte}
 use Rattle.rules.specs.Slices.{entry}
-use Rattle.rules.specs.Checks as C
-use Rattle.rules.specs.Checks.{Outcome, answered, refused, andThen, overLimit, reading, finished}
+use Rattle.rules.specs.Checks.{Outcome, answered, refused, andThen}
 use Rattle.rules.specs.Paper.{queryOf}
 use Rattle.netlists.specs.declared.Netlist.{Netlist}
 use Rattle.netlists.specs.declared.ReadFile.{ReadFile}
-use Rattle.netlists.specs.declared.Progress.{Progress}
 
 -- a list of k entries that begins with xs and goes on with `rest`
 unfoldable pub padded {ℓ} : {A : Type ℓ} → (k : ℕ) (rest : A) → List A → List A
@@ -58,29 +55,3 @@ kept (refused k p) = empty
 pub record Reads (file : ReadFile) (end : Outcome R.Netlist) : Type 0 where
   pub outcome : queryOf (file .outcome) ≡ andThen end (λ n. answered tt)
   pub netlist : file .netlist ≡ flatOf (kept end)
-
--- the record of these bytes has a kind and, where it is a variable, a class; and there is room for it behind those of a reading
-pub record RoomFor (progress : Progress) (k b c : ℕ) : Type 0 where
-  pub kind : k ≤ last-kind
-  pub class : k ≡ 1 → b ≤ 2
-  pub room : overLimit (progress .file .netlist .variables) (progress .file .netlist .count) (said k b c) ≡ false
-  pub here : progress .here + most-record < 2 ^ 64
-
--- whether a reading is over, the offset of its next record, and what the records so far come to
-abbrev pub isOver : C.Progress → Bool
-isOver (reading n here) = false
-isOver (finished outcome) = true
-
-abbrev pub offsetOf : C.Progress → ℕ
-offsetOf (reading n here) = here
-offsetOf (finished outcome) = 0
-
-abbrev pub soFar : C.Progress → Outcome R.Netlist
-soFar (reading n here) = answered n
-soFar (finished outcome) = outcome
-
--- how far the reading of a file has come
-pub record Reached (s : Progress) (p : C.Progress) : Type 0 where
-  pub over : s .over ≡ isOver p
-  pub here : s .here ≡ offsetOf p
-  pub file : Reads (s .file) (soFar p)

@@ -1,13 +1,12 @@
 // Netlists by value, and the walk over a file, which takes record by record and gives its netlist or the refusal.
 ghost use mathlib.Core.Path.{_≡_};
 ghost use Prim.Native.Nat.{ℕ, _+_, _<_, _≤_};
-ghost use Rattle.rules.specs.Records.{Cell, Class, said, size, node, classByte, empty, withVariable, withNode, most-variables, most-nodes, last-kind, most-record};
+ghost use Rattle.rules.specs.Records.{Cell, said, size, node, empty, withNode, most-nodes, last-kind, most-record};
 ghost use Rattle.rules.specs.Records as Records;
 ghost use Rattle.rules.specs.Slices.{entry};
-ghost use Rattle.rules.specs.Checks.{taken, step, outcomeOf};
 ghost use Rattle.rules.specs.Checks as Checks;
 ghost use Rattle.rules.specs.Paper.{numberOf, placeOf};
-ghost use Rattle.netlists.specs.Netlists.{flatOf, Reads, RoomFor, Reached};
+ghost use Rattle.netlists.specs.Netlists.{flatOf, Reads};
 use records::Found;
 use rules::MOST_NODES;
 use rules::MOST_VARIABLES;
@@ -32,14 +31,6 @@ pub struct ReadFile {
     pub netlist: Netlist,
 }
 
-// How far a file is read: whether the reading is over, the offset of the next record (0 once it is over), and what the
-// records so far come to.
-struct Progress {
-    over: bool,
-    here: usize,
-    file: ReadFile,
-}
-
 // The netlist of no records.
 pub fn no_records() -> Netlist
     ensures { λ r. ⌜ r ≡ flatOf empty ⌝ }
@@ -55,19 +46,6 @@ pub fn no_records() -> Netlist
             set: 0,
         }; MOST_NODES],
     }
-}
-
-// The netlist with one variable more.
-fn with_variable(netlist: Netlist, class: u8) -> Netlist
-    requires { ⌜ netlist .variables < most-variables ⌝ }
-    ensures { λ r. ⌜ ((n : Records.Netlist) (c : Class) → netlist ≡ flatOf n → class ≡ classByte c →
-        r ≡ flatOf (withVariable n c)) ⌝ }
-{
-    let mut longer = netlist;
-    let at = longer.variables;
-    longer.classes[at] = class;
-    longer.variables = at + 1;
-    longer
 }
 
 // The netlist with one node more.
@@ -157,80 +135,36 @@ pub fn refused(refusal: Refusal) -> ReadFile
     }
 }
 
-// A record of kind `k` with the body `b`, `c` is taken: the end record ends the reading, and a variable or a node goes
-// behind those before it.
-fn with_record(progress: Progress, k: u8, b: u8, c: u8) -> Progress
-    requires { ⌜ RoomFor progress k b c ⌝ }
-    ensures { λ r. ⌜ ((n : Records.Netlist) (here : ℕ) → Reached progress (Checks.reading n here) →
-        Reached r (taken n here (Checks.answered (said k b c)))) ⌝ }
-{
-    let file = progress.file;
-    if k == 0 {
-        return Progress {
-            over: true,
-            here: 0,
-            file,
-        };
-    }
-    let here = progress.here + size_of(k);
-    let netlist = file.netlist;
-    if k == 1 {
-        return Progress {
-            over: false,
-            here,
-            file: answered(with_variable(netlist, b)),
-        };
-    }
-    Progress {
-        over: false,
-        here,
-        file: answered(with_node(netlist, entry_of(k, b, c))),
-    }
-}
-
-// Takes the next record; a reading that is over stays as it is.
-fn take_record(bytes: &[u8], progress: Progress) -> Progress
-    ensures { λ r. ⌜ ((p : Checks.Progress) → Reached progress p → Reached r (step (now (bytes .entry)) p)) ⌝ }
-{
-    if progress.over {
-        return progress;
-    }
-    let here = progress.here;
-    let file = progress.file;
-    let netlist = file.netlist;
-    match records::next_record(bytes, here, netlist.variables, netlist.count) {
-        Found::Refused(refusal) => Progress {
-            over: true,
-            here: 0,
-            file: refused(refusal),
-        },
-        Found::Record(k, b, c) => with_record(progress, k, b, c),
-    }
-}
-
-// What a reading comes to. One that is not over has met no end record.
-fn outcome_of(bytes: &[u8], progress: Progress) -> ReadFile
-    ensures { λ r. ⌜ ((p : Checks.Progress) → Reached progress p → Reads r (outcomeOf (now (bytes .entry)) p)) ⌝ }
-{
-    if progress.over {
-        return progress.file;
-    }
-    refused(Refusal::NoEnd(bytes.len()))
-}
-
-// Reads a whole file: its netlist, or the refusal.
+// Reads a whole file: its netlist, or the refusal. A variable or a node goes behind those before it, in place; the end
+// record ends the reading, and so does a refusal.
 pub fn read(bytes: &[u8]) -> ReadFile
     ensures { λ r. ⌜ Reads r (Checks.read (now (bytes .entry))) ⌝ }
 {
-    let mut progress = Progress {
-        over: false,
-        here: 0,
-        file: answered(no_records()),
-    };
+    let mut netlist = no_records();
+    let mut here = 0;
     let mut records: usize = 0;
     while records < MOST_RECORDS {
-        progress = take_record(bytes, progress);
-        records += 1;
+        match records::next_record(bytes, here, netlist.variables, netlist.count) {
+            Found::Refused(refusal) => {
+                return refused(refusal);
+            }
+            Found::Record(k, b, c) => {
+                if k == 0 {
+                    return answered(netlist);
+                }
+                records += 1;
+                here += size_of(k);
+                if k == 1 {
+                    let at = netlist.variables;
+                    netlist.classes[at] = b;
+                    netlist.variables = at + 1;
+                } else {
+                    let at = netlist.count;
+                    netlist.nodes[at] = entry_of(k, b, c);
+                    netlist.count = at + 1;
+                }
+            }
+        }
     }
-    outcome_of(bytes, progress)
+    refused(Refusal::NoEnd(bytes.len()))
 }
