@@ -1,5 +1,6 @@
 -- The list of the sets present in a part: each is there once, in rising order, and no other. And how a part is gone through byte by byte: its list
--- by one set more, and by a byte with no bit set; its number of sets by the bits of a byte. By induction on the sets passed. Assumes nothing.
+-- by one set more, and by a byte with no bit set; its number of sets by the bits of a byte. By induction on the sets passed. A list and a product
+-- that are computed. Assumes nothing.
 use Prim.Native.Nat.{ℕ, zero, suc, _+_, _*_, _-_, _/_, _%_, _^_, _<_, _≤_}
 use mathlib.Core.Path.{_≡_, refl, sym, ap, _∙_}
 use mathlib.Core.Logic.{_⊎_, inl, inr}
@@ -11,9 +12,9 @@ use native.Mathlib.Omega.{arith}
 use lib.Dec.{eqb}
 use lib.ListN.{length, getD, set, take, drop, replicate, length-append, length-drop, length-replicate, getD-replicate, List·getD-append, List·getD-eq-default}
 use lib.Seq.{set-at, take-at, drop-cons, append-snoc, getD-at, getD-drop, getD-append-add}
-use Rattle.rules.specs.Lists.{digit, member}
+use Rattle.rules.specs.Lists.{digit, member, insert, union}
 use Rattle.rules.specs.Records.{odd, most-sets}
-use Rattle.rules.specs.Families.{Family}
+use Rattle.rules.specs.Families.{Family, product}
 use Rattle.rules.proofs.Tests.{lt-or-le}
 use Rattle.rules.proofs.Members.{All, entry-member}
 use Rattle.families.specs.Parts.{holdsAt, setsBelow, familyAt}
@@ -187,3 +188,15 @@ length-more bytes part low byte bits (suc k) h =
         ≡ length (setsBelow bytes part low) + (bitsBelow byte k + digit b)
     one-more true e = omega arith
     one-more false e = omega arith
+
+-- ---- computed
+
+-- the part whose first byte has bits 0 and 7 and whose second has bit 0 is listed from below
+pub listed-rises : reversed (setsBelow (129 ∷ 1 ∷ []) 0 16) ≡ 0 ∷ 7 ∷ 8 ∷ []
+unfolding reversed setsBelow holdsAt
+listed-rises = refl
+
+-- two sets with themselves are four pairs, which make two sets: pairs are not counted by what they make
+pub pairs-not-sets : length (product (1 ∷ 2 ∷ []) (1 ∷ 2 ∷ [])) ≡ 2 * 2 → ⊥
+unfolding product union insert member
+pairs-not-sets e = omega arith

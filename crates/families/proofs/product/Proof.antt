@@ -86,7 +86,7 @@ start c = first-listed c .before .before .before .before
 
 -- each list has at most 1,024 sets
 few : (c : tie.At-loop Inv-loop μ-loop) → (first-listed c .list-sets .result ≤ most-sets) × (second-listed c .list-sets2 .result ≤ most-sets)
-few c = (omega (arith, first-listed c .list-sets .ensures .1, length-at (now (start c .args .work)) (start c .args .first)), omega (arith, second-listed c .list-sets2 .ensures .1, length-at (now (start c .args .work)) (start c .args .second)))
+few c = (rw (first-listed c .list-sets .ensures .1) (length-at _ _), rw (second-listed c .list-sets2 .ensures .1) (length-at _ _))
 
 slice-aggregate-list-sets : tie.Need-slice-aggregate-list-sets Inv-loop μ-loop
 slice-aggregate-list-sets c = search needs
@@ -130,13 +130,12 @@ try-row-requires : tie.Need-try-row-requires Inv-loop μ-loop
 try-row-requires c κs =
     let head = c .before .before .before in
     let (within, has, long, tried, so-far) = head .loop .inv in
-    let args = start head .args in
     let first = first-listed head .list-sets in
     let second = second-listed head .list-sets2 in (
       omega (arith, has, long),
-      front-sets (now (args .work)) (args .first) _ _ _ (first .ensures .0) (first .ensures .1) (zeros-sets 1024 (first .result)) (head .loop .i),
+      front-sets _ _ _ _ _ (first .ensures .0) (first .ensures .1) (zeros-sets 1024 (first .result)) (head .loop .i),
       omega (arith, few head, second .kept),
-      front-sets (now (args .work)) (args .second) _ _ _ (second .ensures .0) (second .ensures .1) (zeros-sets 1024 (second .result)),
+      front-sets _ _ _ _ _ (second .ensures .0) (second .ensures .1) (zeros-sets 1024 (second .result)),
       omega (arith, few head, few-pairs (head .loop .i) (second .result) (omega (arith, few head)) (few head .1)),
     )
 
