@@ -1,5 +1,6 @@
--- Sets as the bits of bytes. Of a byte's eight sets, those that hold none of some variables, by the variables from 3 on and those below; the bits of
--- a complement and of what two bytes have in common. What is said of all small numbers is a test that antt computes at each. Assumes nothing.
+-- Maps of sets, as the bits of 128 bytes. Of a byte's eight sets, those that hold none of some variables, by the variables from 3 on and by those below;
+-- what a map and a part have in common, byte by byte; and that no set of a part is suspect where it has none in common with the map of the suspect
+-- sets. What is said of all small numbers is a test that antt computes at each. Assumes nothing.
 use Prim.Native.Nat.{ℕ, zero, suc, _+_, _*_, _-_, _/_, _%_, _^_, _<_, _≤_}
 use mathlib.Core.Path.{_≡_, refl, sym, _∙_}
 use mathlib.Core.Logic.{_⊎_, inl, inr, _↔_}
@@ -22,8 +23,9 @@ use Rattle.families.proofs.Parts.{below-at}
 use Rattle.families.proofs.Filling.{bit-at}
 use Rattle.report_order.specs.Order.{setAt}
 use Rattle.report_order.proofs.Order.{set-low}
+use Rattle.suspects.specs.Suspects.{Common}
 
--- ---- a test at each two numbers below bounds
+-- ---- two tests that agree at each two numbers below bounds
 
 abbrev passes : (ℕ → Bool) → ℕ → Bool
 passes f zero = true
@@ -37,28 +39,41 @@ passed f (suc n) t i h = go (eq-or-lt-of-le (le-of-suc-le-suc h)) (passed f n (a
     go (inl e) before = rw e (and-left (f n) (passes f n) t)
     go (inr l) before = before l
 
--- two tests agree at each
-agree : (f g : ℕ → ℕ → Bool) (m n : ℕ) → T (passes (λ i. passes (λ j. Bool·beq (f i j) (g i j)) n) m)
-    → (i j : ℕ) → i < m → j < n → f i j ≡ g i j
-agree f g m n t i j h l = same-bit _ _ (passed (λ j. Bool·beq (f i j) (g i j)) n (passed (λ i. passes (λ j. Bool·beq (f i j) (g i j)) n) m t i h) j l)
+abbrev agree : (f g : ℕ → ℕ → Bool) (m n : ℕ) → Bool
+agree f g m n = passes (λ i. passes (λ j. Bool·beq (f i j) (g i j)) n) m
 
--- ---- the bits of a byte
+agreed : (f g : ℕ → ℕ → Bool) (m n : ℕ) → T (agree f g m n) → (i j : ℕ) → i < m → j < n → f i j ≡ g i j
+agreed f g m n t i j h l =
+    same-bit _ _ (passed (λ j. Bool·beq (f i j) (g i j)) n (passed (λ i. passes (λ j. Bool·beq (f i j) (g i j)) n) m t i h) j l)
+
+-- ---- the bits of bytes
 
 pub bit-not : (byte k : ℕ) → byte < 256 → k < 8 → odd ((255 - byte) / 2 ^ k) ≡ not (odd (byte / 2 ^ k))
-bit-not = agree (λ byte k. odd ((255 - byte) / 2 ^ k)) (λ byte k. not (odd (byte / 2 ^ k))) 256 8 tt
+bit-not = agreed (λ byte k. odd ((255 - byte) / 2 ^ k)) (λ byte k. not (odd (byte / 2 ^ k))) 256 8 tt
 
 pub bit-and : (a b k : ℕ) → odd (bitAnd a b / 2 ^ k) ≡ (odd (a / 2 ^ k) && odd (b / 2 ^ k))
 bit-and a b k =
     rw (and-shr a b k, and-mod (a / 2 ^ k) (b / 2 ^ k) 1)
-    (agree (λ x y. eqb (bitAnd x y) 1) (λ x y. eqb x 1 && eqb y 1) 2 2 tt (a / 2 ^ k % 2) (b / 2 ^ k % 2) (omega arith) (omega arith))
+    (agreed (λ x y. eqb (bitAnd x y) 1) (λ x y. eqb x 1 && eqb y 1) 2 2 tt (a / 2 ^ k % 2) (b / 2 ^ k % 2) (omega arith) (omega arith))
 
 -- bit k of byte j of a map is for set 8 × j + k
 pub bit-in : (map : List ℕ) (j k : ℕ) → j < 128 → k < 8 → odd (getD map j 0 / 2 ^ k) ≡ member (8 * j + k) (familyAt map 0)
 bit-in map j k h l = rw (zero-add j) at (bit-at map 0 j k h l)
 
+-- a byte is not 0 if it has a bit
+no-zero : (byte k : ℕ) → T (odd (byte / 2 ^ k)) → 0 < byte
+no-zero zero k t = absurd (rw (zero-div (2 ^ k)) at t)
+no-zero (suc n) k t = omega arith
+
+some-bit : (byte : ℕ) → byte < 256 → 0 < byte → (k : ℕ) × (k < 8) × T (odd (byte / 2 ^ k))
+unfolding undeclared
+some-bit byte h some =
+    let (k, l, t) = undeclared-bit 0 byte (le-leb 1 byte some) in
+    (k, declared-only 8 byte (lt-leb 256 byte h) k t, t)
+
 -- ---- sets that hold none of some variables
 
--- the variables in common, by those from 3 on and those below
+-- the variables that a set has in common with them: those below 3, and those from 3 on
 in-common : (j k variables : ℕ) → j < 256 → k < 8
     → bitAnd (8 * j + k) variables ≡ bitAnd k (variables % 8) + 8 * bitAnd j (variables / 8 % 256)
 in-common j k variables h l =
@@ -68,41 +83,33 @@ in-common j k variables h l =
     rw (mod-eq-of-lt h) at (sym (mod-eq-of-lt (lt-of-le-of-lt (and-le-l j (variables / 8)) h)) ∙ and-mod j (variables / 8) 8) in
     omega (arith, rw (here, there) at (and-block 3 j (variables / 8) k (variables % 8) l (omega arith)))
 
--- a set with one of those from 3 on
-pub holds-high : (j k variables : ℕ) → j < 256 → k < 8 → 0 < bitAnd j (variables / 8 % 256) → eqb (bitAnd (8 * j + k) variables) 0 ≡ false
-holds-high j k variables h l some = ne-eqb (bitAnd (8 * j + k) variables) 0 (λ e. omega (arith, in-common j k variables h l))
+-- some from 3 on
+pub not-apart : (j k variables : ℕ) → j < 256 → k < 8 → 0 < bitAnd j (variables / 8 % 256) → eqb (bitAnd (8 * j + k) variables) 0 ≡ false
+not-apart j k variables h l some = ne-eqb (bitAnd (8 * j + k) variables) 0 (λ e. omega (arith, in-common j k variables h l))
 
--- the others, where bit k of byte v of a number says that k and v have none in common
-pub apart-low : (bytes : ℕ) → T (passes (λ v. passes (λ k. Bool·beq (odd (bytes / 2 ^ (8 * v) % 256 / 2 ^ k)) (eqb (bitAnd k v) 0)) 8) 8)
+-- none from 3 on: where bit k of byte v of a number says of the sets k and v below 8 whether they have none in common, it says so of this one
+abbrev saysApart : (number v k : ℕ) → Bool
+saysApart number v k = odd (number / 2 ^ (8 * v) % 256 / 2 ^ k)
+
+pub apart-below : (number : ℕ) → T (agree (saysApart number) (λ v k. eqb (bitAnd k v) 0) 8 8)
     → (j k variables : ℕ) → j < 256 → k < 8 → bitAnd j (variables / 8 % 256) ≡ 0
-    → odd (bytes / 2 ^ (8 * (variables % 8)) % 256 / 2 ^ k) ≡ eqb (bitAnd (8 * j + k) variables) 0
-apart-low bytes t j k variables h l none =
+    → odd (number / 2 ^ (8 * (variables % 8)) % 256 / 2 ^ k) ≡ eqb (bitAnd (8 * j + k) variables) 0
+apart-below number t j k variables h l none =
     rw (in-common j k variables h l, none, add-zero)
-    (agree (λ v k. odd (bytes / 2 ^ (8 * v) % 256 / 2 ^ k)) (λ v k. eqb (bitAnd k v) 0) 8 8 t (variables % 8) k (omega arith) l)
+    (agreed (saysApart number) (λ v k. eqb (bitAnd k v) 0) 8 8 t (variables % 8) k (omega arith) l)
 
--- ---- what a part and a map have in common
+-- ---- what a map and a part have in common
 
--- a number with a bit is not 0
-not-zero : (n k : ℕ) → T (odd (n / 2 ^ k)) → 0 < n
-not-zero zero k t = absurd (rw (zero-div (2 ^ k)) at t)
-not-zero (suc n) k t = omega arith
-
--- and one that is not 0 has a bit
-some-bit : (n : ℕ) → 0 < n → n < 256 → (k : ℕ) × (k < 8) × T (odd (n / 2 ^ k))
-unfolding undeclared
-some-bit n some small =
-    let (k, l, t) = undeclared-bit 0 n (le-leb 1 n some) in
-    (k, declared-only 8 n (lt-leb 256 n small) k t, t)
-
-module _ (bytes : List ℕ) (part : ℕ) (map : List ℕ) where
+module _ (map bytes : List ℕ) (part : ℕ) where
   -- whether a set is in both
   abbrev inBoth : (A : ℕ) → Bool
   inBoth A = member A (familyAt map 0) && member A (familyAt bytes part)
 
-  -- `common` is not 0 just if one of the sets below k is
+  -- `common` is not 0 just if a set below k is
   abbrev pub Meeting : (k common : ℕ) → Type 0
   Meeting k common = 0 < common ↔ ((A : ℕ) × (A < k) × T (inBoth A))
 
+  -- one byte more
   pub meeting-more : (j common : ℕ) → j < 128 → getD bytes (128 * part + j) 0 < 256 → Meeting (8 * j) common
       → Meeting (8 * (j + 1)) (bitOr common (bitAnd (getD map j 0) (getD bytes (128 * part + j) 0)))
   meeting-more j common h small m = (λ l. to l (lt-or-le 0 common), λ (A, l, t). from A l t (lt-or-le A (8 * j)))
@@ -117,17 +124,18 @@ module _ (bytes : List ℕ) (part : ℕ) (map : List ℕ) where
       to l (inl p) = let (A, b, t) = m .0 p in (A, omega arith, t)
       to l (inr p) =
           let none : common ≡ 0 = omega arith in
-          let (k, b, t) = some-bit byte (rw none at l) (lt-of-le-of-lt (and-le-r (getD map j 0) (getD bytes (128 * part + j) 0)) small) in
+          let (k, b, t) = some-bit byte (lt-of-le-of-lt (and-le-r (getD map j 0) (getD bytes (128 * part + j) 0)) small) (rw none at l) in
           (8 * j + k, omega arith, rw (bit k b) at t)
 
       from : (A : ℕ) → A < 8 * (j + 1) → T (inBoth A) → (A < 8 * j) ⊎ (8 * j ≤ A) → 0 < bitOr common byte
       from A l t (inl b) = omega (arith, m .1 (A, b, t), or-add-and common byte, and-le-r common byte)
       from A l t (inr b) =
           let here : 8 * j + (A - 8 * j) ≡ A = omega arith in
-          let some : 0 < byte = not-zero byte (A - 8 * j) (rw (bit (A - 8 * j) (omega arith), here) t) in
+          let some : 0 < byte = no-zero byte (A - 8 * j) (rw (bit (A - 8 * j) (omega arith), here) t) in
           omega (arith, or-add-and common byte, and-le-l common byte)
 
-  pub meeting-end : (j common : ℕ) → 128 ≤ j → Meeting (8 * j) common → T (not (eqb common 0)) ↔ ((A : ℕ) × T (inBoth A))
+  -- all bytes
+  pub meeting-end : (j common : ℕ) → 128 ≤ j → Meeting (8 * j) common → T (not (eqb common 0)) ↔ Common (familyAt map 0) (familyAt bytes part)
   meeting-end j common h m = (
     λ t. let (A, l, b) = m .0 (tested common .0 t) in (A, b),
     λ (A, t). tested common .1 (m .1 (A, omega (arith, below-at map 0 A (and-left (member A (familyAt map 0)) (member A (familyAt bytes part)) t)), t)),
@@ -137,10 +145,9 @@ module _ (bytes : List ℕ) (part : ℕ) (map : List ℕ) where
       tested zero = (λ t. absurd t, λ l. absurd (omega arith))
       tested (suc n) = (λ t. omega arith, λ l. rw (eqb·suc-zero n) tt)
 
--- where a part and the map of the suspect sets do not meet, none of its sets is suspect, at no place in the order of report
-pub none-suspect : (variables : List Class) (bytes : List ℕ) (part : ℕ) (map : List ℕ) (met : Bool)
-    → ((A : ℕ) → A < most-sets → member A (familyAt map 0) ≡ suspect variables A)
-    → T met ↔ ((A : ℕ) × T (member A (familyAt map 0) && member A (familyAt bytes part))) → met ≡ false
-    → (k : ℕ) → k < most-sets → (suspect variables (setAt k) && member (setAt k) (familyAt bytes part)) ≡ false
-none-suspect variables bytes part map met mapped meets e k l =
-    same-test _ false (λ t. rw e at (meets .1 (setAt k, rw (mapped (setAt k) (set-low refl l)) t))) absurd
+  -- where the map is that of the suspect sets and they have none in common, no set of the part is suspect, wherever it is in the order of report
+  pub none-suspect : (variables : List Class) (met : Bool) → ((A : ℕ) → A < most-sets → member A (familyAt map 0) ≡ suspect variables A)
+      → T met ↔ Common (familyAt map 0) (familyAt bytes part) → met ≡ false
+      → (k : ℕ) → k < most-sets → (suspect variables (setAt k) && member (setAt k) (familyAt bytes part)) ≡ false
+  none-suspect variables met mapped meets e k l =
+      same-test _ false (λ t. rw e at (meets .1 (setAt k, rw (mapped (setAt k) (set-low refl l)) t))) absurd

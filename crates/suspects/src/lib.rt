@@ -1,5 +1,5 @@
 // The scan of the work bytes, from any node on, for the lowest suspect node and the set that it reports, and that of one part for its set. Both
-// walk through a part's sets in the order of their report.
+// walk through a part's sets in the order of their report, once a map of the suspect sets has told that it holds one.
 ghost use mathlib.Core.Path.{_≡_};
 ghost use mathlib.Core.Logic.{_↔_};
 ghost use mathlib.Core.Bool.{_&&_, cond};
@@ -15,8 +15,9 @@ ghost use Rattle.rules.specs.Families.{suspect, tested, reported};
 ghost use Rattle.rules.specs.Paper.{findingOf};
 ghost use Rattle.netlists.specs.Netlists.{flatOf, Sized};
 ghost use Rattle.families.specs.Parts.{HasPart, familyAt};
-ghost use Rattle.suspects.specs.Suspects.{variablesOf, reportOf, reportsIn, foundFrom, Within};
-use families::{PART, SETS};
+ghost use Rattle.suspects.specs.Suspects.{variablesOf, Common, reportOf, reportsIn, foundFrom, Within};
+use families::PART;
+use families::SETS;
 use netlists::Netlist;
 use report_order::sets_in_order;
 use rules::Half;
@@ -87,10 +88,10 @@ fn suspect_map(secrets: usize, masks: usize) -> [u8; PART]
     map
 }
 
-// Whether a part and a map have a set in common.
+// Whether a part holds one of the sets of a map, by all bytes of both.
 fn meets(work: &[u8], part: usize, map: [u8; PART]) -> bool
     requires { ⌜ HasPart (now work) part ⌝ }
-    ensures { λ r. ⌜ T r ↔ ((A : ℕ) × T (member A (familyAt map 0) && member A (familyAt (now (work .entry)) part))) ⌝ }
+    ensures { λ r. ⌜ T r ↔ Common (familyAt map 0) (familyAt (now (work .entry)) part) ⌝ }
 {
     let from = PART * part;
     let mut common = 0;
@@ -131,8 +132,8 @@ pub fn is_tested(kind: u8) -> bool
     kind != 2
 }
 
-// The place in the order from which a node of this kind is scanned, whose family meets the map or does not: where that is not tested, or does not,
-// none is left.
+// The place in the order from which a node is scanned, by its kind and by whether it holds a suspect set: of one that is not tested or holds none, no
+// place is left.
 fn first_place(kind: u8, met: bool) -> usize
     ensures { λ r. ⌜ ((cell : Cell) → kind ≡ kindOf cell → r ≡ cond (tested cell && met) 0 most-sets) ⌝ }
 {

@@ -1,8 +1,6 @@
--- `suspects::first_place` meets its contract: what is tested is scanned from the first place on, and else none is left. Assumes nothing.
-use mathlib.Core.Path.{sym, ap, _∙_}
-use mathlib.Core.Bool.{Bool, cond}
+-- `suspects::first_place` meets its contract: what is tested and holds a suspect set is scanned from the first place on, and else none is left.
+-- Assumes nothing.
 use borrow.Author.Needs.{needs}
-use Rattle.rules.specs.Records.{most-sets}
 use Rattle.suspects.proofs.first_place.Statement.{statement}
 use Rattle.suspects.proofs.first_place.Tie as tie
 

@@ -1,5 +1,5 @@
--- `suspects::first_suspect` meets its contract. The loop's invariant: the sets at the places passed are not suspect members. The measure is what is
--- left to pass. Assumes nothing.
+-- `suspects::first_suspect` meets its contract. Where the part and the map have no set in common, none is suspect (`none-suspect`). The loop's invariant: the
+-- sets at the places passed are not suspect members. The measure is what is left to pass. Assumes nothing.
 use Prim.Native.Nat.{ℕ, _-_, _<_}
 use mathlib.Core.Path.{_≡_, sym, ap, _∙_}
 use mathlib.Core.Bool.{Bool, true, false, _&&_}
@@ -42,10 +42,10 @@ returns : tie.Need-returns Inv-loop μ-loop
 unfolding reportOf
 returns c =
     λ variables s m.
-    let met = c .before in
+    let asked = c .before in
     sym
     (reported-nothing variables _ (below-at _ _)
-    (none-suspect variables _ _ _ (met .meets .result) (met .before .suspect-map .ensures variables s m) (met .meets .ensures) (not-true _ (c .if1 .taken))))
+    (none-suspect _ _ _ variables (asked .meets .result) (asked .before .suspect-map .ensures variables s m) (asked .meets .ensures) (not-true _ (c .if1 .taken))))
 
 sets-in-order-requires : tie.Need-sets-in-order-requires Inv-loop μ-loop
 sets-in-order-requires c κs = search needs

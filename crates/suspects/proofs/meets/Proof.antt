@@ -1,15 +1,14 @@
-use Prim.Native.Nat.{_+_, _*_, _-_, _≤_}
-use mathlib.Core.Path.{_≡_}
+-- `suspects::meets` meets its contract. The loop's invariant: `common` is not 0 just if one of the sets in the bytes passed is both in the map and in the part.
+-- The measure is what is left of the 128 bytes. Assumes nothing.
+use Prim.Native.Nat.{_+_, _*_, _-_}
 use native.Mathlib.Omega.{arith}
 use borrow.Author.Needs.{needs}
-use denote.Ref.{now}
 use Rattle.suspects.proofs.Maps.{Meeting, meeting-more, meeting-end}
 use Rattle.suspects.proofs.meets.Statement.{statement}
 use Rattle.suspects.proofs.meets.Tie as tie
 
 abbrev Inv-loop : tie.InvT-loop
-Inv-loop work part map from common₀ j₀ common j =
-    Meeting work part map (8 * j) common
+Inv-loop work part map from common₀ j₀ common j = Meeting map work part (8 * j) common
 
 abbrev μ-loop : tie.MeasureT-loop
 μ-loop work part map from common₀ j₀ common j = 128 - j
@@ -37,15 +36,11 @@ loop-less c = search needs
 
 loop-again : tie.Need-loop-again Inv-loop μ-loop
 loop-again c =
-    let loop = c .before .before .loop in
-    let args = c .before .before .before .args in
-    meeting-more (now (args .work)) (args .part) (args .t3) (loop .j) (loop .common) (c .before .loop-test .taken)
-    (c .shared-slice-known .given (128 * args .part + loop .j) .fits) (loop .inv)
+    let at = 128 * c .before .before .before .args .part + c .before .before .loop .j in
+    meeting-more _ _ _ _ _ (c .before .loop-test .taken) (c .shared-slice-known .given at .fits) (c .before .before .loop .inv)
 
 returns : tie.Need-returns Inv-loop μ-loop
-returns c =
-    let args = c .before .before .args in
-    meeting-end (now (args .work)) (args .part) (args .t3) (c .before .loop .j) (c .before .loop .common) (c .loop-test .left) (c .before .loop .inv)
+returns c = meeting-end _ _ _ _ _ (c .loop-test .left) (c .before .loop .inv)
 
 pub meets-spec : {M : Type 1} → statement M
 meets-spec =

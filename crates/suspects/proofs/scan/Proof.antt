@@ -1,5 +1,6 @@
--- `suspects::scan` meets its contract. The nodes' loop: the nodes passed, from the first one scanned on, report nothing. The loop in it: the sets at the places passed are not
--- suspect members of the node's family. Each measure is what is left to pass. Assumes nothing.
+-- `suspects::scan` meets its contract. The nodes' loop: the nodes passed, from the first one scanned on, report nothing. The loop in it: the sets at the places
+-- passed are not suspect members of the node's family, and all are passed where it has none in common with the map (`none-suspect`). Each measure is what is
+-- left to pass. Assumes nothing.
 use Prim.Native.Nat.{ℕ, _-_, _≤_, _<_}
 use mathlib.Core.Path.{_≡_, refl, sym, ap, _∙_}
 use mathlib.Core.Logic.{⊎-elim}
@@ -101,7 +102,7 @@ loop-holds c =
     let inside : i < length (n .nodes) = rw e at (c .before .before .before .nodes-test .taken) in
     let kind : getD (args .t1 .nodes) i blank .kind ≡ kindOf (getD (n .nodes) i (input 0)) = rw (e, flat-entry-at n i inside) in
     search-start n (args .layer) (now (args .work)) i (c .before .meets .result)
-    (none-suspect (n .variables) _ _ _ (c .before .meets .result) (begun .before .before .suspect-map .ensures (n .variables) (classes begun n e .0) (classes begun n e .1)) (c .before .meets .ensures))
+    (none-suspect _ _ _ (n .variables) (c .before .meets .result) (begun .before .before .suspect-map .ensures (n .variables) (classes begun n e .0) (classes begun n e .1)) (c .before .meets .ensures))
     (c .first-place .result) (c .first-place .ensures (getD (n .nodes) i (input 0)) kind)
 
 -- what is read at a place is the set there

@@ -1,23 +1,19 @@
+-- `suspects::suspect_map` meets its contract. The loop's invariant: of the bytes passed, each bit says whether its set meets the mask of the secrets, and not
+-- that of the masks. The measure is what is left of the 128 bytes. Assumes nothing.
 use Prim.Native.Nat.{ℕ, _+_, _*_, _-_, _/_, _%_, _^_, _<_}
 use mathlib.Core.Path.{_≡_, sym, _∙_}
-use mathlib.Core.Bool.{Bool, not, _&&_}
 use native.Mathlib.Nat.{div-add-mod}
 use native.Mathlib.Omega.{arith}
 use borrow.Author.Count.{below-more}
 use borrow.Author.Needs.{needs}
 use lib.Bits.{bitAnd}
-use lib.Dec.{eqb}
 use lib.ListN.{length, getD, set, length-set, length-replicate}
 use lib.Seq.{getD-set-same, getD-set-other}
 use Rattle.rules.specs.Records.{odd}
-use Rattle.suspects.proofs.Suspects.{suspect-masks}
+use Rattle.suspects.proofs.Suspects.{suspectBy, suspect-masks}
 use Rattle.suspects.proofs.Maps.{bit-not, bit-and, bit-in}
 use Rattle.suspects.proofs.suspect_map.Statement.{statement}
 use Rattle.suspects.proofs.suspect_map.Tie as tie
-
--- whether a set is suspect, by the masks of the classes
-abbrev suspectBy : (secrets masks A : ℕ) → Bool
-suspectBy secrets masks A = not (eqb (bitAnd A secrets) 0) && eqb (bitAnd A masks) 0
 
 abbrev Inv-loop : tie.InvT-loop
 Inv-loop secrets masks map₀ j₀ map j =
@@ -72,8 +68,10 @@ loop-again c =
 returns : tie.Need-returns Inv-loop μ-loop
 returns c =
     λ variables s m A l.
+    let loop = c .before .loop in
     rw (suspect-masks variables A, ← s, ← m)
-    (rw (div-add-mod A 8) at (sym (bit-in (c .before .loop .map) (A / 8) (A % 8) (omega arith) (omega arith)) ∙ c .before .loop .inv .1 (A / 8) (A % 8) (omega arith) (omega arith)))
+    (rw (div-add-mod A 8) at
+    (sym (bit-in (loop .map) (A / 8) (A % 8) (omega arith) (omega arith)) ∙ loop .inv .1 (A / 8) (A % 8) (omega arith) (omega arith)))
 
 pub suspect-map-spec : {M : Type 1} → statement M
 suspect-map-spec =
