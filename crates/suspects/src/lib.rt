@@ -88,7 +88,7 @@ fn suspect_map(secrets: usize, masks: usize) -> [u8; PART]
     map
 }
 
-// Whether a part holds one of the sets of a map, by all bytes of both.
+// Whether a part holds one of the sets of a map. No byte is tested by itself, so that one instruction takes many.
 fn meets(work: &[u8], part: usize, map: [u8; PART]) -> bool
     requires { ⌜ HasPart (now work) part ⌝ }
     ensures { λ r. ⌜ T r ↔ Common (familyAt map 0) (familyAt (now (work .entry)) part) ⌝ }

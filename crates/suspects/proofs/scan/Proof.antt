@@ -51,7 +51,7 @@ start c = c .before .before .before .before .before .before
 few : (c : tie.Start Inv-loop μ-loop Inv-nodes μ-nodes) → (c .args .t1 .variables ≤ most-variables) × (c .args .t1 .count ≤ most-nodes)
 few c = (c .pre .0 .variables, c .pre .0 .nodes)
 
--- the variables of two classes, as sets
+-- the secrets and the masks, as sets
 classes : (c : tie.At-nodes Inv-loop μ-loop Inv-nodes μ-nodes) (n : Records.Netlist) → start c .args .t1 ≡ flatOf n
     → (c .before .before .before .before .variables-of .result ≡ variablesOf secret (n .variables))
     × (c .before .before .before .variables-of2 .result ≡ variablesOf mask (n .variables))
@@ -101,8 +101,10 @@ loop-holds c =
     let i = begun .nodes .i in
     let inside : i < length (n .nodes) = rw e at (c .before .before .before .nodes-test .taken) in
     let kind : getD (args .t1 .nodes) i blank .kind ≡ kindOf (getD (n .nodes) i (input 0)) = rw (e, flat-entry-at n i inside) in
-    search-start n (args .layer) (now (args .work)) i (c .before .meets .result)
-    (none-suspect _ _ _ (n .variables) (c .before .meets .result) (begun .before .before .suspect-map .ensures (n .variables) (classes begun n e .0) (classes begun n e .1)) (c .before .meets .ensures))
+    let (secrets, masks) = classes begun n e in
+    let met = c .before .meets .result in
+    search-start n (args .layer) (now (args .work)) i met
+    (none-suspect _ _ _ (n .variables) met (begun .before .before .suspect-map .ensures (n .variables) secrets masks) (c .before .meets .ensures))
     (c .first-place .result) (c .first-place .ensures (getD (n .nodes) i (input 0)) kind)
 
 -- what is read at a place is the set there
@@ -135,8 +137,8 @@ tested-set : (c : tie.After-suspect-in Inv-loop μ-loop Inv-nodes μ-nodes) (n :
     → c .suspect-in .result
     ≡ suspectIn n (start (turn c) .args .layer) (now (start (turn c) .args .work)) (turn c .nodes .i) (setAt (c .before .before .loop .place))
 tested-set c n e =
-    rw (← set-there (c .before))
-    (c .suspect-in .ensures (n .variables) (classes (turn c) n e .0) (classes (turn c) n e .1))
+    let (secrets, masks) = classes (turn c) n e in
+    rw (← set-there (c .before)) (c .suspect-in .ensures (n .variables) secrets masks)
 
 loop-again : tie.Need-loop-again Inv-loop μ-loop Inv-nodes μ-nodes
 loop-again c =
