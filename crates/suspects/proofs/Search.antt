@@ -75,13 +75,17 @@ module _ (n : Netlist) (layer : ℕ) (bytes : List ℕ) (i : ℕ) where
   cell : Cell
   cell = getD (n .nodes) i (input 0)
 
-  pub search-start : (place : ℕ) → place ≡ cond (tested (getD (n .nodes) i (input 0))) 0 most-sets → Searched n layer bytes i place
+  -- a node that is tested is scanned from the first place on, unless it is known to have no suspect set
+  pub search-start : (met : Bool) → (met ≡ false → (k : ℕ) → k < most-sets → suspectIn n layer bytes i (setAt k) ≡ false) → (place : ℕ)
+      → place ≡ cond (tested (getD (n .nodes) i (input 0)) && met) 0 most-sets → Searched n layer bytes i place
   unfolding cell
-  search-start place start = go (tested cell) refl start
+  search-start met without place start = go (tested cell) met refl without start
     where
-      go : (b : Bool) → tested cell ≡ b → place ≡ cond b 0 most-sets → Searched n layer bytes i place
-      go true e first = record { isTested = λ l. pass e; before = λ k l t. absurd (omega arith) }
-      go false e last = record { isTested = λ l. absurd (omega arith); before = λ k l t. absurd (rw e at t) }
+      go : (b m : Bool) → tested cell ≡ b → (m ≡ false → (k : ℕ) → k < most-sets → suspectIn n layer bytes i (setAt k) ≡ false)
+          → place ≡ cond (b && m) 0 most-sets → Searched n layer bytes i place
+      go true true e without first = record { isTested = λ l. pass e; before = λ k l t. absurd (omega arith) }
+      go true false e without last = record { isTested = λ l. pass e; before = λ k l t. without refl k (omega arith) }
+      go false m e without last = record { isTested = λ l. absurd (omega arith); before = λ k l t. absurd (rw e at t) }
 
   pub search-more : (place : ℕ) → Searched n layer bytes i place → suspectIn n layer bytes i (setAt place) ≡ false
       → Searched n layer bytes i (place + 1)

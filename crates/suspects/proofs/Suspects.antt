@@ -55,8 +55,11 @@ holds-mask class (c ∷ variables) s =
     (one-bit (same class c) (s % 2) (bitAnd (s / 2) (number (map (same class) variables))) (omega arith))
 
 -- a set is suspect if it meets the mask of the secrets, and not that of the masks
+abbrev pub suspectBy : (secrets masks s : ℕ) → Bool
+suspectBy secrets masks s = not (eqb (bitAnd s secrets) 0) && eqb (bitAnd s masks) 0
+
 pub suspect-masks : (variables : List Class) (s : ℕ)
-    → suspect variables s ≡ (not (eqb (bitAnd s (variablesOf secret variables)) 0) && eqb (bitAnd s (variablesOf mask variables)) 0)
+    → suspect variables s ≡ suspectBy (variablesOf secret variables) (variablesOf mask variables) s
 unfolding suspect
 suspect-masks variables s = rw (holds-mask secret variables s, holds-mask mask variables s, Bool·not-not)
 

@@ -1,8 +1,6 @@
--- `suspects::first_place` meets its contract: what is tested is scanned from the first place on, and else none is left. Assumes nothing.
-use mathlib.Core.Path.{sym, ap, _∙_}
-use mathlib.Core.Bool.{Bool, cond}
+-- `suspects::first_place` meets its contract: what is tested and holds a suspect set is scanned from the first place on, and else none is left.
+-- Assumes nothing.
 use borrow.Author.Needs.{needs}
-use Rattle.rules.specs.Records.{most-sets}
 use Rattle.suspects.proofs.first_place.Statement.{statement}
 use Rattle.suspects.proofs.first_place.Tie as tie
 
@@ -10,10 +8,10 @@ is-tested-requires : tie.Need-is-tested-requires
 is-tested-requires c κs = search needs
 
 returns : tie.Need-returns
-returns c = λ cell e. ap (λ (b : Bool). cond b 0 most-sets) (sym (c .if1 .taken) ∙ c .before .is-tested .ensures cell e)
+returns c = λ cell e. rw (← c .before .is-tested .ensures cell e, c .if1 .taken)
 
 returns-2 : tie.Need-returns-2
-returns-2 c = λ cell e. ap (λ (b : Bool). cond b 0 most-sets) (sym (c .if1 .left) ∙ c .before .is-tested .ensures cell e)
+returns-2 c = λ cell e. rw (← c .before .is-tested .ensures cell e, c .if1 .left)
 
 pub first-place-spec : {M : Type 1} → statement M
 first-place-spec = tie.close (tie.spec is-tested-requires returns returns-2)

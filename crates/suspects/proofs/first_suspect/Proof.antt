@@ -1,5 +1,5 @@
--- `suspects::first_suspect` meets its contract. The loop's invariant: the sets at the places passed are not suspect members. The measure is what is
--- left to pass. Assumes nothing.
+-- `suspects::first_suspect` meets its contract. Where the part and the map have no set in common, none is suspect (`none-suspect`). The loop's invariant: the
+-- sets at the places passed are not suspect members. The measure is what is left to pass. Assumes nothing.
 use Prim.Native.Nat.{ℕ, _-_, _<_}
 use mathlib.Core.Path.{_≡_, sym, ap, _∙_}
 use mathlib.Core.Bool.{Bool, true, false, _&&_}
@@ -9,7 +9,7 @@ use native.Mathlib.Nat.{lt-of-lt-of-le}
 use native.Mathlib.Omega.{arith}
 use borrow.Author.Count.{below-more}
 use borrow.Author.Needs.{needs}
-use borrow.Author.Tests.{lt-ltb}
+use borrow.Author.Tests.{not-true, lt-ltb}
 use lib.ListN.{getD}
 use Rattle.rules.specs.Lists.{member}
 use Rattle.rules.specs.Records.{Class, secret, mask, most-sets}
@@ -20,6 +20,7 @@ use Rattle.report_order.specs.Order.{setAt}
 use Rattle.report_order.proofs.Order.{set-low}
 use Rattle.suspects.specs.Suspects.{variablesOf, reportOf}
 use Rattle.suspects.proofs.Suspects.{reported-nothing, reported-first}
+use Rattle.suspects.proofs.Maps.{none-suspect}
 use Rattle.suspects.proofs.first_suspect.Statement.{statement}
 use Rattle.suspects.proofs.first_suspect.Tie as tie
 
@@ -30,6 +31,21 @@ Inv-loop work part secrets masks order place₀ place =
 
 abbrev μ-loop : tie.MeasureT-loop
 μ-loop work part secrets masks order place₀ place = most-sets - place
+
+suspect-map-requires : tie.Need-suspect-map-requires Inv-loop μ-loop
+suspect-map-requires c κs = search needs
+
+meets-requires : tie.Need-meets-requires Inv-loop μ-loop
+meets-requires c κs = search needs
+
+returns : tie.Need-returns Inv-loop μ-loop
+unfolding reportOf
+returns c =
+    λ variables s m.
+    let asked = c .before in
+    sym
+    (reported-nothing variables _ (below-at _ _)
+    (none-suspect _ _ _ variables (asked .meets .result) (asked .before .suspect-map .ensures variables s m) (asked .meets .ensures) (not-true _ (c .if1 .taken))))
 
 sets-in-order-requires : tie.Need-sets-in-order-requires Inv-loop μ-loop
 sets-in-order-requires c κs = search needs
@@ -57,20 +73,20 @@ suspect-in-requires c κs = omega (arith, set-low (set-there c) (c .loop-test .t
 
 -- what is tested is whether that set is suspect and in the family
 tested-set : (c : tie.After-suspect-in Inv-loop μ-loop) (b : Bool) → c .suspect-in .result ≡ b
-    → (let args = c .before .before .before .before .before .args in
+    → (let args = c .before .before .before .before .before .before .before .before .args in
     let set = setAt (c .before .before .loop .place) in
     (variables : List Class) → args .secrets ≡ variablesOf secret variables → args .masks ≡ variablesOf mask variables
     → (suspect variables set && member set (familyAt (now (args .work)) (args .part))) ≡ b)
 tested-set c b e variables s m = rw (← set-there (c .before)) (sym (c .suspect-in .ensures variables s m) ∙ e)
 
-returns : tie.Need-returns Inv-loop μ-loop
+returns-2 : tie.Need-returns-2 Inv-loop μ-loop
 unfolding reportOf
-returns c =
+returns-2 c =
     λ variables s m.
     let inside = c .before .before in
     rw (lt-ltb _ _ (set-low (set-there inside) (inside .loop-test .taken)), set-there inside)
     (sym
-    (reported-first variables _ (below-at _ _) _ (inside .loop-test .taken) (tested-set (c .before) true (c .if1 .taken) variables s m)
+    (reported-first variables _ (below-at _ _) _ (inside .loop-test .taken) (tested-set (c .before) true (c .if2 .taken) variables s m)
     (inside .before .loop .inv variables s m)))
 
 add-place : tie.Need-add-place Inv-loop μ-loop
@@ -82,11 +98,11 @@ loop-less c = search needs
 loop-again : tie.Need-loop-again Inv-loop μ-loop
 loop-again c =
     λ variables s m.
-    below-more _ _ (c .before .before .before .loop .inv variables s m) (tested-set (c .before) false (c .if1 .left) variables s m)
+    below-more _ _ (c .before .before .before .loop .inv variables s m) (tested-set (c .before) false (c .if2 .left) variables s m)
 
-returns-2 : tie.Need-returns-2 Inv-loop μ-loop
+returns-3 : tie.Need-returns-3 Inv-loop μ-loop
 unfolding reportOf
-returns-2 c =
+returns-3 c =
     λ variables s m.
     sym (reported-nothing variables _ (below-at _ _) (λ k l. c .before .loop .inv variables s m k (lt-of-lt-of-le l (c .loop-test .left))))
 
@@ -96,14 +112,17 @@ first-suspect-spec =
     (tie.spec
     Inv-loop
     μ-loop
+    suspect-map-requires
+    meets-requires
+    returns
     sets-in-order-requires
     loop-holds
     mul-set
     array-read-set
     cast-set
     suspect-in-requires
-    returns
+    returns-2
     add-place
     loop-less
     loop-again
-    returns-2)
+    returns-3)

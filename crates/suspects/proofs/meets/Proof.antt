@@ -1,0 +1,59 @@
+-- `suspects::meets` meets its contract. The loop's invariant: `common` is not 0 just if one of the sets in the bytes passed is both in the map and in the part.
+-- The measure is what is left of the 128 bytes. Assumes nothing.
+use Prim.Native.Nat.{_+_, _*_, _-_}
+use native.Mathlib.Omega.{arith}
+use borrow.Author.Needs.{needs}
+use Rattle.suspects.proofs.Maps.{Meeting, meeting-more, meeting-end}
+use Rattle.suspects.proofs.meets.Statement.{statement}
+use Rattle.suspects.proofs.meets.Tie as tie
+
+abbrev Inv-loop : tie.InvT-loop
+Inv-loop work part map from common₀ j₀ common j = Meeting map work part (8 * j) common
+
+abbrev μ-loop : tie.MeasureT-loop
+μ-loop work part map from common₀ j₀ common j = 128 - j
+
+mul-from : tie.Need-mul-from Inv-loop μ-loop
+mul-from c = search needs
+
+loop-holds : tie.Need-loop-holds Inv-loop μ-loop
+loop-holds c = (λ l. absurd (omega arith), λ (A, l, t). absurd (omega arith))
+
+array-read-common : tie.Need-array-read-common Inv-loop μ-loop
+array-read-common c = search needs
+
+add-common : tie.Need-add-common Inv-loop μ-loop
+add-common c = search needs
+
+shared-slice-read-common : tie.Need-shared-slice-read-common Inv-loop μ-loop
+shared-slice-read-common c = search needs
+
+add-j : tie.Need-add-j Inv-loop μ-loop
+add-j c = search needs
+
+loop-less : tie.Need-loop-less Inv-loop μ-loop
+loop-less c = search needs
+
+loop-again : tie.Need-loop-again Inv-loop μ-loop
+loop-again c =
+    let at = 128 * c .before .before .before .args .part + c .before .before .loop .j in
+    meeting-more _ _ _ _ _ (c .before .loop-test .taken) (c .shared-slice-known .given at .fits) (c .before .before .loop .inv)
+
+returns : tie.Need-returns Inv-loop μ-loop
+returns c = meeting-end _ _ _ _ _ (c .loop-test .left) (c .before .loop .inv)
+
+pub meets-spec : {M : Type 1} → statement M
+meets-spec =
+    tie.close
+    (tie.spec
+    Inv-loop
+    μ-loop
+    mul-from
+    loop-holds
+    array-read-common
+    add-common
+    shared-slice-read-common
+    add-j
+    loop-less
+    loop-again
+    returns)
