@@ -12,11 +12,11 @@ use Rattle.families.specs.Present.{bitsBelow}
 
 -- ---- a test at each number below a bound
 
-abbrev passes : (ℕ → Bool) → ℕ → Bool
+abbrev pub passes : (ℕ → Bool) → ℕ → Bool
 passes f zero = true
 passes f (suc n) = f n && passes f n
 
-passed : (f : ℕ → Bool) (n : ℕ) → T (passes f n) → (i : ℕ) → i < n → T (f i)
+pub passed : (f : ℕ → Bool) (n : ℕ) → T (passes f n) → (i : ℕ) → i < n → T (f i)
 passed f zero t i h = absurd (omega arith)
 passed f (suc n) t i h = go (eq-or-lt-of-le (le-of-suc-le-suc h)) (passed f n (and-right (f n) (passes f n) t) i)
   where

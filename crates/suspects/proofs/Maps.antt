@@ -4,9 +4,9 @@
 use Prim.Native.Nat.{ℕ, zero, suc, _+_, _*_, _-_, _/_, _%_, _^_, _<_, _≤_}
 use mathlib.Core.Path.{_≡_, refl, sym, _∙_}
 use mathlib.Core.Logic.{_⊎_, inl, inr, _↔_}
-use mathlib.Core.Bool.{Bool, true, false, not, _&&_, Bool·beq}
+use mathlib.Core.Bool.{Bool, false, not, _&&_, Bool·beq}
 use mathlib.Core.List.{List}
-use native.Mathlib.Nat.{add-zero, zero-add, eq-or-lt-of-le, le-of-suc-le-suc, lt-of-le-of-lt, zero-div, mod-eq-of-lt}
+use native.Mathlib.Nat.{add-zero, zero-add, lt-of-le-of-lt, zero-div, mod-eq-of-lt}
 use native.Mathlib.Omega.{arith}
 use borrow.Author.Tests.{le-leb, lt-leb, ne-eqb}
 use lib.Bits.{bitAnd, bitOr, and-block, and-mod, and-shr, and-le-l, and-le-r, or-add-and}
@@ -16,28 +16,17 @@ use Rattle.rules.specs.Lists.{member}
 use Rattle.rules.specs.Records.{Class, odd, most-sets}
 use Rattle.rules.specs.Families.{suspect}
 use Rattle.rules.specs.Checks.{undeclared}
-use Rattle.rules.proofs.Tests.{and-left, and-right, same-bit, same-test, lt-or-le}
+use Rattle.rules.proofs.Tests.{and-left, same-bit, same-test, lt-or-le}
 use Rattle.rules.proofs.Sets.{declared-only, undeclared-bit}
 use Rattle.families.specs.Parts.{familyAt}
 use Rattle.families.proofs.Parts.{below-at}
 use Rattle.families.proofs.Filling.{bit-at}
+use Rattle.families.proofs.Bits.{passes, passed}
 use Rattle.report_order.specs.Order.{setAt}
 use Rattle.report_order.proofs.Order.{set-low}
 use Rattle.suspects.specs.Suspects.{Common}
 
 -- ---- two tests that agree at each two numbers below bounds
-
-abbrev passes : (ℕ → Bool) → ℕ → Bool
-passes f zero = true
-passes f (suc n) = f n && passes f n
-
-passed : (f : ℕ → Bool) (n : ℕ) → T (passes f n) → (i : ℕ) → i < n → T (f i)
-passed f zero t i h = absurd (omega arith)
-passed f (suc n) t i h = go (eq-or-lt-of-le (le-of-suc-le-suc h)) (passed f n (and-right (f n) (passes f n) t) i)
-  where
-    go : (i ≡ n) ⊎ (i < n) → (i < n → T (f i)) → T (f i)
-    go (inl e) before = rw e (and-left (f n) (passes f n) t)
-    go (inr l) before = before l
 
 abbrev agree : (f g : ℕ → ℕ → Bool) (m n : ℕ) → Bool
 agree f g m n = passes (λ i. passes (λ j. Bool·beq (f i j) (g i j)) n) m
