@@ -132,6 +132,13 @@ bits-of bytes part j k h =
     let bitOf : (8 * j + k) % 8 ≡ k = omega arith in
     rw (byteOf, bitOf)
 
+-- so of the bytes from byte 8 × e on, eight of which make 64 sets
+pub bits-in : (bytes : List ℕ) (part eight k : ℕ) → BitsOf (getD bytes (128 * part + 8 * eight + k) 0) bytes part (64 * eight + 8 * k)
+bits-in bytes part eight k =
+    let byte : 128 * part + (8 * eight + k) ≡ 128 * part + 8 * eight + k = omega arith in
+    let low : 8 * (8 * eight + k) ≡ 64 * eight + 8 * k = omega arith in
+    rw (byte, low) at (bits-of bytes part (8 * eight + k))
+
 -- one set more
 pub below-next : (bytes : List ℕ) (part k : ℕ) (b : Bool) → holdsAt bytes part k ≡ b
     → setsBelow bytes part (k + 1) ≡ cond b (k ∷ setsBelow bytes part k) (setsBelow bytes part k)
@@ -173,6 +180,17 @@ listed-zero bytes part low start now at bits so-far (suc k) h =
     rw (add-suc low k, ← (add-one (low + k)))
     (listed-none bytes part (low + k) start now at (listed-zero bytes part low start now at bits so-far k (omega arith))
     (sym (bits k h) ∙ ap odd (zero-div (2 ^ k))))
+
+-- nor is one of eight such bytes
+pub listed-zeros : (bytes : List ℕ) (part eight : ℕ) (start now : List ℕ) (at : ℕ)
+    → ((k : ℕ) → k < 8 → getD bytes (128 * part + 8 * eight + k) 0 ≡ 0) → Listed bytes part (64 * eight) start now at
+    → (k : ℕ) → k ≤ 8 → Listed bytes part (64 * eight + 8 * k) start now at
+listed-zeros bytes part eight start now at zeros so-far zero h = rw (add-zero (64 * eight)) so-far
+listed-zeros bytes part eight start now at zeros so-far (suc k) h =
+    let next : 64 * eight + 8 * suc k ≡ 64 * eight + 8 * k + 8 = omega arith in
+    rw next
+    (listed-zero bytes part (64 * eight + 8 * k) start now at (rw (zeros k h) at (bits-in bytes part eight k))
+    (listed-zeros bytes part eight start now at zeros so-far k (omega arith)) 8 (omega arith))
 
 -- a byte has as many bits set as the part has of its eight sets
 pub length-more : (bytes : List ℕ) (part low byte : ℕ) → BitsOf byte bytes part low → (k : ℕ) → k ≤ 8

@@ -2,12 +2,13 @@
 // of its byte A / 8. Each promise is one equation for the whole slice: every bit of the part that is written, and all
 // else as it was. Where a family is made from others, they are in lower parts.
 ghost use mathlib.Core.Path.{_≡_};
+ghost use mathlib.Core.Logic.{_↔_};
 ghost use mathlib.Core.Bool.{_||_};
 ghost use mathlib.Core.List.{List, [], _∷_, _++_, map};
 ghost use Prim.Native.Nat.{ℕ, _+_, _*_, _/_, _^_, _<_, _≤_};
 ghost use lib.Bits.{bitXor};
-ghost use lib.Dec.{eqb};
-ghost use lib.ListN.{length, take, drop};
+ghost use lib.Dec.{T, eqb};
+ghost use lib.ListN.{length, getD, take, drop};
 ghost use Rattle.rules.specs.Lists.{member, insert, union};
 ghost use Rattle.rules.specs.Records.{odd, most-sets};
 ghost use Rattle.rules.specs.Families.{product, spread};
@@ -46,10 +47,10 @@ pub fn size(work: &[u8], part: usize) -> usize
     let mut sets = 0;
     let mut counted = 0;
     while counted < PART {
-        sets += ones(work[from + counted]) as usize;
+        sets += ones(work[from + counted]) as u16;
         counted += 1;
     }
-    sets
+    sets as usize
 }
 
 // Takes every set out of a part.
@@ -136,8 +137,43 @@ fn list_byte(byte: u8, low: usize, sets: &mut [u16], listed: usize) -> usize
     at
 }
 
-// Lists the sets that a part holds, each once and from the lowest-numbered up, at the front of `sets`. Goes over the part's bytes and looks into
-// those that are not 0. Returns how many there are.
+// Whether all of the eight bytes from `at` on are 0.
+fn eight_zeros(work: &[u8], at: usize) -> bool
+    requires { ⌜ at + 8 ≤ length (now work) ⌝ }
+    ensures { λ r. ⌜ T r ↔ ((k : ℕ) → k < 8 → getD (now (work .entry)) (at + k) 0 ≡ 0) ⌝ }
+{
+    let mut joined = 0;
+    let mut k = 0;
+    while k < 8 {
+        joined = joined | work[at + k];
+        k += 1;
+    }
+    joined == 0
+}
+
+// Behind the sets that are listed so far lists those of the eight bytes from byte 8 × `eight` of a part on: looks into those that are not 0.
+fn list_eight(work: &[u8], part: usize, eight: usize, sets: &mut [u16], before: usize) -> usize
+    requires { ⌜ HasPart (now work) part × (eight < 16) × (before + 64 ≤ length (now sets)) ⌝ }
+    ensures { λ r. ⌜ ((start : List ℕ) → Listed (now (work .entry)) part (64 * eight) start (now (sets .entry)) before →
+        Listed (now (work .entry)) part (64 * eight + 64) start (now (sets .exit)) r) ⌝ }
+    ensures few { λ r. ⌜ r ≤ before + 64 ⌝ }
+{
+    let from = PART * part + 8 * eight;
+    let low = 64 * eight;
+    let mut listed = before;
+    let mut passed = 0;
+    while passed < 8 {
+        let byte = work[from + passed];
+        if byte != 0 {
+            listed = list_byte(byte, low + 8 * passed, sets, listed);
+        }
+        passed += 1;
+    }
+    listed
+}
+
+// Lists the sets that a part holds, each once and from the lowest-numbered up, at the front of `sets`. Goes over the part's bytes, eight at a time, and
+// looks into those that are not 0. Returns how many there are.
 pub fn list_sets(work: &[u8], part: usize, sets: &mut [u16]) -> usize
     requires { ⌜ HasPart (now work) part × (most-sets ≤ length (now sets)) ⌝ }
     ensures sets { λ r. ⌜ now (sets .exit) ≡ listAt (now (work .entry)) part ++ drop r (now (sets .entry)) ⌝ }
@@ -145,13 +181,12 @@ pub fn list_sets(work: &[u8], part: usize, sets: &mut [u16]) -> usize
 {
     let from = PART * part;
     let mut listed = 0;
-    let mut passed = 0;
-    while passed < PART {
-        let byte = work[from + passed];
-        if byte != 0 {
-            listed = list_byte(byte, 8 * passed, sets, listed);
+    let mut eight = 0;
+    while eight < 16 {
+        if !eight_zeros(work, from + 8 * eight) {
+            listed = list_eight(work, part, eight, sets, listed);
         }
-        passed += 1;
+        eight += 1;
     }
     listed
 }

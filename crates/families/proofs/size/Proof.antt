@@ -52,6 +52,9 @@ loop-again c =
     let next : 8 * (j + 1) ≡ 8 * j + 8 = omega arith in
     (omega arith, rw next (omega (arith, c .ones .ensures, length-more (args .work .now) (args .part) (8 * j) _ (bits-of (args .work .now) (args .part) j) 8 (omega arith))))
 
+cast-result : tie.Need-cast-result Inv-loop μ-loop
+cast-result c = omega (arith, length-below (c .before .before .before .args .work .now) (c .before .before .before .args .part) (8 * c .before .loop .counted))
+
 returns : tie.Need-returns Inv-loop μ-loop
 unfolding familyAt
 returns c =
@@ -74,4 +77,5 @@ size-spec =
     add-counted
     loop-less
     loop-again
+    cast-result
     returns)
