@@ -8,7 +8,7 @@ ghost use Prim.Native.Nat.{ℕ, _+_, _*_, _/_, _^_, _<_, _≤_};
 ghost use lib.Bits.{bitAnd};
 ghost use lib.Dec.{T, eqb};
 ghost use lib.ListN.{length};
-ghost use Rattle.rules.specs.Lists.{digit, member};
+ghost use Rattle.rules.specs.Lists.{digit, member, tabulate};
 ghost use Rattle.rules.specs.Records as Records;
 ghost use Rattle.rules.specs.Records.{Class, secret, mask, Cell, kindOf, classByte, odd, most-variables, most-sets};
 ghost use Rattle.rules.specs.Families.{suspect, tested, reported};
@@ -74,15 +74,29 @@ fn without(variables: usize, j: u8) -> u8
     if j & high == 0 { low } else { 0 }
 }
 
+// The numbers of a family's bytes. The map is made of these and not of a loop's counter, so that one instruction takes many.
+fn byte_numbers() -> [u8; PART]
+    ensures { λ r. ⌜ r ≡ tabulate (λ j. j) 128 ⌝ }
+{
+    let mut numbers = [0u8; PART];
+    let mut j = 0;
+    while j < PART {
+        numbers[j] = j as u8;
+        j += 1;
+    }
+    numbers
+}
+
 // The sets that have a secret and no mask, as the bytes of a family.
 fn suspect_map(secrets: usize, masks: usize) -> [u8; PART]
     ensures { λ r. ⌜ ((variables : List Class) → secrets ≡ variablesOf secret variables → masks ≡ variablesOf mask variables →
         (A : ℕ) → A < most-sets → member A (familyAt r 0) ≡ suspect variables A) ⌝ }
 {
-    let mut map = [0u8; PART];
+    let mut map = byte_numbers();
     let mut j = 0;
     while j < PART {
-        map[j] = !without(secrets, j as u8) & without(masks, j as u8);
+        let byte = map[j];
+        map[j] = !without(secrets, byte) & without(masks, byte);
         j += 1;
     }
     map

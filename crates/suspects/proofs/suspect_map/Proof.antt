@@ -1,15 +1,16 @@
 -- `suspects::suspect_map` meets its contract. The loop's invariant: of the bytes passed, each bit says whether its set meets the mask of the secrets, and not
--- that of the masks. The measure is what is left of the 128 bytes. Assumes nothing.
-use Prim.Native.Nat.{ℕ, _+_, _*_, _-_, _/_, _%_, _^_, _<_}
+-- that of the masks; each other one is its own number. The measure is what is left of the 128 bytes. Assumes nothing.
+use Prim.Native.Nat.{ℕ, _+_, _*_, _-_, _/_, _%_, _^_, _<_, _≤_}
 use mathlib.Core.Path.{_≡_, sym, _∙_}
 use native.Mathlib.Nat.{div-add-mod}
 use native.Mathlib.Omega.{arith}
 use borrow.Author.Count.{below-more}
 use borrow.Author.Needs.{needs}
 use lib.Bits.{bitAnd}
-use lib.ListN.{length, getD, set, length-set, length-replicate}
+use lib.ListN.{length, getD, set, length-set}
 use lib.Seq.{getD-set-same, getD-set-other}
 use Rattle.rules.specs.Records.{odd}
+use Rattle.rules.proofs.Packing.{tabulate-length, tabulate-at}
 use Rattle.suspects.proofs.Suspects.{suspectBy, suspect-masks}
 use Rattle.suspects.proofs.Maps.{bit-not, bit-and, bit-in}
 use Rattle.suspects.proofs.suspect_map.Statement.{statement}
@@ -18,21 +19,26 @@ use Rattle.suspects.proofs.suspect_map.Tie as tie
 abbrev Inv-loop : tie.InvT-loop
 Inv-loop secrets masks map₀ j₀ map j =
     (length map ≡ 128) × ((i k : ℕ) → i < j → k < 8 → odd (getD map i 0 / 2 ^ k) ≡ suspectBy secrets masks (8 * i + k))
+    × ((i : ℕ) → j ≤ i → i < 128 → getD map i 0 ≡ i)
 
 abbrev μ-loop : tie.MeasureT-loop
 μ-loop secrets masks map₀ j₀ map j = 128 - j
 
-loop-holds : tie.Need-loop-holds Inv-loop μ-loop
-loop-holds c = (length-replicate {A = ℕ} 128 0, λ i k l h. absurd (omega arith))
+byte-numbers-requires : tie.Need-byte-numbers-requires Inv-loop μ-loop
+byte-numbers-requires c κs = search needs
 
-cast-without : tie.Need-cast-without Inv-loop μ-loop
-cast-without c = search needs
+loop-holds : tie.Need-loop-holds Inv-loop μ-loop
+loop-holds c = (
+  rw (c .byte-numbers .ensures) (tabulate-length (λ (j : ℕ). j) 128),
+  λ i k l h. absurd (omega arith),
+  λ i l h. rw (c .byte-numbers .ensures) (tabulate-at (λ (j : ℕ). j) 128 i 0 h),
+)
+
+array-read-byte : tie.Need-array-read-byte Inv-loop μ-loop
+array-read-byte c = search needs
 
 without-requires : tie.Need-without-requires Inv-loop μ-loop
 without-requires c κs = search needs
-
-cast-without-2 : tie.Need-cast-without-2 Inv-loop μ-loop
-cast-without-2 c = search needs
 
 without-requires-2 : tie.Need-without-requires-2 Inv-loop μ-loop
 without-requires-2 c κs = search needs
@@ -49,20 +55,23 @@ loop-less c = search needs
 loop-again : tie.Need-loop-again Inv-loop μ-loop
 loop-again c =
     let loop = c .before .before .before .loop in
-    let args = c .before .before .before .before .args in
+    let args = c .before .before .before .before .before .args in
+    let (long, so-far, numbers) = loop .inv in
+    let number = numbers (loop .j) (omega arith) (omega arith) in
     let byte : ℕ = bitAnd (255 - c .before .without .result) (c .without2 .result) in (
-      simp length-set (loop .inv .0),
+      simp length-set long,
       λ i k l h.
           below-more (λ i. odd (getD (set (loop .map) (loop .j) byte) i 0 / 2 ^ k) ≡ suspectBy (args .secrets) (args .masks) (8 * i + k)) (loop .j)
-          (λ i l. rw (getD-set-other (loop .map) (loop .j) i byte 0 (λ e. omega arith)) (loop .inv .1 i k l h))
+          (λ i l. rw (getD-set-other (loop .map) (loop .j) i byte 0 (λ e. omega arith)) (so-far i k l h))
           (rw (
             getD-set-same (loop .map) (loop .j) byte 0 (omega arith),
             bit-and (255 - c .before .without .result) (c .without2 .result) k,
             bit-not (c .before .without .result) k (omega arith) h,
-            c .before .without .ensures k h,
-            c .without2 .ensures k h,
+            rw number at (c .before .without .ensures k h),
+            rw number at (c .without2 .ensures k h),
           ))
           i l,
+      λ i l h. rw (getD-set-other (loop .map) (loop .j) i byte 0 (λ e. omega arith)) (numbers i (omega arith) h),
     )
 
 returns : tie.Need-returns Inv-loop μ-loop
@@ -79,10 +88,10 @@ suspect-map-spec =
     (tie.spec
     Inv-loop
     μ-loop
+    byte-numbers-requires
     loop-holds
-    cast-without
+    array-read-byte
     without-requires
-    cast-without-2
     without-requires-2
     array-write-map
     add-j
