@@ -57,13 +57,13 @@ fn place_of(list: usize) -> usize
 fn put_listed(listed: &mut Work, list: usize, sets: [u16; 1024], many: usize) -> bool {
     let from = place_of(list);
     let mut rising = true;
-    let mut above = 0;
+    let mut before = 0;
     let mut k = 0;
     while k < many {
         let set = sets[k % 1024] as usize;
         let at = from + set / 8 % 128;
-        rising = rising & (above <= set) & (set < 1024);
-        above = set + 1;
+        rising = rising & ((k == 0) | (before < set)) & (set < 1024);
+        before = set;
         listed[at] = listed[at] | (1u8 << (set % 8));
         k += 1;
     }
@@ -103,6 +103,11 @@ fn operands(work: &Work, first: usize, other: usize) -> Parts {
         j += 1;
     }
     parts
+}
+
+// How many sets a product has.
+fn arisen(parts: Parts) -> usize {
+    families::size(&parts, 2)
 }
 
 // Puts a product into the family of a list, with the empty set and both operands where they belong to it.
@@ -164,7 +169,7 @@ fn make_product(
     } else {
         families::product(&mut parts, 2, 0, 1)
     };
-    let arose = families::size(&parts, 2);
+    let arose = arisen(parts);
     count_product(tally, layer, rows, columns, tried, arose);
     count(tally, ITSELF, one_if(itself));
     count(tally, DIFFERENCES, one_if(tried != times(rows, columns)));
