@@ -51,6 +51,7 @@ use rules::MOST_VARIABLES;
 use rules::MOST_WORK;
 use rules::NodeRecord;
 use rules::QueryOutcome;
+use std::num::wrapping_add_u16;
 use tools::least;
 use tools::print;
 use tools::print_answer;
@@ -686,12 +687,12 @@ fn put_set(work: &mut [u8; MOST_WORK], part: usize, set: usize) {
 }
 
 // Puts the sets from one to another into a part.
-fn put_range(work: &mut [u8; MOST_WORK], part: usize, from: usize, to: usize) {
+fn put_range(work: &mut [u8; MOST_WORK], part: usize, from: usize, to: usize)
+    requires { ⌜ to < 1024 ⌝ }
+{
     let mut set = from;
-    while set < SETS {
-        if set <= to {
-            put_set(work, part, set);
-        }
+    while set <= to {
+        put_set(work, part, set);
         set += 1;
     }
 }
@@ -700,12 +701,16 @@ fn put_range(work: &mut [u8; MOST_WORK], part: usize, from: usize, to: usize) {
 fn put_sets(work: &mut [u8; MOST_WORK], part: usize, word: &[u8]) {
     let dash = find(word, 0, b'-');
     let from = decimal(&word[0..dash]);
-    if dash == word.len() {
-        put_range(work, part, from, from);
-        return;
+    let mut to = from;
+    if dash < word.len() {
+        let behind = dash + 1;
+        to = decimal(&word[behind..]);
     }
-    let behind = dash + 1;
-    put_range(work, part, from, decimal(&word[behind..]));
+    if to < SETS {
+        put_range(work, part, from, to);
+    } else {
+        complain(word);
+    }
 }
 
 // Puts sets, with a blank before each word, into a part.
@@ -735,8 +740,8 @@ fn held(work: &[u8], part: usize) -> Listed
     let mut set = 0;
     while set < SETS {
         if families::holds(work, part, set) {
-            sets[count] = set as u16;
-            count += 1;
+            sets[count % MOST_LIST] = set as u16;
+            count = count % MOST_LIST + 1;
         }
         set += 1;
     }
@@ -753,9 +758,7 @@ fn follows(sets: [u16; MOST_LIST], count: usize, k: usize) -> bool
     if k >= count {
         return false;
     }
-    let before = sets[k - 1] as usize;
-    let set = sets[k] as usize;
-    before + 1 == set
+    wrapping_add_u16(sets[k - 1], 1) == sets[k]
 }
 
 // A set of a list, unless it follows the one before it and the next one follows it.
