@@ -16,16 +16,14 @@
 //     edits ENTRIES BYTES : BLOCK : EDITS : NAME    the block is opened in slices that hold every block, then each edit is made in slices
 //                                           of these lengths; of the opening and of each edit the reply, how many variables and nodes the
 //                                           state then has, from where to where entries and work bytes change, and each marked node as above
-//     product FIRST SECOND INTO : SETS : SETS : NAME    families of these sets are put into the first two parts of the work bytes, which are one
-//                                           family where these are the same part, and their product into a part above both: how many pairs
-//                                           were tried, from where to where work bytes change, and the product
-//     spread FIRST SECOND INTO : SETS : SETS : NAME    the same of the empty set, two families and their product, but for the number of pairs
-//     sets PART ENTRIES : SETS : NAME       a family of these sets is put into a part: how many they are, their list, and from where on the
-//                                           entries of the slice that it is written to are as they were
+//     product FIRST SECOND INTO : SETS : SETS : NAME    families of these sets are put into two parts of the work bytes, or into one where these are
+//                                           the same part; their product is made in a part above both, and then there the empty set, both
+//                                           families and their product. How many pairs were tried; of each of the four families how many
+//                                           sets it has and their list; and from where to where work bytes change
 //
 // A block is written in hexadecimal digits, with a blank before each record; `200*020000` is a record 200 times. A number is
-// decimal: at most 200 ENTRIES, 51200 BYTES of work, 3654 of text and 2565 of steps, parts below 400, 1024 to 1100 ENTRIES for a list, and any usize
-// elsewhere. SETS are numbers below 1024, and `8-15` is all of them from 8 to 15; lists are printed so too. A line that starts with `=` is
+// decimal: at most 200 ENTRIES, 51200 BYTES of work, 3654 of text and 2565 of steps, parts below 400, and any usize
+// elsewhere. SETS are numbers below 1024, and `8-15` is all of them from 8 to 15; a list is printed so too. A line that starts with `=` is
 // printed without that sign and the blank behind it. An edit is `+` and a record in hexadecimal digits, or `-` and a node. Empty lines, and lines that start with `#`, are for the reader. What the
 // program does not understand it prints, as `not understood: ` and the line or the word.
 ghost use Prim.Native.Nat.{_+_, _*_, _≤_, _<_};
@@ -77,7 +75,7 @@ const MOST_STEPS: usize = 2565;
 
 const SHOWN: usize = 8;
 
-// The parts of the work bytes, the most entries for a list, and what each entry holds before; no set has such a number.
+// The parts of the work bytes, the entries for a list, and what each of them holds before; no set has such a number.
 const PARTS: usize = 400;
 
 const MOST_LIST: usize = 1100;
@@ -681,18 +679,14 @@ fn clear_part(work: &mut [u8; MOST_WORK], part: usize) {
     }
 }
 
-fn put_set(work: &mut [u8; MOST_WORK], part: usize, set: usize) {
-    let at = part % PARTS * PART + set / 8 % PART;
-    work[at] = work[at] | (1u8 << (set % 8));
-}
-
 // Puts the sets from one to another into a part.
 fn put_range(work: &mut [u8; MOST_WORK], part: usize, from: usize, to: usize)
     requires { ⌜ to < 1024 ⌝ }
 {
     let mut set = from;
     while set <= to {
-        put_set(work, part, set);
+        let at = part % PARTS * PART + set / 8 % PART;
+        work[at] = work[at] | (1u8 << (set % 8));
         set += 1;
     }
 }
@@ -725,46 +719,21 @@ fn put_family(work: &mut [u8; MOST_WORK], part: usize, words: &[u8]) {
     }
 }
 
-// Sets in a row, and how many there are.
-struct Listed {
-    sets: [u16; MOST_LIST],
-    count: usize,
-}
-
-// The sets that a part holds, asked for one by one.
-fn held(work: &[u8], part: usize) -> Listed
-    requires { ⌜ HasPart (now work) part ⌝ }
-{
-    let mut sets = [NO_SET; MOST_LIST];
-    let mut count = 0;
-    let mut set = 0;
-    while set < SETS {
-        if families::holds(work, part, set) {
-            sets[count % MOST_LIST] = set as u16;
-            count = count % MOST_LIST + 1;
-        }
-        set += 1;
-    }
-    Listed { sets, count }
-}
-
-// Whether a set of a list is the one behind the set before it.
-fn follows(sets: [u16; MOST_LIST], count: usize, k: usize) -> bool
-    requires { ⌜ count ≤ 1100 ⌝ }
-{
+// Whether the set at a place of a list is the one behind the set before it.
+fn follows(sets: [u16; MOST_LIST], k: usize) -> bool {
     if k == 0 {
         return false;
     }
-    if k >= count {
+    if k >= MOST_LIST {
         return false;
     }
     wrapping_add_u16(sets[k - 1], 1) == sets[k]
 }
 
 // A set of a list, unless it follows the one before it and the next one follows it.
-fn print_set(set: usize, joined: bool, more: bool) {
+fn print_set(set: u16, joined: bool, more: bool) {
     if !joined {
-        print_number(set);
+        print_number(set as usize);
         return;
     }
     if !more {
@@ -773,86 +742,47 @@ fn print_set(set: usize, joined: bool, more: bool) {
     }
 }
 
-// The sets of a list; of those that follow each other the first and the last, with a dash between them.
-fn print_listed(listed: Listed) {
-    let sets = listed.sets;
-    let count = least(listed.count, MOST_LIST);
-    let mut k = 0;
-    while k < count {
-        let joined = follows(sets, count, k);
-        let more = follows(sets, count, k + 1);
-        print_set(sets[k] as usize, joined, more);
-        k += 1;
-    }
-}
-
-// From where on the entries for a list are as they were.
-fn list_kept_from(sets: [u16; MOST_LIST]) -> usize {
-    let mut from = 0;
+// The entries of a list that are written; of those that follow each other the first and the last, with a dash between them.
+fn print_listed(sets: [u16; MOST_LIST]) {
     let mut k = 0;
     while k < MOST_LIST {
         if sets[k] != NO_SET {
-            from = k + 1;
+            print_set(sets[k], follows(sets, k), follows(sets, k + 1));
         }
         k += 1;
     }
-    from
 }
 
-// Work bytes with families of these sets in two parts.
-fn work_with(
-    first: usize,
-    first_words: &[u8],
-    second: usize,
-    second_words: &[u8],
-) -> [u8; MOST_WORK] {
-    let mut work = [0u8; MOST_WORK];
-    trial::fill(&mut work);
-    clear_part(&mut work, first);
-    clear_part(&mut work, second);
-    put_family(&mut work, first, first_words);
-    put_family(&mut work, second, second_words);
-    work
-}
-
-// From where to where work bytes changed, and the family that a part holds then.
-fn print_made(name: &[u8], before: [u8; MOST_WORK], work: [u8; MOST_WORK], part: usize)
+// A family's name and size, how many sets are listed, and the list.
+fn print_list(name: &[u8], work: [u8; MOST_WORK], part: usize)
     requires { ⌜ part < 400 ⌝ }
 {
-    let span = bytes_span(before, work);
-    print_counts(b" changed##", &[span.from, span.to]);
+    let mut sets = [NO_SET; MOST_LIST];
+    let listed = families::list_sets(&work, part, &mut sets);
     print_byte(b'\n');
-    let made = held(&work, part);
-    print_counts(name, &[families::size(&work, part)]);
-    print_listed(made);
+    print_counts(name, &[families::size(&work, part), listed]);
+    print_listed(sets);
 }
 
+// The product of two families, and what a gate makes of it.
 fn product(before: [u8; MOST_WORK], first: usize, second: usize, into: usize)
     requires { ⌜ (into < 400) × (first < into) × (second < into) ⌝ }
 {
     let mut work = before;
+    let mut wide = before;
     let tried = families::product(&mut work, into, first, second);
-    print_counts(b": pairs#,", &[tried]);
-    print_made(b"product# in all:", before, work, into);
-}
-
-fn spread(before: [u8; MOST_WORK], first: usize, second: usize, into: usize)
-    requires { ⌜ (into < 400) × (first < into) × (second < into) ⌝ }
-{
-    let mut work = before;
-    families::spread(&mut work, into, first, second);
-    print_byte(b':');
-    print_made(b"spread# in all:", before, work, into);
-}
-
-fn sets(work: [u8; MOST_WORK], part: usize, entries: usize)
-    requires { ⌜ (part < 400) × (1024 ≤ entries) × (entries ≤ 1100) ⌝ }
-{
-    let mut sets = [NO_SET; MOST_LIST];
-    let count = families::list_sets(&work, part, &mut sets[0..entries]);
-    print_counts(b": sets#, listed#:", &[families::size(&work, part), count]);
-    print_listed(Listed { sets, count });
-    print_counts(b", kept from#", &[list_kept_from(sets)]);
+    families::spread(&mut wide, into, first, second);
+    print_counts(b": pairs#", &[tried]);
+    print_list(b"first#, listed#:", work, first);
+    print_list(b"second#, listed#:", work, second);
+    print_list(b"product#, listed#:", work, into);
+    print_list(b"spread#, listed#:", wide, into);
+    let made = bytes_span(before, work);
+    let spread = bytes_span(before, wide);
+    print_counts(
+        b", changed## and##",
+        &[made.from, made.to, spread.from, spread.to],
+    );
 }
 
 // ---- lines
@@ -989,9 +919,9 @@ fn run_edits(line: &[u8], numbers: Numbers, colon: usize) -> bool
     true
 }
 
-// Runs a case of two families, whose command ends at a colon; answers whether it is understood.
-fn run_families(line: &[u8], end: usize, numbers: Numbers, colon: usize) -> bool
-    requires { ⌜ (end ≤ colon) × (colon < length (now line)) ⌝ }
+// Runs a case of two families likewise.
+fn run_product(line: &[u8], numbers: Numbers, colon: usize) -> bool
+    requires { ⌜ colon < length (now line) ⌝ }
 {
     let from = colon + 1;
     let next = find(line, from, b':');
@@ -1012,36 +942,13 @@ fn run_families(line: &[u8], end: usize, numbers: Numbers, colon: usize) -> bool
     if second >= into {
         return false;
     }
-    let work = work_with(first, &line[from..next], second, &line[words..last]);
+    let mut work = [170u8; MOST_WORK];
+    clear_part(&mut work, first);
+    clear_part(&mut work, second);
+    put_family(&mut work, first, &line[from..next]);
+    put_family(&mut work, second, &line[words..last]);
     print_behind(line, last);
-    if same(&line[0..end], b"product") {
-        product(work, first, second, into);
-    } else {
-        spread(work, first, second, into);
-    }
-    true
-}
-
-// Runs a case of a list likewise.
-fn run_sets(line: &[u8], numbers: Numbers, colon: usize) -> bool
-    requires { ⌜ colon < length (now line) ⌝ }
-{
-    let from = colon + 1;
-    let next = find(line, from, b':');
-    let part = numbers.first;
-    let entries = numbers.last;
-    if part >= PARTS {
-        return false;
-    }
-    if entries < SETS {
-        return false;
-    }
-    if entries > MOST_LIST {
-        return false;
-    }
-    let work = work_with(part, &line[from..next], part, b"");
-    print_behind(line, next);
-    sets(work, part, entries);
+    product(work, first, second, into);
     true
 }
 
@@ -1060,13 +967,7 @@ fn run_case(line: &[u8]) -> bool {
         return run_edits(line, numbers, colon);
     }
     if same(&line[0..end], b"product") {
-        return run_families(line, end, numbers, colon);
-    }
-    if same(&line[0..end], b"spread") {
-        return run_families(line, end, numbers, colon);
-    }
-    if same(&line[0..end], b"sets") {
-        return run_sets(line, numbers, colon);
+        return run_product(line, numbers, colon);
     }
     let digits = put_block(&mut bytes, &line[from..next]);
     print_behind(line, next);

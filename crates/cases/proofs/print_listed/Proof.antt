@@ -1,20 +1,29 @@
--- `cases::print_listed` is safe and ends: each turn leaves fewer sets. Assumes nothing.
+-- `cases::print_listed` is safe and ends: it looks at entries below 1,100. Assumes nothing.
 use borrow.Author.Needs.{needs}
 use Prim.Native.Nat.{_-_, _≤_}
 use Rattle.cases.proofs.print_listed.Statement.{statement}
 use Rattle.cases.proofs.print_listed.Tie as tie
 
 abbrev Inv-loop : tie.InvT-loop
-Inv-loop sets count k₀ k = k ≤ count
+Inv-loop sets k₀ k = k ≤ 1100
 
 abbrev μ-loop : tie.MeasureT-loop
-μ-loop sets count k₀ k = count - k
-
-least-requires : tie.Need-least-requires Inv-loop μ-loop
-least-requires c κs = search needs
+μ-loop sets k₀ k = 1100 - k
 
 loop-holds : tie.Need-loop-holds Inv-loop μ-loop
 loop-holds c = search needs
+
+mul-if1 : tie.Need-mul-if1 Inv-loop μ-loop
+mul-if1 c = search needs
+
+array-read-if1 : tie.Need-array-read-if1 Inv-loop μ-loop
+array-read-if1 c = search needs
+
+mul-print-set : tie.Need-mul-print-set Inv-loop μ-loop
+mul-print-set c = search needs
+
+array-read-print-set : tie.Need-array-read-print-set Inv-loop μ-loop
+array-read-print-set c = search needs
 
 follows-requires : tie.Need-follows-requires Inv-loop μ-loop
 follows-requires c κs = search needs
@@ -24,15 +33,6 @@ add-follows c = search needs
 
 follows-requires-2 : tie.Need-follows-requires-2 Inv-loop μ-loop
 follows-requires-2 c κs = search needs
-
-mul-print-set : tie.Need-mul-print-set Inv-loop μ-loop
-mul-print-set c = search needs
-
-array-read-print-set : tie.Need-array-read-print-set Inv-loop μ-loop
-array-read-print-set c = search needs
-
-cast-print-set : tie.Need-cast-print-set Inv-loop μ-loop
-cast-print-set c = search needs
 
 print-set-requires : tie.Need-print-set-requires Inv-loop μ-loop
 print-set-requires c κs = search needs
@@ -55,14 +55,14 @@ print-listed-spec =
     (tie.spec
     Inv-loop
     μ-loop
-    least-requires
     loop-holds
+    mul-if1
+    array-read-if1
+    mul-print-set
+    array-read-print-set
     follows-requires
     add-follows
     follows-requires-2
-    mul-print-set
-    array-read-print-set
-    cast-print-set
     print-set-requires
     add-k
     loop-less

@@ -13,8 +13,23 @@ abbrev μ-loop : tie.MeasureT-loop
 loop-holds : tie.Need-loop-holds Inv-loop μ-loop
 loop-holds c = search needs
 
-put-set-requires : tie.Need-put-set-requires Inv-loop μ-loop
-put-set-requires c κs = search needs
+mul-at : tie.Need-mul-at Inv-loop μ-loop
+mul-at c = search needs
+
+add-at : tie.Need-add-at Inv-loop μ-loop
+add-at c = search needs
+
+element-copy-out-work : tie.Need-element-copy-out-work Inv-loop μ-loop
+element-copy-out-work c = search needs
+
+cast-work : tie.Need-cast-work Inv-loop μ-loop
+cast-work c = search needs
+
+shl-work : tie.Need-shl-work Inv-loop μ-loop
+shl-work c = search needs
+
+element-write-work : tie.Need-element-write-work Inv-loop μ-loop
+element-write-work c = search needs
 
 add-set : tie.Need-add-set Inv-loop μ-loop
 add-set c = search needs
@@ -31,4 +46,17 @@ returns c = search needs
 pub put-range-spec : {M : Type 1} → statement M
 put-range-spec =
     tie.close
-    (tie.spec Inv-loop μ-loop loop-holds put-set-requires add-set loop-less loop-again returns)
+    (tie.spec
+    Inv-loop
+    μ-loop
+    loop-holds
+    mul-at
+    add-at
+    element-copy-out-work
+    cast-work
+    shl-work
+    element-write-work
+    add-set
+    loop-less
+    loop-again
+    returns)
