@@ -1,5 +1,5 @@
 // The cases and edges of document 01 that are not in its table: what a check, a query or the listing answers, and what the lent
-// slices hold after it. Where two conditions meet, the case shows which is checked first.
+// slices hold after it; and products of families. Where two conditions meet, the case shows which is checked first.
 //
 // Standard input has one case a line: a command with its numbers, a block and the case's name, with colons between them.
 //
@@ -16,10 +16,10 @@
 //     edits ENTRIES BYTES : BLOCK : EDITS : NAME    the block is opened in slices that hold every block, then each edit is made in slices
 //                                           of these lengths; of the opening and of each edit the reply, how many variables and nodes the
 //                                           state then has, from where to where entries and work bytes change, and each marked node as above
-//     product FIRST SECOND INTO : SETS : SETS : NAME    families of these sets are put into two parts of the work bytes, or into one where these are
-//                                           the same part; their product is made in a part above both, and then there the empty set, both
-//                                           families and their product. How many pairs were tried; of each of the four families how many
-//                                           sets it has and their list; and from where to where work bytes change
+//     product FIRST SECOND INTO : SETS : SETS : NAME    families of these sets are put into two parts of the work bytes, or both into one; in a part
+//                                           above them their product is made, and apart from that the empty set with both families and their
+//                                           product: how many pairs were tried, of each of the four families how many sets it has, how many
+//                                           are listed and the list, and from where to where work bytes change each time
 //
 // A block is written in hexadecimal digits, with a blank before each record; `200*020000` is a record 200 times. A number is
 // decimal: at most 200 ENTRIES, 51200 BYTES of work, 3654 of text and 2565 of steps, parts below 400, and any usize
