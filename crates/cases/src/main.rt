@@ -1,5 +1,5 @@
 // The cases and edges of document 01 that are not in its table: what a check, a query or the listing answers, and what the lent
-// slices hold after it. Where two conditions meet, the case shows which is checked first.
+// slices hold after it; and products of families. Where two conditions meet, the case shows which is checked first.
 //
 // Standard input has one case a line: a command with its numbers, a block and the case's name, with colons between them.
 //
@@ -16,9 +16,14 @@
 //     edits ENTRIES BYTES : BLOCK : EDITS : NAME    the block is opened in slices that hold every block, then each edit is made in slices
 //                                           of these lengths; of the opening and of each edit the reply, how many variables and nodes the
 //                                           state then has, from where to where entries and work bytes change, and each marked node as above
+//     product FIRST SECOND INTO : SETS : SETS : NAME    families of these sets are put into two parts of the work bytes, or both into one; in a part
+//                                           above them their product is made, and apart from that the empty set with both families and their
+//                                           product: how many pairs were tried, of each of the four families how many sets it has, how many
+//                                           are listed and the list, and from where to where work bytes change each time
 //
 // A block is written in hexadecimal digits, with a blank before each record; `200*020000` is a record 200 times. A number is
-// decimal: at most 200 ENTRIES, 51200 BYTES of work, 3654 of text and 2565 of steps, and any usize elsewhere. A line that starts with `=` is
+// decimal: at most 200 ENTRIES, 51200 BYTES of work, 3654 of text and 2565 of steps, parts below 400, and any usize
+// elsewhere. SETS are numbers below 1024, and `8-15` is all of them from 8 to 15; a list is printed so too. A line that starts with `=` is
 // printed without that sign and the blank behind it. An edit is `+` and a record in hexadecimal digits, or `-` and a node. Empty lines, and lines that start with `#`, are for the reader. What the
 // program does not understand it prints, as `not understood: ` and the line or the word.
 ghost use Prim.Native.Nat.{_+_, _*_, _≤_, _<_};
@@ -29,8 +34,10 @@ ghost use Rattle.families.specs.Parts.{HasPart};
 use check::same;
 use derivations::Derived;
 use edit_trial::SeenEdit;
+use families::PART;
 use families::SETS;
 use libc::STDIN_FILENO;
+use libc::STDOUT_FILENO;
 use open_blocks::Edit;
 use open_blocks::State;
 use pair_search::Found;
@@ -42,6 +49,7 @@ use rules::MOST_VARIABLES;
 use rules::MOST_WORK;
 use rules::NodeRecord;
 use rules::QueryOutcome;
+use std::num::wrapping_add_u16;
 use tools::least;
 use tools::print;
 use tools::print_answer;
@@ -66,6 +74,13 @@ const NO_BLOCK: usize = 2049;
 const MOST_STEPS: usize = 2565;
 
 const SHOWN: usize = 8;
+
+// The parts of the work bytes, the entries for a list, and what each of them holds before; no set has such a number.
+const PARTS: usize = 400;
+
+const MOST_LIST: usize = 1100;
+
+const NO_SET: u16 = 40000;
 
 // ---- printing
 
@@ -652,6 +667,124 @@ fn edits(bytes: [u8; MOST_BLOCK], digits: usize, words: &[u8], entries: usize, r
     }
 }
 
+// ---- families
+
+// Takes every set out of a part.
+fn clear_part(work: &mut [u8; MOST_WORK], part: usize) {
+    let from = part % PARTS * PART;
+    let mut j = 0;
+    while j < PART {
+        work[from + j] = 0;
+        j += 1;
+    }
+}
+
+// Puts the sets from one to another into a part.
+fn put_range(work: &mut [u8; MOST_WORK], part: usize, from: usize, to: usize)
+    requires { ⌜ to < 1024 ⌝ }
+{
+    let mut set = from;
+    while set <= to {
+        let at = part % PARTS * PART + set / 8 % PART;
+        work[at] = work[at] | (1u8 << (set % 8));
+        set += 1;
+    }
+}
+
+// A set, or the first and the last of several with a dash between them.
+fn put_sets(work: &mut [u8; MOST_WORK], part: usize, word: &[u8]) {
+    let dash = find(word, 0, b'-');
+    let from = decimal(&word[0..dash]);
+    let mut to = from;
+    if dash < word.len() {
+        let behind = dash + 1;
+        to = decimal(&word[behind..]);
+    }
+    if to < SETS {
+        put_range(work, part, from, to);
+    } else {
+        complain(word);
+    }
+}
+
+// Puts sets, with a blank before each word, into a part.
+fn put_family(work: &mut [u8; MOST_WORK], part: usize, words: &[u8]) {
+    let mut at = 0;
+    while at < words.len() {
+        let from = at + 1;
+        at = find(words, from, b' ');
+        if from < at {
+            put_sets(work, part, &words[from..at]);
+        }
+    }
+}
+
+// Whether the set at a place of a list is the one behind the set before it.
+fn follows(sets: [u16; MOST_LIST], k: usize) -> bool {
+    if k == 0 {
+        return false;
+    }
+    if k >= MOST_LIST {
+        return false;
+    }
+    wrapping_add_u16(sets[k - 1], 1) == sets[k]
+}
+
+// A set of a list, unless it follows the one before it and the next one follows it.
+fn print_set(set: u16, joined: bool, more: bool) {
+    if !joined {
+        print_number(set as usize);
+        return;
+    }
+    if !more {
+        print_byte(b'-');
+        io::print_decimal(STDOUT_FILENO, set as u64);
+    }
+}
+
+// The entries of a list that are written; of those that follow each other the first and the last, with a dash between them.
+fn print_listed(sets: [u16; MOST_LIST]) {
+    let mut k = 0;
+    while k < MOST_LIST {
+        if sets[k] != NO_SET {
+            print_set(sets[k], follows(sets, k), follows(sets, k + 1));
+        }
+        k += 1;
+    }
+}
+
+// A family's name and size, how many sets are listed, and the list.
+fn print_list(name: &[u8], work: [u8; MOST_WORK], part: usize)
+    requires { ⌜ part < 400 ⌝ }
+{
+    let mut sets = [NO_SET; MOST_LIST];
+    let listed = families::list_sets(&work, part, &mut sets);
+    print_byte(b'\n');
+    print_counts(name, &[families::size(&work, part), listed]);
+    print_listed(sets);
+}
+
+// The product of two families, and what a gate makes of it.
+fn product(before: [u8; MOST_WORK], first: usize, second: usize, into: usize)
+    requires { ⌜ (into < 400) × (first < into) × (second < into) ⌝ }
+{
+    let mut work = before;
+    let mut wide = before;
+    let tried = families::product(&mut work, into, first, second);
+    families::spread(&mut wide, into, first, second);
+    print_counts(b": pairs#", &[tried]);
+    print_list(b"first#, listed#:", work, first);
+    print_list(b"second#, listed#:", work, second);
+    print_list(b"product#, listed#:", work, into);
+    print_list(b"spread#, listed#:", wide, into);
+    let made = bytes_span(before, work);
+    let spread = bytes_span(before, wide);
+    print_counts(
+        b", changed## and##",
+        &[made.from, made.to, spread.from, spread.to],
+    );
+}
+
 // ---- lines
 
 // Runs a command of four numbers; answers whether there is such a command, and the numbers are within its limits.
@@ -786,6 +919,39 @@ fn run_edits(line: &[u8], numbers: Numbers, colon: usize) -> bool
     true
 }
 
+// Runs a case of two families likewise.
+fn run_product(line: &[u8], numbers: Numbers, colon: usize) -> bool
+    requires { ⌜ colon < length (now line) ⌝ }
+{
+    let from = colon + 1;
+    let next = find(line, from, b':');
+    if next == line.len() {
+        return false;
+    }
+    let words = next + 1;
+    let last = find(line, words, b':');
+    let first = numbers.limit;
+    let second = numbers.first;
+    let into = numbers.last;
+    if into >= PARTS {
+        return false;
+    }
+    if first >= into {
+        return false;
+    }
+    if second >= into {
+        return false;
+    }
+    let mut work = [170u8; MOST_WORK];
+    clear_part(&mut work, first);
+    clear_part(&mut work, second);
+    put_family(&mut work, first, &line[from..next]);
+    put_family(&mut work, second, &line[words..last]);
+    print_behind(line, last);
+    product(work, first, second, into);
+    true
+}
+
 // Runs a case; answers whether it is understood.
 fn run_case(line: &[u8]) -> bool {
     let end = find(line, 0, b' ');
@@ -799,6 +965,9 @@ fn run_case(line: &[u8]) -> bool {
     let numbers = numbers_of(&line[end..colon]);
     if same(&line[0..end], b"edits") {
         return run_edits(line, numbers, colon);
+    }
+    if same(&line[0..end], b"product") {
+        return run_product(line, numbers, colon);
     }
     let digits = put_block(&mut bytes, &line[from..next]);
     print_behind(line, next);

@@ -2,6 +2,7 @@
 // force. Prints counts of what was seen: every one is above 0 but `differences` and `contradictions`, which must be 0.
 mod compare;
 mod counts;
+mod products;
 
 fn main() {
     tools::print(b"against the second checker\n");

@@ -30,6 +30,9 @@ count-answer-requires c κs = search needs
 count-marks-requires : tie.Need-count-marks-requires
 count-marks-requires c κs = search needs
 
+compare-products-requires : tie.Need-compare-products-requires
+compare-products-requires c κs = search needs
+
 families-differ-requires : tie.Need-families-differ-requires
 families-differ-requires c κs = search needs
 
@@ -69,6 +72,7 @@ compare-block-spec =
     compare-check-requires
     count-answer-requires
     count-marks-requires
+    compare-products-requires
     families-differ-requires
     one-if-requires
     count-requires
