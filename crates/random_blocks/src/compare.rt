@@ -1,6 +1,6 @@
 // Compares the checker and the queries with the second checker over random blocks, valid and damaged, in slices of many
-// lengths: replies with number and place, node records with their marks, families, what lies beyond them, the lists of their sets and the
-// pairs that are tried for their products, and the three queries.
+// lengths: replies with number and place, node records with their marks, families, what lies beyond them, their sizes and the pairs that are
+// tried for their products, and the three queries.
 // Prints what it saw, and how often a reply, a slice or a query differs.
 use crate::products::compare_products;
 use expected::Expected;
@@ -28,7 +28,7 @@ use tools::print_counts;
 const BLOCKS: usize = 4000;
 
 // What was seen: counts, in the order of the names that `run` prints.
-pub(crate) type Tally = [usize; 60];
+pub(crate) type Tally = [usize; 57];
 
 // The checks answered, and behind them those refused with 1 to 11.
 const CHECKS: usize = 1;
@@ -74,15 +74,15 @@ const SEVERAL_MARKS: usize = 30;
 // Behind these is what `products` counts.
 //
 // The queries answered, and behind them those refused with 1 to 9, 12 and 13.
-const QUERIES: usize = 44;
+const QUERIES: usize = 41;
 
-const VALUES: usize = 56;
+const VALUES: usize = 53;
 
-const POINTS: usize = 57;
+const POINTS: usize = 54;
 
-const MEMBERS: usize = 58;
+const MEMBERS: usize = 55;
 
-pub(crate) const DIFFERENCES: usize = 59;
+pub(crate) const DIFFERENCES: usize = 56;
 
 // The generator's state, and what was seen.
 struct State {
@@ -91,7 +91,7 @@ struct State {
 }
 
 pub(crate) fn count(tally: &mut Tally, at: usize, more: usize) {
-    tally[at % 60] = wrapping_add_usize(tally[at % 60], more);
+    tally[at % 57] = wrapping_add_usize(tally[at % 57], more);
 }
 
 // ---- the check
@@ -397,7 +397,7 @@ fn one_block(state: State, turn: usize) -> State {
 
 fn print_tally(tally: Tally) {
     print_counts(
-        b"blocks\nanswered\nchecks refused with 1:\nchecks refused with 2:\nchecks refused with 3:\nchecks refused with 4:\nchecks refused with 5:\nchecks refused with 6:\nchecks refused with 7:\nchecks refused with 8:\nchecks refused with 9:\nchecks refused with 10:\nchecks refused with 11:\nnodes\nsets in their families\nlargest family\nfamilies of more than 100 sets\nsettled suspects\nglitch suspects\nclear for glitches\nreported sets with a lower one suspect\nreported sets with a tie\nnodes marked for settled signals\nnodes marked for glitches\nnodes marked for glitches alone\nnodes with two marks that differ\nregisters marked\ninputs with a suspect set, not marked\nmost settled marks in a block\nmost glitch marks in a block\nblocks with several settled marks\nblocks with several glitch marks\nfamilies listed\nsets listed\ngates whose settled pairs were counted\ngates whose glitch pairs were counted\nsettled pairs tried\nglitch pairs tried\nmost pairs tried at a gate\nproducts of two families of one set\nproducts with one family of one set\nproducts of a family with itself\nproducts of two families of 1024 sets\nproducts with fewer sets than pairs\nqueries answered\nqueries refused with 1:\nqueries refused with 2:\nqueries refused with 3:\nqueries refused with 4:\nqueries refused with 5:\nqueries refused with 6:\nqueries refused with 7:\nqueries refused with 8:\nqueries refused with 9:\nqueries refused with 12:\nqueries refused with 13:\nvalues 1\nfeeding points asked of a node\nmemberships yes\ndifferences\n",
+        b"blocks\nanswered\nchecks refused with 1:\nchecks refused with 2:\nchecks refused with 3:\nchecks refused with 4:\nchecks refused with 5:\nchecks refused with 6:\nchecks refused with 7:\nchecks refused with 8:\nchecks refused with 9:\nchecks refused with 10:\nchecks refused with 11:\nnodes\nsets in their families\nlargest family\nfamilies of more than 100 sets\nsettled suspects\nglitch suspects\nclear for glitches\nreported sets with a lower one suspect\nreported sets with a tie\nnodes marked for settled signals\nnodes marked for glitches\nnodes marked for glitches alone\nnodes with two marks that differ\nregisters marked\ninputs with a suspect set, not marked\nmost settled marks in a block\nmost glitch marks in a block\nblocks with several settled marks\nblocks with several glitch marks\ngates whose settled pairs were counted\ngates whose glitch pairs were counted\nsettled pairs tried\nglitch pairs tried\nproducts of one pair\nproducts of 2 to 1024 pairs\nproducts of more\nproducts of 1048576 pairs\nmost pairs tried at a gate\nqueries answered\nqueries refused with 1:\nqueries refused with 2:\nqueries refused with 3:\nqueries refused with 4:\nqueries refused with 5:\nqueries refused with 6:\nqueries refused with 7:\nqueries refused with 8:\nqueries refused with 9:\nqueries refused with 12:\nqueries refused with 13:\nvalues 1\nfeeding points asked of a node\nmemberships yes\ndifferences\n",
         &tally,
     );
 }
@@ -406,7 +406,7 @@ fn print_tally(tally: Tally) {
 pub(crate) fn run() {
     let mut state = State {
         seed: 1,
-        tally: [0; 60],
+        tally: [0; 57],
     };
     let mut turn = 0;
     while turn < BLOCKS {

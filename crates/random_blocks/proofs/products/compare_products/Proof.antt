@@ -5,25 +5,22 @@ use Rattle.random_blocks.proofs.products.compare_products.Statement.{st
 use Rattle.random_blocks.proofs.products.compare_products.Tie as tie
 
 abbrev Inv-loop : tie.InvT-loop
-Inv-loop tally₀ store block work listed₀ made₀ list₀ tally listed made list = list ≤ 400
+Inv-loop tally₀ store block work made₀ list₀ tally made list = list ≤ 400
 
 abbrev μ-loop : tie.MeasureT-loop
-μ-loop tally₀ store block work listed₀ made₀ list₀ tally listed made list = 400 - list
+μ-loop tally₀ store block work made₀ list₀ tally made list = 400 - list
 
 loop-holds : tie.Need-loop-holds Inv-loop μ-loop
 loop-holds c = search needs
 
-mul-node : tie.Need-mul-node Inv-loop μ-loop
-mul-node c = search needs
+mul-compare-family : tie.Need-mul-compare-family Inv-loop μ-loop
+mul-compare-family c = search needs
 
-element-copy-out-node : tie.Need-element-copy-out-node Inv-loop μ-loop
-element-copy-out-node c = search needs
+element-copy-out-compare-family : tie.Need-element-copy-out-compare-family Inv-loop μ-loop
+element-copy-out-compare-family c = search needs
 
-list-family-requires : tie.Need-list-family-requires Inv-loop μ-loop
-list-family-requires c κs = search needs
-
-make-product-requires : tie.Need-make-product-requires Inv-loop μ-loop
-make-product-requires c κs = search needs
+compare-family-requires : tie.Need-compare-family-requires Inv-loop μ-loop
+compare-family-requires c κs = search needs
 
 add-list : tie.Need-add-list Inv-loop μ-loop
 add-list c = search needs
@@ -37,20 +34,11 @@ loop-again c = search needs
 families-differ-requires : tie.Need-families-differ-requires Inv-loop μ-loop
 families-differ-requires c κs = search needs
 
-families-differ-requires-2 : tie.Need-families-differ-requires-2 Inv-loop μ-loop
-families-differ-requires-2 c κs = search needs
-
 one-if-requires : tie.Need-one-if-requires Inv-loop μ-loop
 one-if-requires c κs = search needs
 
 count-requires : tie.Need-count-requires Inv-loop μ-loop
 count-requires c κs = search needs
-
-one-if-requires-2 : tie.Need-one-if-requires-2 Inv-loop μ-loop
-one-if-requires-2 c κs = search needs
-
-count-requires-2 : tie.Need-count-requires-2 Inv-loop μ-loop
-count-requires-2 c κs = search needs
 
 returns : tie.Need-returns Inv-loop μ-loop
 returns c = search needs
@@ -62,17 +50,13 @@ compare-products-spec =
     Inv-loop
     μ-loop
     loop-holds
-    mul-node
-    element-copy-out-node
-    list-family-requires
-    make-product-requires
+    mul-compare-family
+    element-copy-out-compare-family
+    compare-family-requires
     add-list
     loop-less
     loop-again
     families-differ-requires
-    families-differ-requires-2
     one-if-requires
     count-requires
-    one-if-requires-2
-    count-requires-2
     returns)

@@ -10,14 +10,17 @@ Inv-loop work first other from behind parts₀ j₀ parts j = j ≤ 128
 abbrev μ-loop : tie.MeasureT-loop
 μ-loop work first other from behind parts₀ j₀ parts j = 128 - j
 
-place-of-requires : tie.Need-place-of-requires Inv-loop μ-loop
-place-of-requires c κs = search needs
+part-of-requires : tie.Need-part-of-requires Inv-loop μ-loop
+part-of-requires c κs = search needs
 
-place-of-requires-2 : tie.Need-place-of-requires-2 Inv-loop μ-loop
-place-of-requires-2 c κs = search needs
+part-of-requires-2 : tie.Need-part-of-requires-2 Inv-loop μ-loop
+part-of-requires-2 c κs = search needs
 
 loop-holds : tie.Need-loop-holds Inv-loop μ-loop
 loop-holds c = search needs
+
+mul-parts : tie.Need-mul-parts Inv-loop μ-loop
+mul-parts c = search needs
 
 add-parts : tie.Need-add-parts Inv-loop μ-loop
 add-parts c = search needs
@@ -27,6 +30,9 @@ element-copy-out-parts c = search needs
 
 array-write-parts : tie.Need-array-write-parts Inv-loop μ-loop
 array-write-parts c = search needs
+
+mul-parts-2 : tie.Need-mul-parts-2 Inv-loop μ-loop
+mul-parts-2 c = search needs
 
 add-parts-2 : tie.Need-add-parts-2 Inv-loop μ-loop
 add-parts-2 c = search needs
@@ -58,12 +64,14 @@ operands-spec =
     (tie.spec
     Inv-loop
     μ-loop
-    place-of-requires
-    place-of-requires-2
+    part-of-requires
+    part-of-requires-2
     loop-holds
+    mul-parts
     add-parts
     element-copy-out-parts
     array-write-parts
+    mul-parts-2
     add-parts-2
     element-copy-out-parts-2
     add-parts-3

@@ -5,13 +5,13 @@ use Rattle.random_blocks.proofs.products.put_product.Statement.{stateme
 use Rattle.random_blocks.proofs.products.put_product.Tie as tie
 
 abbrev Inv-loop : tie.InvT-loop
-Inv-loop made₀ list spread parts from j₀ made j = j ≤ 128
+Inv-loop made₀ list spread parts from empty₀ j₀ made empty j = j ≤ 128
 
 abbrev μ-loop : tie.MeasureT-loop
-μ-loop made₀ list spread parts from j₀ made j = 128 - j
+μ-loop made₀ list spread parts from empty₀ j₀ made empty j = 128 - j
 
-place-of-requires : tie.Need-place-of-requires Inv-loop μ-loop
-place-of-requires c κs = search needs
+part-of-requires : tie.Need-part-of-requires Inv-loop μ-loop
+part-of-requires c κs = search needs
 
 loop-holds : tie.Need-loop-holds Inv-loop μ-loop
 loop-holds c = search needs
@@ -31,6 +31,9 @@ add-both c = search needs
 array-read-both-2 : tie.Need-array-read-both-2 Inv-loop μ-loop
 array-read-both-2 c = search needs
 
+mul-made : tie.Need-mul-made Inv-loop μ-loop
+mul-made c = search needs
+
 add-made : tie.Need-add-made Inv-loop μ-loop
 add-made c = search needs
 
@@ -46,17 +49,8 @@ loop-less c = search needs
 loop-again : tie.Need-loop-again Inv-loop μ-loop
 loop-again c = search needs
 
-element-copy-out-made : tie.Need-element-copy-out-made Inv-loop μ-loop
-element-copy-out-made c = search needs
-
-element-write-made-2 : tie.Need-element-write-made-2 Inv-loop μ-loop
-element-write-made-2 c = search needs
-
 returns : tie.Need-returns Inv-loop μ-loop
 returns c = search needs
-
-returns-2 : tie.Need-returns-2 Inv-loop μ-loop
-returns-2 c = search needs
 
 pub put-product-spec : {M : Type 1} → statement M
 put-product-spec =
@@ -64,19 +58,17 @@ put-product-spec =
     (tie.spec
     Inv-loop
     μ-loop
-    place-of-requires
+    part-of-requires
     loop-holds
     add-product
     array-read-product
     array-read-both
     add-both
     array-read-both-2
+    mul-made
     add-made
     element-write-made
     add-j
     loop-less
     loop-again
-    element-copy-out-made
-    element-write-made-2
-    returns
-    returns-2)
+    returns)
