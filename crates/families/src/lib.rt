@@ -1,6 +1,6 @@
 // Families of sets in one slice of bytes, 128 bytes to each: part p is the bytes from 128 × p on, and set A is bit A mod 8
 // of its byte A / 8. Each promise is one equation for the whole slice: every bit of the part that is written, and all
-// else as it was. Where a family is made from others, they are in lower parts.
+// else as it was. Where a family is made from others, they are in lower parts. A product goes by the lists of the sets that are present.
 ghost use mathlib.Core.Path.{_≡_};
 ghost use mathlib.Core.Logic.{_↔_};
 ghost use mathlib.Core.Bool.{_||_};
@@ -38,7 +38,7 @@ fn ones(byte: u8) -> u8
     fours % 16 + fours / 16
 }
 
-// The number of sets in a part, counted byte by byte.
+// The number of sets in a part, counted byte by byte, and in 16 bits, so that one instruction takes many.
 pub fn size(work: &[u8], part: usize) -> usize
     requires { ⌜ HasPart (now work) part ⌝ }
     ensures { λ r. ⌜ r ≡ length (familyAt (now (work .entry)) part) ⌝ }
