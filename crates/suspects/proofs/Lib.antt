@@ -1,4 +1,3 @@
--- What is proved of suspect sets, of their map, and of the search for the first one.
+-- What is proved of suspect sets, and of the search for the first one.
 pub mod Suspects
-pub mod Maps
 pub mod Search

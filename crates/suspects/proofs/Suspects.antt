@@ -2,6 +2,7 @@
 -- one variable more; and what a family reports, by which of its sets are suspect, in the order of report. Assumes nothing.
 use Prim.Native.Nat.{ℕ, zero, suc, min, _+_, _*_, _/_, _%_, _^_, _<_, _≤_}
 use mathlib.Core.Path.{_≡_, refl, sym, ap, _∙_, subst}
+use mathlib.Core.Logic.{_↔_}
 use mathlib.Core.Bool.{Bool, true, false, not, _&&_, _||_, Bool·not-not}
 use mathlib.Core.List.{List, [], _∷_, _++_, map, map-append}
 use mathlib.Core.Option.{Option, none, some}
@@ -17,12 +18,13 @@ use Rattle.rules.specs.Lists.{digit, member}
 use Rattle.rules.specs.Records.{Class, secret, mask, public, classByte, number, most-sets}
 use Rattle.rules.specs.Values.{same}
 use Rattle.rules.specs.Families.{Family, holds, suspect, reported}
-use Rattle.rules.proofs.Tests.{pass, and-left, and-right}
+use Rattle.rules.proofs.Tests.{pass, and-left, and-right, same-test}
 use Rattle.rules.proofs.Lists.{digit-small}
 use Rattle.rules.proofs.ReportOrder.{NotLater}
 use Rattle.rules.proofs.Halves.{reported-none, reported-clear, reported-exactly}
 use Rattle.report_order.specs.Order.{setAt}
-use Rattle.report_order.proofs.Order.{place-of, set-not-later}
+use Rattle.report_order.proofs.Order.{place-of, set-low, set-not-later}
+use Rattle.suspect_maps.specs.Maps.{suspectBy, Common}
 use Rattle.suspects.specs.Suspects.{variablesOf}
 
 -- ---- the mask of a class
@@ -55,9 +57,6 @@ holds-mask class (c ∷ variables) s =
     (one-bit (same class c) (s % 2) (bitAnd (s / 2) (number (map (same class) variables))) (omega arith))
 
 -- a set is suspect if it meets the mask of the secrets, and not that of the masks
-abbrev pub suspectBy : (secrets masks s : ℕ) → Bool
-suspectBy secrets masks s = not (eqb (bitAnd s secrets) 0) && eqb (bitAnd s masks) 0
-
 pub suspect-masks : (variables : List Class) (s : ℕ)
     → suspect variables s ≡ suspectBy (variablesOf secret variables) (variablesOf mask variables) s
 unfolding suspect
@@ -147,3 +146,10 @@ module _ (variables : List Class) where
             let (j, h, e) = place-of B (low B m) in
             let not-passed : j < k → ⊥ = λ b. refuted (suspect variables B) (member B F) (rw e at (passed j b)) s m in
             subst (NotLater (setAt k)) e (set-not-later k j (omega arith) h)
+
+-- where a family has no set in common with the map of the suspect sets, none of its sets is suspect, wherever it is in the order of report
+pub none-suspect : (variables : List Class) (secrets masks : ℕ) (map F : Family) (met : Bool) → secrets ≡ variablesOf secret variables
+    → masks ≡ variablesOf mask variables → ((A : ℕ) → A < most-sets → member A map ≡ suspectBy secrets masks A) → T met ↔ Common map F → met ≡ false
+    → (k : ℕ) → k < most-sets → (suspect variables (setAt k) && member (setAt k) F) ≡ false
+none-suspect variables secrets masks map F met s m mapped meets e k l =
+    same-test _ false (λ t. rw e at (meets .1 (setAt k, rw (mapped (setAt k) (set-low refl l), s, m, ← (suspect-masks variables (setAt k))) t))) absurd

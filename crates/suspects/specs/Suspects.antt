@@ -1,14 +1,14 @@
 -- What a scan of the work bytes finds. Cited by the contracts of this crate. Assumes nothing.
 use Prim.Native.Nat.{ℕ, _+_, _*_, _≤_, _<_}
-use mathlib.Core.Bool.{_&&_, cond}
+use mathlib.Core.Bool.{cond}
 use mathlib.Core.List.{List, map}
 use mathlib.Core.Option.{Option, none, some}
-use lib.Dec.{T, ltb}
+use lib.Dec.{ltb}
 use lib.ListN.{length, drop}
-use Rattle.rules.specs.Lists.{member, tabulate}
+use Rattle.rules.specs.Lists.{tabulate}
 use Rattle.rules.specs.Records.{Class, Netlist, number, most-sets}
 use Rattle.rules.specs.Values.{same}
-use Rattle.rules.specs.Families.{Family, Finding, marks, lowest}
+use Rattle.rules.specs.Families.{Finding, marks, lowest}
 use Rattle.rules.specs.declared.Half.{Half}
 use Rattle.rules.specs.declared.Half.the-variants.{Clear, Suspect}
 use Rattle.families.specs.Parts.{familyAt}
@@ -16,10 +16,6 @@ use Rattle.families.specs.Parts.{familyAt}
 -- the variables of a class, as a set
 unfoldable pub variablesOf : Class → List Class → ℕ
 variablesOf class variables = number (map (same class) variables)
-
--- a set that is in two families
-abbrev pub Common : Family → Family → Type 0
-Common F G = (A : ℕ) × T (member A F && member A G)
 
 -- what a number returned says: that set is reported, or none where it is no set's
 unfoldable pub reportOf : ℕ → Option ℕ

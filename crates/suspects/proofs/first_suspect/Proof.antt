@@ -19,8 +19,7 @@ use Rattle.families.proofs.Parts.{below-at}
 use Rattle.report_order.specs.Order.{setAt}
 use Rattle.report_order.proofs.Order.{set-low}
 use Rattle.suspects.specs.Suspects.{variablesOf, reportOf}
-use Rattle.suspects.proofs.Suspects.{reported-nothing, reported-first}
-use Rattle.suspects.proofs.Maps.{none-suspect}
+use Rattle.suspects.proofs.Suspects.{reported-nothing, reported-first, none-suspect}
 use Rattle.suspects.proofs.first_suspect.Statement.{statement}
 use Rattle.suspects.proofs.first_suspect.Tie as tie
 
@@ -45,7 +44,7 @@ returns c =
     let asked = c .before in
     sym
     (reported-nothing variables _ (below-at _ _)
-    (none-suspect _ _ _ variables (asked .meets .result) (asked .before .suspect-map .ensures variables s m) (asked .meets .ensures) (not-true _ (c .if1 .taken))))
+    (none-suspect variables _ _ _ _ (asked .meets .result) s m (asked .before .suspect-map .ensures) (asked .meets .ensures) (not-true _ (c .if1 .taken))))
 
 sets-in-order-requires : tie.Need-sets-in-order-requires Inv-loop μ-loop
 sets-in-order-requires c κs = search needs

@@ -21,7 +21,7 @@ use Rattle.netlists.proofs.Netlists.{flat-entry-at}
 use Rattle.report_order.specs.Order.{setAt}
 use Rattle.report_order.proofs.Order.{set-low}
 use Rattle.suspects.specs.Suspects.{variablesOf, reportsIn, foundFrom}
-use Rattle.suspects.proofs.Maps.{none-suspect}
+use Rattle.suspects.proofs.Suspects.{none-suspect}
 use Rattle.suspects.proofs.Search.{reports, suspectIn, Searched, search-start, search-more, search-none, search-some, Passed, found-suspect, found-clear}
 use Rattle.suspects.proofs.scan.Statement.{statement}
 use Rattle.suspects.proofs.scan.Tie as tie
@@ -104,7 +104,7 @@ loop-holds c =
     let (secrets, masks) = classes begun n e in
     let met = c .before .meets .result in
     search-start n (args .layer) (now (args .work)) i met
-    (none-suspect _ _ _ (n .variables) met (begun .before .before .suspect-map .ensures (n .variables) secrets masks) (c .before .meets .ensures))
+    (none-suspect (n .variables) _ _ _ _ met secrets masks (begun .before .before .suspect-map .ensures) (c .before .meets .ensures))
     (c .first-place .result) (c .first-place .ensures (getD (n .nodes) i (input 0)) kind)
 
 -- what is read at a place is the set there

@@ -1,8 +1,7 @@
 -- Maps of sets, as the bits of 128 bytes. Of a byte's eight sets, those that hold none of some variables, by the variables from 3 on and by those below;
--- what a map and a part have in common, byte by byte; and that no set of a part is suspect where it has none in common with the map of the suspect
--- sets. What is said of all small numbers is a test that antt computes at each. Assumes nothing.
+-- and what a map and a part have in common, byte by byte. What is said of all small numbers is a test that antt computes at each. Assumes nothing.
 use Prim.Native.Nat.{ℕ, zero, suc, _+_, _*_, _-_, _/_, _%_, _^_, _<_, _≤_}
-use mathlib.Core.Path.{_≡_, refl, sym, _∙_}
+use mathlib.Core.Path.{_≡_, sym, _∙_}
 use mathlib.Core.Logic.{_⊎_, inl, inr, _↔_}
 use mathlib.Core.Bool.{Bool, false, not, _&&_, Bool·beq}
 use mathlib.Core.List.{List}
@@ -13,18 +12,15 @@ use lib.Bits.{bitAnd, bitOr, and-block, and-mod, and-shr, and-le-l, and-le-r, or
 use lib.Dec.{T, eqb, eqb·suc-zero}
 use lib.ListN.{getD}
 use Rattle.rules.specs.Lists.{member}
-use Rattle.rules.specs.Records.{Class, odd, most-sets}
-use Rattle.rules.specs.Families.{suspect}
+use Rattle.rules.specs.Records.{odd}
 use Rattle.rules.specs.Checks.{undeclared}
-use Rattle.rules.proofs.Tests.{and-left, same-bit, same-test, lt-or-le}
+use Rattle.rules.proofs.Tests.{and-left, same-bit, lt-or-le}
 use Rattle.rules.proofs.Sets.{declared-only, undeclared-bit}
 use Rattle.families.specs.Parts.{familyAt}
 use Rattle.families.proofs.Parts.{below-at}
 use Rattle.families.proofs.Filling.{bit-at}
 use Rattle.families.proofs.Bits.{passes, passed}
-use Rattle.report_order.specs.Order.{setAt}
-use Rattle.report_order.proofs.Order.{set-low}
-use Rattle.suspects.specs.Suspects.{Common}
+use Rattle.suspect_maps.specs.Maps.{Common}
 
 -- ---- two tests that agree at each two numbers below bounds
 
@@ -133,10 +129,3 @@ module _ (map bytes : List ℕ) (part : ℕ) where
       tested : (n : ℕ) → T (not (eqb n 0)) ↔ 0 < n
       tested zero = (λ t. absurd t, λ l. absurd (omega arith))
       tested (suc n) = (λ t. omega arith, λ l. rw (eqb·suc-zero n) tt)
-
-  -- where the map is that of the suspect sets and they have none in common, no set of the part is suspect, wherever it is in the order of report
-  pub none-suspect : (variables : List Class) (met : Bool) → ((A : ℕ) → A < most-sets → member A (familyAt map 0) ≡ suspect variables A)
-      → T met ↔ Common (familyAt map 0) (familyAt bytes part) → met ≡ false
-      → (k : ℕ) → k < most-sets → (suspect variables (setAt k) && member (setAt k) (familyAt bytes part)) ≡ false
-  none-suspect variables met mapped meets e k l =
-      same-test _ false (λ t. rw e at (meets .1 (setAt k, rw (mapped (setAt k) (set-low refl l)) t))) absurd

@@ -1,4 +1,4 @@
--- `suspects::suspect_map` meets its contract. The loop's invariant: of the bytes passed, each bit says whether its set meets the mask of the secrets, and not
+-- `suspect_maps::suspect_map` meets its contract. The loop's invariant: of the bytes passed, each bit says whether its set meets the mask of the secrets, and not
 -- that of the masks; each other one is its own number. The measure is what is left of the 128 bytes. Assumes nothing.
 use Prim.Native.Nat.{ℕ, _+_, _*_, _-_, _/_, _%_, _^_, _<_, _≤_}
 use mathlib.Core.Path.{_≡_, sym, _∙_}
@@ -11,10 +11,10 @@ use lib.ListN.{length, getD, set, length-set}
 use lib.Seq.{getD-set-same, getD-set-other}
 use Rattle.rules.specs.Records.{odd}
 use Rattle.rules.proofs.Packing.{tabulate-length, tabulate-at}
-use Rattle.suspects.proofs.Suspects.{suspectBy, suspect-masks}
-use Rattle.suspects.proofs.Maps.{bit-not, bit-and, bit-in}
-use Rattle.suspects.proofs.suspect_map.Statement.{statement}
-use Rattle.suspects.proofs.suspect_map.Tie as tie
+use Rattle.suspect_maps.specs.Maps.{suspectBy}
+use Rattle.suspect_maps.proofs.Maps.{bit-not, bit-and, bit-in}
+use Rattle.suspect_maps.proofs.suspect_map.Statement.{statement}
+use Rattle.suspect_maps.proofs.suspect_map.Tie as tie
 
 abbrev Inv-loop : tie.InvT-loop
 Inv-loop secrets masks map₀ j₀ map j =
@@ -76,11 +76,10 @@ loop-again c =
 
 returns : tie.Need-returns Inv-loop μ-loop
 returns c =
-    λ variables s m A l.
+    λ A l.
     let loop = c .before .loop in
-    rw (suspect-masks variables A, ← s, ← m)
-    (rw (div-add-mod A 8) at
-    (sym (bit-in (loop .map) (A / 8) (A % 8) (omega arith) (omega arith)) ∙ loop .inv .1 (A / 8) (A % 8) (omega arith) (omega arith)))
+    rw (div-add-mod A 8) at
+    (sym (bit-in (loop .map) (A / 8) (A % 8) (omega arith) (omega arith)) ∙ loop .inv .1 (A / 8) (A % 8) (omega arith) (omega arith))
 
 pub suspect-map-spec : {M : Type 1} → statement M
 suspect-map-spec =

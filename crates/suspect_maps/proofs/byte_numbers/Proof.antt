@@ -1,4 +1,4 @@
--- `suspects::byte_numbers` meets its contract. The loop's invariant: each entry passed is its own number. The measure is what is left of the 128. Assumes
+-- `suspect_maps::byte_numbers` meets its contract. The loop's invariant: each entry passed is its own number. The measure is what is left of the 128. Assumes
 -- nothing.
 use Prim.Native.Nat.{ℕ, _-_, _<_}
 use mathlib.Core.Path.{_≡_, sym, _∙_}
@@ -8,8 +8,8 @@ use borrow.Author.Needs.{needs}
 use lib.ListN.{length, getD, set, length-set, length-replicate}
 use lib.Seq.{getD-set-same, getD-set-other, ext-getD}
 use Rattle.rules.proofs.Packing.{tabulate-length, tabulate-at}
-use Rattle.suspects.proofs.byte_numbers.Statement.{statement}
-use Rattle.suspects.proofs.byte_numbers.Tie as tie
+use Rattle.suspect_maps.proofs.byte_numbers.Statement.{statement}
+use Rattle.suspect_maps.proofs.byte_numbers.Tie as tie
 
 abbrev Inv-loop : tie.InvT-loop
 Inv-loop numbers₀ j₀ numbers j = (length numbers ≡ 128) × ((i : ℕ) → i < j → getD numbers i 0 ≡ i)

@@ -1,11 +1,11 @@
--- `suspects::meets` meets its contract. The loop's invariant: `common` is not 0 just if one of the sets in the bytes passed is both in the map and in the part.
+-- `suspect_maps::meets` meets its contract. The loop's invariant: `common` is not 0 just if one of the sets in the bytes passed is both in the map and in the part.
 -- The measure is what is left of the 128 bytes. Assumes nothing.
 use Prim.Native.Nat.{_+_, _*_, _-_}
 use native.Mathlib.Omega.{arith}
 use borrow.Author.Needs.{needs}
-use Rattle.suspects.proofs.Maps.{Meeting, meeting-more, meeting-end}
-use Rattle.suspects.proofs.meets.Statement.{statement}
-use Rattle.suspects.proofs.meets.Tie as tie
+use Rattle.suspect_maps.proofs.Maps.{Meeting, meeting-more, meeting-end}
+use Rattle.suspect_maps.proofs.meets.Statement.{statement}
+use Rattle.suspect_maps.proofs.meets.Tie as tie
 
 abbrev Inv-loop : tie.InvT-loop
 Inv-loop work part map from common₀ j₀ common j = Meeting map work part (8 * j) common

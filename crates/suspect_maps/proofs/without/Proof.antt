@@ -1,4 +1,4 @@
--- `suspects::without` meets its contract: a set with a variable from 3 on in common is left out (`not-apart`), and of the others the number `APART` says it,
+-- `suspect_maps::without` meets its contract: a set with a variable from 3 on in common is left out (`not-apart`), and of the others the number `APART` says it,
 -- by a test that antt computes at each two sets of variables 0 to 2 (`apart-below`). Assumes nothing.
 use Prim.Native.Nat.{_^_}
 use mathlib.Core.Path.{sym, ap, _∙_}
@@ -6,9 +6,9 @@ use native.Mathlib.Nat.{zero-div}
 use native.Mathlib.Omega.{arith}
 use borrow.Author.Needs.{needs}
 use Rattle.rules.specs.Records.{odd}
-use Rattle.suspects.proofs.Maps.{not-apart, apart-below}
-use Rattle.suspects.proofs.without.Statement.{statement}
-use Rattle.suspects.proofs.without.Tie as tie
+use Rattle.suspect_maps.proofs.Maps.{not-apart, apart-below}
+use Rattle.suspect_maps.proofs.without.Statement.{statement}
+use Rattle.suspect_maps.proofs.without.Tie as tie
 
 cast-high : tie.Need-cast-high
 cast-high c = search needs

@@ -1,0 +1,2 @@
+-- What is proved of maps of sets.
+pub mod Maps
