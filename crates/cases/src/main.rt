@@ -758,7 +758,7 @@ fn print_list(name: &[u8], work: [u8; MOST_WORK], part: usize)
     requires { ⌜ part < 400 ⌝ }
 {
     let mut sets = [NO_SET; MOST_LIST];
-    let listed = families::list_sets(&work, part, &mut sets);
+    let listed = family_products::list_sets(&work, part, &mut sets);
     print_byte(b'\n');
     print_counts(name, &[families::size(&work, part), listed]);
     print_listed(sets);
@@ -770,8 +770,8 @@ fn product(before: [u8; MOST_WORK], first: usize, second: usize, into: usize)
 {
     let mut work = before;
     let mut wide = before;
-    let tried = families::product(&mut work, into, first, second);
-    families::spread(&mut wide, into, first, second);
+    let tried = family_products::product(&mut work, into, first, second);
+    family_products::spread(&mut wide, into, first, second);
     print_counts(b": pairs#", &[tried]);
     print_list(b"first#, listed#:", work, first);
     print_list(b"second#, listed#:", work, second);

@@ -26,9 +26,9 @@ fn gate_family(work: &mut [u8], into: usize, kind: u8, first: usize, second: usi
         (spread (familyAt (now (work .entry)) first) (familyAt (now (work .entry)) second))) ⌝ }
 {
     if kind == 4 {
-        families::multiply(work, into, first, second);
+        family_products::multiply(work, into, first, second);
     } else {
-        families::spread(work, into, first, second);
+        family_products::spread(work, into, first, second);
     }
 }
 

@@ -68,7 +68,7 @@ fn pair_set(work: &[u8], i: usize, j: usize, terms: Terms) -> usize
     let mut scratch = [0u8; 3 * PART];
     take_family(&mut scratch, 0, work, 2 * i + GLITCH);
     take_family(&mut scratch, 1, work, 2 * j + GLITCH);
-    families::multiply(&mut scratch, 2, 0, 1);
+    family_products::multiply(&mut scratch, 2, 0, 1);
     suspects::first_suspect(&scratch, 2, terms.secrets, terms.masks)
 }
 

@@ -68,7 +68,7 @@ fn make_product(work: &Work, node: Node, list: usize, made: &mut Work) -> usize 
         base + (node.first as usize),
         base + (node.second as usize),
     );
-    let tried = families::product(&mut parts, 2, 0, 1);
+    let tried = family_products::product(&mut parts, 2, 0, 1);
     put_product(made, list, parts, (base > 0) | (node.kind > 4));
     tried
 }

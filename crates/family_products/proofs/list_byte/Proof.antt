@@ -1,4 +1,4 @@
--- `families::list_byte` meets its contract. The loop's invariant: those of the sets up to the bits passed are listed. The measure is what is left of the
+-- `family_products::list_byte` meets its contract. The loop's invariant: those of the sets up to the bits passed are listed. The measure is what is left of the
 -- 8 bits. Assumes nothing.
 use Prim.Native.Nat.{ℕ, _+_, _-_, _≤_}
 use mathlib.Core.Path.{_≡_, refl, sym, _∙_}
@@ -8,10 +8,10 @@ use native.Mathlib.Nat.{add-zero}
 use native.Mathlib.Omega.{arith}
 use borrow.Author.Tests.{eq-eqb, ne-eqb}
 use lib.ListN.{length, length-set}
 use Rattle.families.specs.Present.{BitsOf, Listed}
 use Rattle.families.proofs.Present.{listed-one, listed-none}
-use Rattle.families.proofs.list_byte.Statement.{statement}
-use Rattle.families.proofs.list_byte.Tie as tie
+use Rattle.family_products.proofs.list_byte.Statement.{statement}
+use Rattle.family_products.proofs.list_byte.Tie as tie
 
 abbrev Inv-loop : tie.InvT-loop
 Inv-loop byte low sets₀ listed at₀ k₀ sets at k =

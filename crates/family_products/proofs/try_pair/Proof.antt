@@ -1,12 +1,12 @@
--- `families::try_pair` meets its contract: the symmetric difference of two sets is a set (`xor-lt`), and is put into the part. Assumes nothing.
+-- `family_products::try_pair` meets its contract: the symmetric difference of two sets is a set (`xor-lt`), and is put into the part. Assumes nothing.
 use Prim.Native.Nat.{_<_}
 use mathlib.Core.Path.{refl}
 use native.Mathlib.Omega.{arith}
 use borrow.Author.Needs.{needs}
 use lib.Bits.{bitXor, xor-lt}
 use Rattle.rules.specs.Records.{most-sets}
-use Rattle.families.proofs.try_pair.Statement.{statement}
-use Rattle.families.proofs.try_pair.Tie as tie
+use Rattle.family_products.proofs.try_pair.Statement.{statement}
+use Rattle.family_products.proofs.try_pair.Tie as tie
 
 low : (c : tie.Start) → bitXor (c .args .set) (c .args .other) < most-sets
 low c = xor-lt 10 (c .args .set) (c .args .other) (c .pre .1) (c .pre .2)

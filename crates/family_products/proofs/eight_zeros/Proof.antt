@@ -1,4 +1,4 @@
--- `families::eight_zeros` meets its contract. The loop's invariant: the bytes passed, joined, are 0 just if each of them is. The measure is what is left of
+-- `family_products::eight_zeros` meets its contract. The loop's invariant: the bytes passed, joined, are 0 just if each of them is. The measure is what is left of
 -- the eight. Assumes nothing.
 use Prim.Native.Nat.{ℕ, _+_, _-_, _<_, _≤_}
 use mathlib.Core.Path.{_≡_, refl}
@@ -11,8 +11,8 @@ use lib.Bits.{bitOr, or-add-and, and-le-l, and-le-r}
 use lib.Dec.{eqb→eq}
 use lib.ListN.{getD}
 use Rattle.rules.proofs.Tests.{pass}
-use Rattle.families.proofs.eight_zeros.Statement.{statement}
-use Rattle.families.proofs.eight_zeros.Tie as tie
+use Rattle.family_products.proofs.eight_zeros.Statement.{statement}
+use Rattle.family_products.proofs.eight_zeros.Tie as tie
 
 -- the first k bytes from `at` on are 0
 abbrev Zeros : List ℕ → (at k : ℕ) → Type 0

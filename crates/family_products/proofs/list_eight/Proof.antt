@@ -1,4 +1,4 @@
--- `families::list_eight` meets its contract. The loop's invariant: the sets of the bytes passed that the part holds are listed. A byte that is 0 has none
+-- `family_products::list_eight` meets its contract. The loop's invariant: the sets of the bytes passed that the part holds are listed. A byte that is 0 has none
 -- (`listed-zero`). The measure is what is left of the eight bytes. Assumes nothing.
 use Prim.Native.Nat.{ℕ, _+_, _*_, _-_, _≤_}
 use mathlib.Core.Path.{_≡_, refl, _∙_}
@@ -7,10 +7,10 @@ use mathlib.Core.List.{List}
 use native.Mathlib.Nat.{add-zero}
 use native.Mathlib.Omega.{arith}
 use lib.ListN.{length}
 use Rattle.families.specs.Present.{Listed}
 use Rattle.families.proofs.Present.{bits-in, listed-zero}
-use Rattle.families.proofs.list_eight.Statement.{statement}
-use Rattle.families.proofs.list_eight.Tie as tie
+use Rattle.family_products.proofs.list_eight.Statement.{statement}
+use Rattle.family_products.proofs.list_eight.Tie as tie
 
 abbrev Inv-loop : tie.InvT-loop
 Inv-loop work part eight sets₀ before from low listed₀ passed₀ sets listed passed =

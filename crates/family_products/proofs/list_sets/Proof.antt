@@ -1,4 +1,4 @@
--- `families::list_sets` meets its contract. The loop's invariant: the sets of the bytes passed that the part holds are listed. Eight bytes that are 0 have none
+-- `family_products::list_sets` meets its contract. The loop's invariant: the sets of the bytes passed that the part holds are listed. Eight bytes that are 0 have none
 -- (`listed-zeros`). The measure is what is left of the sixteen times eight. Assumes nothing.
 use Prim.Native.Nat.{_+_, _*_, _-_, _≤_}
 use mathlib.Core.Path.{_≡_, refl, _∙_}
@@ -8,11 +8,11 @@ use borrow.Author.Tests.{not-false}
 use lib.ListN.{length}
 use Rattle.rules.specs.Records.{most-sets}
 use Rattle.rules.proofs.Tests.{pass}
 use Rattle.families.specs.Parts.{setsBelow, familyAt}
 use Rattle.families.specs.Present.{reversed, listAt, Listed}
 use Rattle.families.proofs.Present.{listed-zeros}
-use Rattle.families.proofs.list_sets.Statement.{statement}
-use Rattle.families.proofs.list_sets.Tie as tie
+use Rattle.family_products.proofs.list_sets.Statement.{statement}
+use Rattle.family_products.proofs.list_sets.Tie as tie
 
 abbrev Inv-loop : tie.InvT-loop
 Inv-loop work part sets₀ from listed₀ eight₀ sets listed eight =

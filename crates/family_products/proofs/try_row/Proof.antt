@@ -1,4 +1,4 @@
--- `families::try_row` meets its contract. The loop's invariant: the differences with the sets passed are in the part, all else is as it was, and as many
+-- `family_products::try_row` meets its contract. The loop's invariant: the differences with the sets passed are in the part, all else is as it was, and as many
 -- pairs are counted. The measure is what is left of the row. Assumes nothing.
 use Prim.Native.Nat.{ℕ, _+_, _-_, _<_, _≤_}
 use mathlib.Core.Path.{_≡_, refl, sym, ap, _∙_}
@@ -12,11 +12,11 @@ use lib.ListN.{length, getD, take}
 use lib.Seq.{take-suc}
 use Rattle.rules.specs.Lists.{member, insert, union}
 use Rattle.rules.proofs.Lists.{member-insert, member-union}
 use Rattle.families.specs.Parts.{HasPart, familyAt, withFamily}
 use Rattle.families.proofs.Parts.{with-own, with-same, with-one}
 use Rattle.families.proofs.Present.{member-append}
-use Rattle.families.proofs.try_row.Statement.{statement}
-use Rattle.families.proofs.try_row.Tie as tie
+use Rattle.family_products.proofs.try_row.Statement.{statement}
+use Rattle.family_products.proofs.try_row.Tie as tie
 
 -- the slice with the differences of a set with the first j others put into one part
 abbrev partial : List ℕ → (into set : ℕ) → List ℕ → (j : ℕ) → List ℕ

@@ -1,4 +1,4 @@
--- `families::product` meets its contract. The loop's invariant: the part has the product of the sets passed with the second family, all else is as it was
+-- `family_products::product` meets its contract. The loop's invariant: the part has the product of the sets passed with the second family, all else is as it was
 -- after emptying, and the pairs counted are those of the rows passed. The lists of both families are theirs (`front-listed`). The measure is what is left
 -- of the rows. Assumes nothing.
 use Prim.Native.Nat.{ℕ, _+_, _*_, _-_, _<_, _≤_}
@@ -16,12 +16,12 @@ use Rattle.rules.specs.Records.{most-sets}
 use Rattle.rules.specs.Lists.{union}
 use Rattle.rules.specs.Families.{Family, product}
 use Rattle.rules.proofs.Lists.{member-union, member-shift}
 use Rattle.families.specs.Parts.{HasPart, familyAt, withFamily}
 use Rattle.families.specs.Present.{reversed}
 use Rattle.families.proofs.Parts.{length-at, with-same, with-twice, with-more}
 use Rattle.families.proofs.Present.{reversed-last, reversed-twice, member-reversed, front-listed, front-sets, zeros-sets}
-use Rattle.families.proofs.product.Statement.{statement}
-use Rattle.families.proofs.product.Tie as tie
+use Rattle.family_products.proofs.product.Statement.{statement}
+use Rattle.family_products.proofs.product.Tie as tie
 
 -- the slice with the product of the first i sets listed and a family in one part
 abbrev partial : List ℕ → (into : ℕ) → (sets : List ℕ) → Family → (i : ℕ) → List ℕ

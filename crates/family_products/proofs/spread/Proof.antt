@@ -1,14 +1,14 @@
--- `families::spread` meets its contract: the part has the product, and then the second family, the first and the empty set are put into it
+-- `family_products::spread` meets its contract: the part has the product, and then the second family, the first and the empty set are put into it
 -- (`with-other`, `with-one`). Assumes nothing.
 use mathlib.Core.Path.{_∙_}
 use native.Mathlib.Omega.{arith}
 use borrow.Author.Needs.{needs}
 use denote.Ref.{now}
 use Rattle.rules.specs.Families.{spread}
 use Rattle.families.specs.Parts.{HasPart}
 use Rattle.families.proofs.Parts.{with-one, with-other}
-use Rattle.families.proofs.spread.Statement.{statement}
-use Rattle.families.proofs.spread.Tie as tie
+use Rattle.family_products.proofs.spread.Statement.{statement}
+use Rattle.family_products.proofs.spread.Tie as tie
 
 multiply-requires : tie.Need-multiply-requires
 multiply-requires c κs = search needs
