@@ -1,2 +1,3 @@
--- What opening or an edit over records by value leaves.
+-- What opening or an edit over records by value leaves, and that it is an open block.
 pub mod Seen
+pub mod StillOpen

@@ -1,4 +1,5 @@
-// A block opened and edited over node records by value, of which a part is lent. For test programs.
+// A block opened and edited over node records by value, of which a part is lent. For programs that hold an open block by value: `telgouin`, and
+// the test programs.
 ghost use mathlib.Core.Path.{_≡_};
 ghost use mathlib.Core.List.{_++_};
 ghost use Prim.Native.Nat.{min};
@@ -6,9 +7,11 @@ ghost use lib.ListN.{length, take, drop};
 ghost use Rattle.rules.specs.Records as Records;
 ghost use Rattle.rules.specs.Records.{most-nodes};
 ghost use Rattle.rules.specs.Slices.{nodesAfter, workAfter, reply};
+ghost use Rattle.rules.specs.Checks.{admitted};
 ghost use Rattle.rules.specs.Paper.{replyOf};
-ghost use Rattle.open_blocks.specs.Edits.{replyAfter};
-ghost use Rattle.open_blocks.specs.Meaning.{editOf, IsOpen};
+ghost use Rattle.netlists.specs.Netlists.{kept};
+ghost use Rattle.open_blocks.specs.Edits.{netlistAfter, replyAfter, recordsAfter, bytesAfter};
+ghost use Rattle.open_blocks.specs.Meaning.{editOf, stateOf, IsOpen};
 use edits::Edited;
 use open_blocks::Edit;
 use open_blocks::State;
@@ -29,6 +32,8 @@ pub fn open_over(
     work: &mut [u8],
 ) -> SeenEdit
     ensures reply { λ r. ⌜ replyOf (r .edited .reply) ≡ reply (now (bytes .entry)) (min entries most-nodes) (length (now (work .entry))) ⌝ }
+    ensures state { λ r. ⌜ r .edited .state ≡
+        stateOf (kept (admitted (now (bytes .entry)) (min entries most-nodes) (length (now (work .entry))))) ⌝ }
     ensures nodes { λ r. ⌜ r .nodes ≡
         nodesAfter (now (bytes .entry)) (take (min entries most-nodes) nodes) (length (now (work .entry)))
         ++ drop (min entries most-nodes) nodes ⌝ }
@@ -43,7 +48,8 @@ pub fn open_over(
     }
 }
 
-// Edits an open block over the same.
+// Edits an open block over the same. Where the lent entries and `work` hold its node records and families, the reply, the state, the lent
+// entries and `work` are then as `edits::edit` gives them, and the entries behind stay as they were.
 pub fn edit_over(
     state: State,
     edit: Edit,
@@ -52,9 +58,18 @@ pub fn edit_over(
     nodes: [NodeRecord; MOST_NODES],
     work: &mut [u8],
 ) -> SeenEdit
-    ensures { λ r. ⌜ ((n : Records.Netlist) → IsOpen n state (take (min entries most-nodes) nodes) (now (work .entry)) →
+    ensures reply { λ r. ⌜ ((n : Records.Netlist) → IsOpen n state (take (min entries most-nodes) nodes) (now (work .entry)) →
         replyOf (r .edited .reply) ≡
         replyAfter n (editOf edit (now (bytes .entry))) (min entries most-nodes) (length (now (work .entry)))) ⌝ }
+    ensures state { λ r. ⌜ ((n : Records.Netlist) → IsOpen n state (take (min entries most-nodes) nodes) (now (work .entry)) →
+        r .edited .state ≡
+        stateOf (netlistAfter n (editOf edit (now (bytes .entry))) (min entries most-nodes) (length (now (work .entry))))) ⌝ }
+    ensures nodes { λ r. ⌜ ((n : Records.Netlist) → IsOpen n state (take (min entries most-nodes) nodes) (now (work .entry)) →
+        r .nodes ≡
+        recordsAfter n (editOf edit (now (bytes .entry))) (take (min entries most-nodes) nodes) (length (now (work .entry)))
+        ++ drop (min entries most-nodes) nodes) ⌝ }
+    ensures work { λ _. ⌜ ((n : Records.Netlist) → IsOpen n state (take (min entries most-nodes) nodes) (now (work .entry)) →
+        now (work .exit) ≡ bytesAfter n (editOf edit (now (bytes .entry))) (min entries most-nodes) (now (work .entry))) ⌝ }
 {
     let lent = trial::at_most(entries);
     let mut kept = nodes;

@@ -14,7 +14,7 @@ use rules::Refusal;
 // ---- words and numbers
 
 // One byte.
-fn put_byte(text: &mut [u8], at: usize, byte: u8) -> usize
+pub fn put_byte(text: &mut [u8], at: usize, byte: u8) -> usize
     requires { ⌜ Room (now text) at 1 ⌝ }
     ensures { λ r. ⌜ Appended (now (text .entry)) (now (text .exit)) at r (byte ∷ []) ⌝ }
 {
@@ -23,7 +23,7 @@ fn put_byte(text: &mut [u8], at: usize, byte: u8) -> usize
 }
 
 // A word, byte by byte.
-fn put_word(text: &mut [u8], at: usize, letters: &[u8]) -> usize
+pub fn put_word(text: &mut [u8], at: usize, letters: &[u8]) -> usize
     requires { ⌜ Room (now text) at (length (now letters)) ⌝ }
     ensures { λ r. ⌜ Appended (now (text .entry)) (now (text .exit)) at r (now (letters .entry)) ⌝ }
 {
@@ -36,7 +36,7 @@ fn put_word(text: &mut [u8], at: usize, letters: &[u8]) -> usize
 }
 
 // A number in base ten: the digit of its last place behind those of the rest.
-fn put_decimal(text: &mut [u8], at: usize, number: usize) -> usize
+pub fn put_decimal(text: &mut [u8], at: usize, number: usize) -> usize
     requires { ⌜ Room (now text) at (length (decimal number)) ⌝ }
     ensures { λ r. ⌜ Appended (now (text .entry)) (now (text .exit)) at r (decimal number) ⌝ }
 {
@@ -48,7 +48,7 @@ fn put_decimal(text: &mut [u8], at: usize, number: usize) -> usize
 }
 
 // A blank and a number.
-fn put_field(text: &mut [u8], at: usize, number: usize) -> usize
+pub fn put_field(text: &mut [u8], at: usize, number: usize) -> usize
     requires { ⌜ Room (now text) at (1 + length (decimal number)) ⌝ }
     ensures { λ r. ⌜ Appended (now (text .entry)) (now (text .exit)) at r (32 ∷ decimal number) ⌝ }
 {

@@ -1,5 +1,5 @@
 -- `edit_trial::edit_over` meets its contract: a walk of its MIR, by hand, as that of `open_over` is. All that is known of both callees is that each meets its contract. Assumes nothing.
-use mathlib.Core.Path.{_≡_, refl, subst}
+use mathlib.Core.Path.{_≡_, refl, ap, subst}
 use mathlib.Core.Logic.{_↔_}
 use Prim.Native.Nat.{ℕ, _<_, _^_, min}
 use mathlib.Core.List.{List, [], _∷_, _++_}
@@ -139,15 +139,27 @@ module _ {M : Type 1} (𝓤 : URA M) (H : Heap 𝓤) (A : Atoms 𝓤) (W : Given
   abbrev Opened : Netlist → Type 0
   Opened n = IsOpen n state (parts .front) zs
 
-  -- what an edit over m records says of the reply
+  -- what an edit over m records says of the reply, of the state and of the work slice, and what is said of all records
   abbrev Replied : ℕ → Edited → Type 0
   Replied m r = (n : Netlist) → Opened n → replyOf (r .reply) ≡ replyAfter n asked m (length zs)
+
+  abbrev Stated : ℕ → Edited → Type 0
+  Stated m r = (n : Netlist) → Opened n → r .state ≡ stateOf (netlistAfter n asked m (length zs))
+
+  abbrev Worked : ℕ → List ℕ → Type 0
+  Worked m ws = (n : Netlist) → Opened n → ws ≡ bytesAfter n asked m zs
+
+  abbrev Noted : List NodeRecord → Type 0
+  Noted ns = (n : Netlist) → Opened n → ns ≡ recordsAfter n asked (parts .front) (length zs) ++ parts .others
+
+  -- and of the records that are lent
+  abbrev Recorded : List NodeRecord → Type 0
+  Recorded ns = (n : Netlist) → Opened n → ns ≡ recordsAfter n asked (parts .front) (length zs)
 
   -- what `edit` says beside that, where it leaves ns and ws
   abbrev Others : Edited → List NodeRecord → List ℕ → Item 𝓤
   Others r ns ws =
-      raw (fact 𝓤 ((n : Netlist) → Opened n → r .state ≡ stateOf (netlistAfter n asked few (length zs)))) ⊛ raw (fact 𝓤 ((n : Netlist) → Opened n → ns ≡ recordsAfter n asked (parts .front) (length zs)))
-      ⊛ raw (fact 𝓤 ((n : Netlist) → Opened n → ws ≡ bytesAfter n asked few zs)) ⊛ raw (fact 𝓤 ((n : Netlist) → Opened n → GlitchClear (replyOf (r .reply)) ↔ NothingSuspectAfter n asked few (length zs)))
+      raw (fact 𝓤 ((n : Netlist) → Opened n → GlitchClear (replyOf (r .reply)) ↔ NothingSuspectAfter n asked few (length zs)))
       ⊛ raw (fact 𝓤 ((n : Netlist) → Opened n → GlitchClear (replyOf (r .reply)) → OneProbe (writtenOut (netlistAfter n asked few (length zs)))))
       ⊛ raw (fact 𝓤 ((n : Netlist) → WellFormed n → state ≡ stateOf n → (number place : ℕ) → Fits n asked few (length zs) ≡ refused number place → replyOf (r .reply) ≡ refused number place))
       ⊛ raw (fact 𝓤 (Kept state r (parts .front) ns zs ws))
@@ -156,13 +168,13 @@ module _ {M : Type 1} (𝓤 : URA M) (H : Heap 𝓤) (A : Atoms 𝓤) (W : Given
   abbrev Left : List ℕ → List (Item 𝓤)
   Left ws = ‵ (flft κ₀ q₀) ∷ (‵ (flft κ₁ q₁) ⊛ ‵ ftrue) ∷ ‵ (finally u8 (work .name) ws) ∷ []
 
-  exits : (r : Edited) (ns : List NodeRecord) (t : Val) (ws : List ℕ) → Is S.the-row (seen r ns) (t ∷ []) → Replied (min entries 200) r → length ws ≡ length zs
-      → ent 𝓤 (⋆ 𝓤 H A (Left ws)) (Post t)
-  exits r ns t ws is replied l =
+  exits : (r : Edited) (ns : List NodeRecord) (t : Val) (ws : List ℕ) → Is S.the-row (seen r ns) (t ∷ []) → Replied (min entries 200) r → Stated (min entries 200) r → Noted ns
+      → Worked (min entries 200) ws → length ws ≡ length zs → ent 𝓤 (⋆ 𝓤 H A (Left ws)) (Post t)
+  exits r ns t ws is replied stated noted worked l =
       qed W (Left ws) ∵
       suffices ! _ (ends-at 𝓤 H A edit-over.ended stayed (edit-over.clauses 𝓤 H A memory run) W bound t (seen r ns) (tt, (tt, (tt, (tt, (tt, (ws, tt)))))) (tt, (tt, (tt, (tt, (tt, (l, tt))))))) $
       owned ! S.the-row (Is S.the-row) (LL.makes S.the-type S′.the-plain 𝓤 H A) (seen r ns) _ is $ nothing ! $ move ! (4 ∷ 0 ∷ []) $ fjoin ! $ dropped ! $ dropped ! $ dropped ! $ dropped ! $ dropped ! $ at-exit ! $ frame ! $
-      shown ! replied $ done !
+      shown ! worked $ shown ! noted $ shown ! stated $ shown ! replied $ done !
 
   -- the tokens of `edit`'s lifetimes
   abbrev Alive : Lft → Item 𝓤
@@ -213,7 +225,9 @@ module _ {M : Type 1} (𝓤 : URA M) (H : Heap 𝓤) (A : Atoms 𝓤) (W : Given
           move ! (4 ∷ 1 ∷ []) $ join ! $ move ! (1 ∷ 3 ∷ 0 ∷ []) $ use3 W (raw (Change 𝓤 H A memory run .pre (to-edit l₈ (α ∷ []) γ))) (goes-edit l₈ (α ∷ []) γ) $
           calls-ended 𝓤 H A W edits.ended (edits.clauses 𝓤 H A memory run) (to-edit l₈ (α ∷ []) γ) ! fm known-edit
           (and-then ! (load ! (from ! (stop !)) (look ! 29 refl)) (and-then ! (load ! (from ! (stop !)) (look ! 27 refl)) (and-then ! (load ! (from ! (stop !)) (look ! 25 refl)) (and-then ! (load ! (from ! (stop !)) (look ! 10 refl)) (and-then ! (load ! (from ! (stop !)) (look ! 6 refl)) (no-more !)))))) (λ t r ws.
-          use1 W (raw (fact 𝓤 (Replied few r)) ⊛ Others r (ws .1 .1 .1 .0) (ws .1 .1 .1 .1 .0)) (id⊢ 𝓤 _) $ split ! $ heard ! (Replied few r) (λ replied.
+          use1 W (raw (fact 𝓤 (Replied few r)) ⊛ raw (fact 𝓤 (Stated few r)) ⊛ raw (fact 𝓤 (Recorded (ws .1 .1 .1 .0))) ⊛ raw (fact 𝓤 (Worked few (ws .1 .1 .1 .1 .0)))
+          ⊛ Others r (ws .1 .1 .1 .0) (ws .1 .1 .1 .1 .0)) (id⊢ 𝓤 _) $ split ! $ heard ! (Replied few r) (λ replied. split ! $ heard ! (Stated few r) (λ stated.
+          split ! $ heard ! (Recorded (ws .1 .1 .1 .0)) (λ recorded. split ! $ heard ! (Worked few (ws .1 .1 .1 .1 .0)) (λ worked.
           drop ! $ fsplit ! $ drop ! $ fsplit ! $ drop ! $ fsplit ! $ drop ! $ fsplit ! $ fsplit ! $ move ! (1 ∷ []) $ feqL ! (λ same.
           move ! (1 ∷ []) $ fsplit ! $ fsplit ! $ move ! (1 ∷ []) $ feqL ! (λ l.
           -- [the work's last list; true; the front's; what r owns; the tokens; true; the lender's part; the rest; the locals without _8]
@@ -229,7 +243,9 @@ module _ {M : Type 1} (𝓤 : URA M) (H : Heap 𝓤) (A : Atoms 𝓤) (W : Given
           move ! (33 ∷ 34 ∷ []) $ free1 ! $ move ! (31 ∷ 32 ∷ []) $ free1 ! $ move ! (29 ∷ 30 ∷ []) $ free1 ! $ move ! (27 ∷ 28 ∷ []) $ free1 ! $ move ! (25 ∷ 26 ∷ []) $ free1 ! $ move ! (23 ∷ 24 ∷ []) $ free1 ! $ move ! (21 ∷ 22 ∷ []) $ free1 ! $
           move ! (19 ∷ 20 ∷ []) $ free1 ! $ move ! (0 ∷ 18 ∷ []) $ free1 ! $ move ! (15 ∷ 16 ∷ []) $ free1 ! $ move ! (13 ∷ 14 ∷ []) $ free1 ! $ move ! (11 ∷ 12 ∷ []) $ free1 ! $
           move ! (9 ∷ 10 ∷ []) $ free1 ! $ move ! (7 ∷ 8 ∷ []) $ free1 ! $ move ! (5 ∷ 6 ∷ []) $ free1 ! $ free0 ! $ keep ! (1 ∷ 0 ∷ 2 ∷ []) $
-          by ! (exits r (ws .1 .1 .1 .0 ++ parts .others) _ (ws .1 .1 .1 .1 .0) (is-seen r t (ws .1 .1 .1 .0 ++ parts .others) u is-t is-u) (subst (λ (m : ℕ). Replied m r) (parts .front-length) replied) l))))))))
+          by ! (exits r (ws .1 .1 .1 .0 ++ parts .others) _ (ws .1 .1 .1 .1 .0) (is-seen r t (ws .1 .1 .1 .0 ++ parts .others) u is-t is-u) (subst (λ (m : ℕ). Replied m r) (parts .front-length) replied)
+          (subst (λ (m : ℕ). Stated m r) (parts .front-length) stated) (λ n o. ap (λ (ns : List NodeRecord). ns ++ parts .others) (recorded n o))
+          (subst (λ (m : ℕ). Worked m (ws .1 .1 .1 .1 .0)) (parts .front-length) worked) l)))))))))))
 
     walk : ent 𝓤 (onEntry 𝓤 H A edit-over.signature (κ₀, (κ₁, tt)) (q₀, (q₁, tt)) x at) (WpFn 𝓤 H C Λ code.function (v₀ ∷ v₁ ∷ s₀ ∷ vint w64 entries ∷ v ∷ s₁ ∷ []) Post)
     walk =

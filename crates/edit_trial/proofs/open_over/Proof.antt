@@ -117,9 +117,12 @@ module _ {M : Type 1} (𝓤 : URA M) (H : Heap 𝓤) (A : Atoms 𝓤) (W : Given
   abbrev Own₁ : Fml
   Own₁ = MutSlice (named 1) κ₁ u8 .own work (s₁ ∷ [])
 
-  -- what a check over m records says of the reply and of the work slice, and what is said of all records
+  -- what a check over m records says of the reply, of the state and of the work slice, and what is said of all records
   abbrev Replied : ℕ → Edited → Type 0
   Replied m r = replyOf (r .reply) ≡ reply xs m (length zs)
+
+  abbrev Stated : ℕ → Edited → Type 0
+  Stated m r = r .state ≡ stateOf (kept (admitted xs m (length zs)))
 
   abbrev Worked : ℕ → List ℕ → Type 0
   Worked m ws = ws ≡ workAfter xs m zs
@@ -131,13 +134,13 @@ module _ {M : Type 1} (𝓤 : URA M) (H : Heap 𝓤) (A : Atoms 𝓤) (W : Given
   abbrev Left : List ℕ → List (Item 𝓤)
   Left ws = ‵ (flft κ₀ q₀) ∷ (‵ (flft κ₁ q₁) ⊛ ‵ ftrue) ∷ ‵ (finally u8 (work .name) ws) ∷ []
 
-  exits : (r : Edited) (ns : List NodeRecord) (t : Val) (ws : List ℕ) → Is S.the-row (seen r ns) (t ∷ []) → Replied (min entries 200) r → Noted ns → Worked (min entries 200) ws → length ws ≡ length zs
-      → ent 𝓤 (⋆ 𝓤 H A (Left ws)) (Post t)
-  exits r ns t ws is replied noted worked l =
+  exits : (r : Edited) (ns : List NodeRecord) (t : Val) (ws : List ℕ) → Is S.the-row (seen r ns) (t ∷ []) → Replied (min entries 200) r → Stated (min entries 200) r
+      → Noted ns → Worked (min entries 200) ws → length ws ≡ length zs → ent 𝓤 (⋆ 𝓤 H A (Left ws)) (Post t)
+  exits r ns t ws is replied stated noted worked l =
       qed W (Left ws) ∵
       suffices ! _ (ends-at 𝓤 H A open-over.ended stayed (open-over.clauses 𝓤 H A memory run) W bound t (seen r ns) (tt, (tt, (tt, (ws, tt)))) (tt, (tt, (tt, (l, tt))))) $
       owned ! S.the-row (Is S.the-row) (LL.makes S.the-type S′.the-plain 𝓤 H A) (seen r ns) _ is $ nothing ! $ move ! (4 ∷ 0 ∷ []) $ fjoin ! $ dropped ! $ dropped ! $ dropped ! $ at-exit ! $ frame ! $
-      shown ! worked $ shown ! noted $ shown ! replied $ done !
+      shown ! worked $ shown ! noted $ shown ! stated $ shown ! replied $ done !
 
   -- the tokens of `open`'s lifetimes
   abbrev Alive : Lft → Item 𝓤
@@ -187,9 +190,9 @@ module _ {M : Type 1} (𝓤 : URA M) (H : Heap 𝓤) (A : Atoms 𝓤) (W : Given
           move ! (4 ∷ 1 ∷ []) $ join ! $ move ! (1 ∷ 3 ∷ 0 ∷ []) $ use3 W (raw (Open 𝓤 H A memory run .pre (to-open l₆ (α ∷ []) γ))) (goes-open l₆ (α ∷ []) γ) $
           calls-ended 𝓤 H A W opens.ended (opens.clauses 𝓤 H A memory run) (to-open l₆ (α ∷ []) γ) ! fm known-open
           (and-then ! (load ! (from ! (stop !)) (look ! 25 refl)) (and-then ! (load ! (from ! (stop !)) (look ! 10 refl)) (and-then ! (load ! (from ! (stop !)) (look ! 6 refl)) (no-more !)))) (λ t r ws.
-          use1 W (raw (fact 𝓤 (Replied few r)) ⊛ raw (fact 𝓤 (r .state ≡ stateOf (kept (admitted xs few (length zs))))) ⊛ raw (fact 𝓤 (ws .1 .0 ≡ nodesAfter xs (parts .front) (length zs))) ⊛ raw (fact 𝓤 (Worked few (ws .1 .1 .0)))
+          use1 W (raw (fact 𝓤 (Replied few r)) ⊛ raw (fact 𝓤 (Stated few r)) ⊛ raw (fact 𝓤 (ws .1 .0 ≡ nodesAfter xs (parts .front) (length zs))) ⊛ raw (fact 𝓤 (Worked few (ws .1 .1 .0)))
           ⊛ raw (fact 𝓤 (GlitchClear (replyOf (r .reply)) ↔ NothingSuspect xs few (length zs))) ⊛ raw (fact 𝓤 (GlitchClear (replyOf (r .reply)) → OneProbe xs))) (id⊢ 𝓤 _) $
-          split ! $ heard ! (Replied few r) (λ replied. split ! $ drop ! $ split ! $ heard ! (ws .1 .0 ≡ nodesAfter xs (parts .front) (length zs)) (λ is-ns. split ! $
+          split ! $ heard ! (Replied few r) (λ replied. split ! $ heard ! (Stated few r) (λ stated. split ! $ heard ! (ws .1 .0 ≡ nodesAfter xs (parts .front) (length zs)) (λ is-ns. split ! $
           heard ! (Worked few (ws .1 .1 .0)) (λ worked. drop ! $ fsplit ! $ drop ! $ fsplit ! $ fsplit ! $ move ! (1 ∷ []) $ feqL ! (λ same.
           move ! (1 ∷ []) $ fsplit ! $ fsplit ! $ move ! (1 ∷ []) $ feqL ! (λ l.
           -- [the work's last list; true; the front's; what r owns; the tokens; true; the lender's part; the rest; the locals without _6]
@@ -206,7 +209,7 @@ module _ {M : Type 1} (𝓤 : URA M) (H : Heap 𝓤) (A : Atoms 𝓤) (W : Given
           move ! (19 ∷ 20 ∷ []) $ free1 ! $ move ! (0 ∷ 18 ∷ []) $ free1 ! $ move ! (15 ∷ 16 ∷ []) $ free1 ! $ move ! (13 ∷ 14 ∷ []) $ free1 ! $ move ! (11 ∷ 12 ∷ []) $ free1 ! $
           move ! (9 ∷ 10 ∷ []) $ free1 ! $ move ! (7 ∷ 8 ∷ []) $ free1 ! $ move ! (5 ∷ 6 ∷ []) $ free1 ! $ free0 ! $ keep ! (1 ∷ 0 ∷ 2 ∷ []) $
           by ! (exits r (ws .1 .0 ++ parts .others) _ (ws .1 .1 .0) (is-seen r t (ws .1 .0 ++ parts .others) u is-t is-u) (subst (λ (m : ℕ). Replied m r) (parts .front-length) replied)
-          (ap (λ (ns : List NodeRecord). ns ++ parts .others) is-ns) (subst (λ (m : ℕ). Worked m (ws .1 .1 .0)) (parts .front-length) worked) l))))))))))
+          (subst (λ (m : ℕ). Stated m r) (parts .front-length) stated) (ap (λ (ns : List NodeRecord). ns ++ parts .others) is-ns) (subst (λ (m : ℕ). Worked m (ws .1 .1 .0)) (parts .front-length) worked) l)))))))))))
 
     walk : ent 𝓤 (onEntry 𝓤 H A open-over.signature (κ₀, (κ₁, tt)) (q₀, (q₁, tt)) x at) (WpFn 𝓤 H C Λ code.function (s₀ ∷ vint w64 entries ∷ v ∷ s₁ ∷ []) Post)
     walk =

@@ -1,0 +1,2 @@
+-- What this crate's proofs share.
+pub mod Numbers

@@ -1,0 +1,3 @@
+-- What this crate's contracts cite.
+pub mod Bounds
+pub mod Numbers

@@ -1,0 +1,2 @@
+-- What the contracts of this crate say of the lines that commands print.
+pub mod Desk

@@ -1,0 +1,194 @@
+// The lines that commands print. Each public function puts a text at the front of bytes that have room for it and answers how
+// many bytes the text has: fields parted by one blank, and no line end but that of an answer's lines, so that words may follow.
+ghost use mathlib.Core.Path.{_≡_};
+ghost use mathlib.Core.List.{_∷_, _++_, map};
+ghost use Prim.Native.Nat.{_+_, _*_, _≤_};
+ghost use lib.ListN.{length};
+ghost use Rattle.rules.specs.Listing.{word, decimal, halfLine};
+ghost use Rattle.rules.specs.Paper.{numberOf, placeOf, findingOf, findingsOf};
+ghost use Rattle.lines.specs.Text.{Room, Appended};
+ghost use Rattle.pair_search.specs.Meaning.{pairFindingOf, searchedOf};
+ghost use Rattle.desk_lines.specs.Desk.{behind, parted, yesNo, foundFields, refusalText, countsText, answerText, pairsText, stepText, valueText, feedingText, memberText};
+use lines::put_byte;
+use lines::put_decimal;
+use lines::put_field;
+use lines::put_word;
+use pair_search::Found;
+use pair_search::Search;
+use rules::Answer;
+use rules::Half;
+use rules::MOST_NODES;
+use rules::Refusal;
+
+// How many bytes have room for each of the texts, and for every listing.
+pub const ROOM: usize = report::MOST_TEXT;
+
+// ---- words and numbers
+
+// Numbers, a blank before each: at most 20 digits a number.
+fn put_numbers(text: &mut [u8], at: usize, numbers: &[usize]) -> usize
+    requires { ⌜ Room (now text) at (21 * length (now numbers)) ⌝ }
+    ensures { λ r. ⌜ Appended (now (text .entry)) (now (text .exit)) at r (behind (map decimal (now (numbers .entry)))) ⌝ }
+    ensures few { λ r. ⌜ r ≤ at + 21 * length (now (numbers .entry)) ⌝ }
+{
+    let mut end = at;
+    let mut k = 0;
+    while k < numbers.len() {
+        end = put_field(text, end, numbers[k]);
+        k += 1;
+    }
+    end
+}
+
+// Words, and numbers behind them.
+fn put_fields(text: &mut [u8], at: usize, words: &[u8], numbers: &[usize]) -> usize
+    requires { ⌜ Room (now text) at (length (now words) + 21 * length (now numbers)) ⌝ }
+    ensures { λ r. ⌜ Appended (now (text .entry)) (now (text .exit)) at r
+        (now (words .entry) ++ behind (map decimal (now (numbers .entry)))) ⌝ }
+    ensures few { λ r. ⌜ r ≤ at + (length (now (words .entry)) + 21 * length (now (numbers .entry))) ⌝ }
+{
+    let numbers_at = put_word(text, at, words);
+    put_numbers(text, numbers_at, numbers)
+}
+
+// ---- a refusal
+
+// `refused NUMBER PLACE`.
+pub fn refusal_fields(text: &mut [u8; ROOM], refusal: Refusal) -> usize
+    ensures { λ r. ⌜ Appended (now (text .entry)) (now (text .exit)) 0 r (refusalText (numberOf refusal) (placeOf refusal)) ⌝ }
+{
+    let number = refusals::number_of(refusal);
+    let place = refusals::place_of(refusal);
+    put_fields(text, 0, b"refused", &[number, place])
+}
+
+// ---- an answer
+
+// The line of the counts.
+fn put_counts(text: &mut [u8], variables: usize, nodes: usize) -> usize
+    requires { ⌜ Room (now text) 0 53 ⌝ }
+    ensures { λ r. ⌜ Appended (now (text .entry)) (now (text .exit)) 0 r (countsText variables nodes) ⌝ }
+    ensures few { λ r. ⌜ r ≤ 53 ⌝ }
+{
+    let middle = put_fields(text, 0, b"vars", &[variables]);
+    let end = put_fields(text, middle, b" nodes", &[nodes]);
+    put_byte(text, end, 10)
+}
+
+// The line of a half.
+fn put_half(text: &mut [u8], at: usize, name: &[u8], half: Half) -> usize
+    requires { ⌜ Room (now text) at (length (now name) + 43) ⌝ }
+    ensures { λ r. ⌜ Appended (now (text .entry)) (now (text .exit)) at r (halfLine (now (name .entry)) (findingOf half)) ⌝ }
+    ensures few { λ r. ⌜ r ≤ at + (length (now (name .entry)) + 43) ⌝ }
+{
+    match half {
+        Half::Clear => {
+            let said = put_word(text, at, name);
+            put_word(text, said, b" clear\n")
+        }
+        Half::Suspect(node, set) => {
+            let end = put_fields(text, at, name, &[node, set]);
+            put_byte(text, end, 10)
+        }
+    }
+}
+
+// The listing's lines but for those of the nodes, each with its line feed: `vars V nodes N`, `settled ..`, `glitch ..`.
+pub fn answer_lines(text: &mut [u8; ROOM], answer: Answer) -> usize
+    ensures { λ r. ⌜ Appended (now (text .entry)) (now (text .exit)) 0 r (answerText (findingsOf answer)) ⌝ }
+{
+    let settled = answer.settled;
+    let glitch = answer.glitch;
+    let first = put_counts(text, answer.variables, answer.nodes);
+    let second = put_half(text, first, b"settled", settled);
+    put_half(text, second, b"glitch", glitch)
+}
+
+// ---- two probes
+
+// What a search over pairs found: `pairs clear`, `pairs suspect I J SET`, `pairs spent` or `pairs single`.
+fn put_found(text: &mut [u8; ROOM], found: Found) -> usize
+    ensures { λ r. ⌜ Appended (now (text .entry)) (now (text .exit)) 0 r
+        (parted (word "pairs" ∷ foundFields (pairFindingOf found))) ⌝ }
+    ensures few { λ r. ⌜ r ≤ 76 ⌝ }
+{
+    match found {
+        Found::Single(_, _) => put_word(text, 0, b"pairs single"),
+        Found::NoPair => put_word(text, 0, b"pairs clear"),
+        Found::Pair(i, j, set) => put_fields(text, 0, b"pairs suspect", &[i, j, set]),
+        Found::Spent => put_word(text, 0, b"pairs spent"),
+    }
+}
+
+// What a search over pairs found, and how many it looked at: `pairs clear COUNT`, `pairs suspect I J SET COUNT`, `pairs spent COUNT`
+// or `pairs single COUNT`.
+pub fn search_fields(text: &mut [u8; ROOM], search: Search) -> usize
+    ensures { λ r. ⌜ Appended (now (text .entry)) (now (text .exit)) 0 r (pairsText (searchedOf search)) ⌝ }
+{
+    let found = search.found;
+    let end = put_found(text, found);
+    put_numbers(text, end, &[search.looked])
+}
+
+// ---- a derivation
+
+// A step by its five bytes: `NODE LAYER RULE SET`.
+pub fn step_fields(text: &mut [u8; ROOM], node: u8, layer: u8, rule: u8, low: u8, high: u8) -> usize
+    ensures { λ r. ⌜ Appended (now (text .entry)) (now (text .exit)) 0 r (stepText node layer rule (low + 256 * high)) ⌝ }
+{
+    let set = (low as usize) + 256 * (high as usize);
+    let end = put_decimal(text, 0, node as usize);
+    put_numbers(text, end, &[layer as usize, rule as usize, set])
+}
+
+// ---- the queries
+
+// The settled value of a node: `value 0` or `value 1`.
+pub fn value_fields(text: &mut [u8; ROOM], value: bool) -> usize
+    ensures { λ r. ⌜ Appended (now (text .entry)) (now (text .exit)) 0 r (valueText value) ⌝ }
+{
+    if value {
+        put_word(text, 0, b"value 1")
+    } else {
+        put_word(text, 0, b"value 0")
+    }
+}
+
+// The feeding points of a node, by its marks: `feeding`, and the numbers of the marked nodes.
+pub fn feeding_fields(text: &mut [u8; ROOM], marks: [bool; MOST_NODES]) -> usize
+    ensures { λ r. ⌜ Appended (now (text .entry)) (now (text .exit)) 0 r (feedingText marks) ⌝ }
+{
+    let mut end = put_word(text, 0, b"feeding");
+    let mut i = 0;
+    while i < MOST_NODES {
+        if marks[i] {
+            end = put_field(text, end, i);
+        }
+        i += 1;
+    }
+    end
+}
+
+// A membership, with a blank before it.
+fn put_membership(text: &mut [u8], at: usize, holds: bool) -> usize
+    requires { ⌜ Room (now text) at 4 ⌝ }
+    ensures { λ r. ⌜ Appended (now (text .entry)) (now (text .exit)) at r (32 ∷ yesNo holds) ⌝ }
+    ensures few { λ r. ⌜ r ≤ at + 4 ⌝ }
+{
+    if holds {
+        put_word(text, at, b" yes")
+    } else {
+        put_word(text, at, b" no")
+    }
+}
+
+// Whether a set is in each of a node's families, as in `member settled no glitch yes`.
+pub fn member_fields(text: &mut [u8; ROOM], settled: bool, glitch: bool) -> usize
+    ensures { λ r. ⌜ Appended (now (text .entry)) (now (text .exit)) 0 r
+        (memberText (record { settled = settled; glitch = glitch })) ⌝ }
+{
+    let first = put_word(text, 0, b"member settled");
+    let name = put_membership(text, first, settled);
+    let second = put_word(text, name, b" glitch");
+    put_membership(text, second, glitch)
+}

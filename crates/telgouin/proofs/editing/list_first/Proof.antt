@@ -1,0 +1,22 @@
+-- `telgouin::editing::list_first` is safe and ends. Assumes nothing.
+use mathlib.Core.Path.{sym}
+use native.Mathlib.Omega.{arith}
+use lib.Seq.{length-take-le}
+use borrow.Author.Needs.{needs}
+use Rattle.telgouin.proofs.editing.list_first.Statement.{statement}
+use Rattle.telgouin.proofs.editing.list_first.Tie as tie
+
+slice-aggregate-list : tie.Need-slice-aggregate-list
+slice-aggregate-list c = sym (length-take-le _ _ (omega arith))
+
+list-requires : tie.Need-list-requires
+list-requires c κs = search needs
+
+returns : tie.Need-returns
+returns c = search needs
+
+returns-2 : tie.Need-returns-2
+returns-2 c = search needs
+
+pub list-first-spec : {M : Type 1} → statement M
+list-first-spec = tie.close (tie.spec slice-aggregate-list list-requires returns returns-2)

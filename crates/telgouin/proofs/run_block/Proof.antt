@@ -1,0 +1,52 @@
+-- `telgouin::run_block` is safe and ends. Assumes nothing.
+use mathlib.Core.Path.{sym}
+use native.Mathlib.Omega.{arith}
+use lib.Seq.{length-take-le}
+use borrow.Author.Needs.{needs}
+use Rattle.telgouin.proofs.run_block.Statement.{statement}
+use Rattle.telgouin.proofs.run_block.Tie as tie
+
+returns : tie.Need-returns
+returns c = search needs
+
+slice-aggregate-bytes : tie.Need-slice-aggregate-bytes
+slice-aggregate-bytes c = sym (length-take-le _ _ (omega arith))
+
+read-requires : tie.Need-read-requires
+read-requires c κs = search needs
+
+enum-known-outcome : tie.Need-enum-known-outcome
+enum-known-outcome c = search needs
+
+line-of-requires : tie.Need-line-of-requires
+line-of-requires c κs = search needs
+
+say-refused-requires : tie.Need-say-refused-requires
+say-refused-requires c κs = search needs
+
+enum-told : tie.Need-enum-told
+enum-told c = search needs
+
+obey-requires : tie.Need-obey-requires
+obey-requires c κs = search needs
+
+returns-2 : tie.Need-returns-2
+returns-2 c = search needs
+
+returns-3 : tie.Need-returns-3
+returns-3 c = search needs
+
+pub run-block-spec : {M : Type 1} → statement M
+run-block-spec =
+    tie.close
+    (tie.spec
+    returns
+    slice-aggregate-bytes
+    read-requires
+    enum-known-outcome
+    line-of-requires
+    say-refused-requires
+    enum-told
+    obey-requires
+    returns-2
+    returns-3)

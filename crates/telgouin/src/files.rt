@@ -1,0 +1,206 @@
+// The arguments, and the file that holds the block.
+use block_words::BlockWords;
+use block_words::MOST_BLOCK;
+use block_words::MOST_TEXT;
+use block_words::Number;
+use crate::say::say;
+use crate::say::say_fault;
+use crate::say::say_found;
+use crate::say::say_number;
+use libc::STDIN_FILENO;
+use rules::Refusal;
+
+// The argument that names the file, and the first of the numbers behind it.
+const FILE: usize = 2;
+
+const NUMBERS: usize = 3;
+
+// The most numbers that a command takes.
+pub const MOST_NUMBERS: usize = 3;
+
+// ---- numbers
+
+// Argument `i` as number `k`; says what was expected where it is none.
+fn take_number(i: usize, into: &mut [usize; MOST_NUMBERS], k: usize) -> bool {
+    let mut word = io::buffer();
+    let length = os::arg(i, &mut word);
+    match block_words::number_of(&word[..length]) {
+        Number::Is(x) => {
+            if k < MOST_NUMBERS {
+                into[k] = x;
+            }
+            true
+        }
+        Number::None => {
+            say(b"expected a number, found: ");
+            say_found(&word[..length]);
+            false
+        }
+    }
+}
+
+// So many numbers, from left to right; says what was expected at the first that is none.
+pub fn take_numbers(into: &mut [usize; MOST_NUMBERS], count: usize) -> bool {
+    let mut k = 0;
+    while k < MOST_NUMBERS {
+        if k >= count {
+            break;
+        }
+        if !take_number(NUMBERS + k, into, k) {
+            return false;
+        }
+        k += 1;
+    }
+    true
+}
+
+// ---- the file
+
+// What was read: so many bytes, which are all, or the first of more; or nothing, since it cannot be read.
+enum Read {
+    All(usize),
+    First(usize),
+    Failed,
+}
+
+// Reads until the slice is full or the input ends.
+fn read_from(fd: i32, into: &mut [u8]) -> Read {
+    let count = io::read_full(fd, into);
+    let mut more = [0u8; 1];
+    let behind = libc::read(fd, &mut more);
+    if behind < 0 {
+        return Read::Failed;
+    }
+    if behind > 0 {
+        return Read::First(count);
+    }
+    Read::All(count)
+}
+
+// A block: so many bytes of it, and how many lines its text in words has, or 0 for one that is given as bytes; or none, and what was expected
+// has been said.
+pub enum Block {
+    Bytes(usize, usize),
+    None,
+}
+
+// A file that cannot be read.
+fn unreadable(name: &[u8]) -> Block {
+    say(b"expected a file that can be read, found: ");
+    say_found(name);
+    Block::None
+}
+
+// A block in words.
+fn translated(
+    text: &[u8],
+    bytes: &mut [u8; MOST_BLOCK],
+    lines: &mut [usize; MOST_BLOCK],
+) -> Block {
+    match block_words::block_of(text, bytes, lines) {
+        BlockWords::Bytes(count, last) => Block::Bytes(count, last),
+        BlockWords::Wrong(fault, line) => {
+            say_fault(fault, line);
+            Block::None
+        }
+    }
+}
+
+// Too long a text in words.
+fn too_long() -> Block {
+    say(b"expected at most ");
+    say_number(MOST_TEXT);
+    say(b" bytes of words, found more\n");
+    Block::None
+}
+
+// Reads a block in words, by way of `text`.
+fn read_words(
+    fd: i32,
+    name: &[u8],
+    text: &mut [u8],
+    bytes: &mut [u8; MOST_BLOCK],
+    lines: &mut [usize; MOST_BLOCK],
+) -> Block {
+    match read_from(fd, text) {
+        Read::Failed => unreadable(name),
+        Read::First(_) => too_long(),
+        Read::All(count) => {
+            if count > text.len() {
+                return too_long();
+            }
+            translated(&text[..count], bytes, lines)
+        }
+    }
+}
+
+fn read_bytes(fd: i32, name: &[u8], bytes: &mut [u8; MOST_BLOCK]) -> Block {
+    match read_from(fd, bytes) {
+        Read::Failed => unreadable(name),
+        Read::First(count) => Block::Bytes(count, 0),
+        Read::All(count) => Block::Bytes(count, 0),
+    }
+}
+
+// Whether a file has a block in words: its name ends in `.txt`.
+pub fn has_words(name: &[u8]) -> bool {
+    if name.len() < 4 {
+        return false;
+    }
+    let from = name.len() - 4;
+    block_words::is_word(&name[from..], b".txt")
+}
+
+fn read_named(
+    name: &[u8],
+    bytes: &mut [u8; MOST_BLOCK],
+    lines: &mut [usize; MOST_BLOCK],
+) -> Block {
+    let fd = os::open_read(name);
+    if fd < 0 {
+        return unreadable(name);
+    }
+    if has_words(name) {
+        let mut text = io::large_buffer();
+        let block = read_words(fd, name, &mut text, bytes, lines);
+        libc::close(fd);
+        return block;
+    }
+    let block = read_bytes(fd, name, bytes);
+    libc::close(fd);
+    block
+}
+
+// The block of the file that is named, or of standard input for `-` unless that has the edits.
+pub fn read_block(
+    edits: bool,
+    bytes: &mut [u8; MOST_BLOCK],
+    lines: &mut [usize; MOST_BLOCK],
+) -> Block {
+    let mut path = io::buffer();
+    let length = os::arg(FILE, &mut path);
+    if !block_words::is_word(&path[..length], b"-") {
+        return read_named(&path[..length], bytes, lines);
+    }
+    if edits {
+        say(b"expected a file to edit, found: -, where the edits are\n");
+        return Block::None;
+    }
+    read_bytes(STDIN_FILENO, &path[..length], bytes)
+}
+
+// The line of a text in words that a refused record stands on, where the text has so many lines; 0 for a block that is given as bytes. With no
+// end record it is the last line.
+pub fn line_of(refusal: Refusal, lines: &[usize; MOST_BLOCK], last: usize) -> usize {
+    if last == 0 {
+        return 0;
+    }
+    if refusals::number_of(refusal) == 8 {
+        return last;
+    }
+    let place = refusals::place_of(refusal);
+    if place < MOST_BLOCK {
+        return lines[place];
+    }
+    last
+}

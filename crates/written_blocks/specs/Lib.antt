@@ -1,0 +1,2 @@
+-- What the contracts of this crate say of bytes that are stored one behind the other.
+pub mod Stored
