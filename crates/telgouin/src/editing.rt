@@ -1,9 +1,6 @@
 // `edit`: edits of an open block, a line each.
 ghost use Prim.Native.Nat.{_≤_};
 ghost use lib.ListN.{length};
-use block_words::MOST_WORDS;
-use block_words::Number;
-use block_words::Worded;
 use crate::ask::list;
 use crate::files::has_words;
 use crate::say::say;
@@ -12,6 +9,9 @@ use crate::say::say_fault;
 use crate::say::say_found;
 use crate::say::say_refused;
 use crate::say::say_refused_node;
+use block_words::MOST_WORDS;
+use block_words::Number;
+use block_words::Worded;
 use libc::STDIN_FILENO;
 use open_blocks::Edit;
 use open_blocks::State;

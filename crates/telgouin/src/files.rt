@@ -1,12 +1,12 @@
 // The arguments, and the file that holds the block.
-use block_words::BlockWords;
-use block_words::MOST_BLOCK;
-use block_words::MOST_TEXT;
-use block_words::Number;
 use crate::say::say;
 use crate::say::say_fault;
 use crate::say::say_found;
 use crate::say::say_number;
+use block_words::BlockWords;
+use block_words::MOST_BLOCK;
+use block_words::MOST_TEXT;
+use block_words::Number;
 use libc::STDIN_FILENO;
 use rules::Refusal;
 
@@ -92,11 +92,7 @@ fn unreadable(name: &[u8]) -> Block {
 }
 
 // A block in words.
-fn translated(
-    text: &[u8],
-    bytes: &mut [u8; MOST_BLOCK],
-    lines: &mut [usize; MOST_BLOCK],
-) -> Block {
+fn translated(text: &[u8], bytes: &mut [u8; MOST_BLOCK], lines: &mut [usize; MOST_BLOCK]) -> Block {
     match block_words::block_of(text, bytes, lines) {
         BlockWords::Bytes(count, last) => Block::Bytes(count, last),
         BlockWords::Wrong(fault, line) => {
@@ -151,11 +147,7 @@ pub fn has_words(name: &[u8]) -> bool {
     block_words::is_word(&name[from..], b".txt")
 }
 
-fn read_named(
-    name: &[u8],
-    bytes: &mut [u8; MOST_BLOCK],
-    lines: &mut [usize; MOST_BLOCK],
-) -> Block {
+fn read_named(name: &[u8], bytes: &mut [u8; MOST_BLOCK], lines: &mut [usize; MOST_BLOCK]) -> Block {
     let fd = os::open_read(name);
     if fd < 0 {
         return unreadable(name);

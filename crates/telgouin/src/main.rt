@@ -118,7 +118,13 @@ fn examine(command: Command, bytes: &[u8]) {
 }
 
 // A command over a block that obeys the record rules, with so many numbers.
-fn obey(command: Command, bytes: &[u8], netlist: Netlist, numbers: [usize; MOST_NUMBERS], count: usize) {
+fn obey(
+    command: Command,
+    bytes: &[u8],
+    netlist: Netlist,
+    numbers: [usize; MOST_NUMBERS],
+    count: usize,
+) {
     match command {
         Command::List => ask::list(bytes),
         Command::Pairs => {

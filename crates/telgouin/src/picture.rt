@@ -187,13 +187,7 @@ fn stage_of(node: Node, stages: [usize; MOST_NODES]) -> usize {
         2 => 0,
         3 => first,
         7 => wrapping_add_usize(first, 1),
-        _ => {
-            if first < second {
-                second
-            } else {
-                first
-            }
-        }
+        _ => { if first < second { second } else { first } }
     }
 }
 
@@ -215,7 +209,13 @@ fn stages_of(netlist: Netlist) -> [usize; MOST_NODES] {
 }
 
 // Whether a node stands in the rank of this kind and stage: inputs in that of stage 0, a stage's registers in its own.
-fn in_rank(netlist: Netlist, stages: [usize; MOST_NODES], i: usize, kind: u8, stage: usize) -> bool {
+fn in_rank(
+    netlist: Netlist,
+    stages: [usize; MOST_NODES],
+    i: usize,
+    kind: u8,
+    stage: usize,
+) -> bool {
     if i >= netlist.count {
         return false;
     }

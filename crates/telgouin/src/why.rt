@@ -101,8 +101,14 @@ fn say_rule(rule: u8) {
 // A step: its fields, and for people the node, the layer, the set and the rule.
 fn say_step(netlist: Netlist, step: Step, depth: usize) {
     let mut text = [0u8; ROOM];
-    let count =
-        desk_lines::step_fields(&mut text, step.node, step.layer, step.rule, step.low, step.high);
+    let count = desk_lines::step_fields(
+        &mut text,
+        step.node,
+        step.layer,
+        step.rule,
+        step.low,
+        step.high,
+    );
     let classes = netlist.classes;
     say_first(&text, count);
     say(b" # ");
