@@ -36,7 +36,7 @@ module _ (report : Pair → Option ℕ) (limit : ℕ) where
       → searchFrom report limit looked (ps ++ qs) ≡ searchFrom report limit (s .looked) qs
   goes-on looked ps qs s e h = search-append looked ps qs ∙ rw (← e, h)
 
-  ends : (looked : ℕ) (ps qs : List Pair) (s : Searched) → s ≡ searchFrom report limit looked ps → over (s .found) ≡ true
+  pub ends : (looked : ℕ) (ps qs : List Pair) (s : Searched) → s ≡ searchFrom report limit looked ps → over (s .found) ≡ true
       → s ≡ searchFrom report limit looked (ps ++ qs)
   ends looked ps qs s e h = sym (search-append looked ps qs ∙ rw (← e, h))
 
