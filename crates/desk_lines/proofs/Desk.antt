@@ -8,11 +8,11 @@ use native.Mathlib.Numerals.{add-one}
 use native.Mathlib.Omega.{arith}
 use lib.ListN.{getD}
 use Rattle.rules.specs.Records.{Netlist}
-use Rattle.rules.specs.Families.{families, findings}
+use Rattle.rules.specs.Families.{families, Finding, clear, suspectAt, findings}
 use Rattle.rules.specs.Checks.{refused}
-use Rattle.rules.specs.Listing.{decimal, line, nodeLines, netlistText, textOf}
+use Rattle.rules.specs.Listing.{word, decimal, line, nodeLines, halfLine, netlistText, textOf}
 use Rattle.derivation_rules.specs.Derivations.{Step, layerNumber, stepBytes}
-use Rattle.desk_lines.specs.Desk.{behind, parted, refusalText, countsText, halvesText, stepText, markedBelow}
+use Rattle.desk_lines.specs.Desk.{behind, parted, refusalText, countsText, halfText, stepText, markedBelow}
 
 -- fields, and others behind them
 pub parted-more : (field : List ℕ) (fields more : List (List ℕ)) → parted (field ∷ fields) ++ behind more ≡ parted (field ∷ fields ++ more)
@@ -54,11 +54,20 @@ pub refusal-listed : (k p : ℕ) → refusalText k p ++ (10 ∷ []) ≡ textOf (
 unfolding refusalText textOf
 refusal-listed k p = sym (line-parted _)
 
--- the lines of an answer are the first and the last two of the listing, which has those of the nodes between them
+-- a half and a line feed are its line of the listing
+half-listed : (name : List ℕ) (f : Finding) → halfText name f ++ (10 ∷ []) ≡ halfLine name f
+unfolding halfText halfLine
+half-listed name clear = sym (line-parted _)
+half-listed name (suspectAt node set) = sym (line-parted _)
+
+-- an answer's counts and halves, a line feed behind each, are the first line of the listing and its last two, which has those of the nodes
+-- between them
 pub answer-listed : (n : Netlist) → let f = findings n in
-    countsText (f .variables) (f .nodes) ++ nodeLines 0 (n .nodes) (families n) ++ halvesText (f .settled) (f .glitch) ≡ netlistText n
-unfolding findings countsText halvesText netlistText
-answer-listed n = simp append-assoc
+    (countsText (f .variables) (f .nodes) ++ (10 ∷ [])) ++ nodeLines 0 (n .nodes) (families n) ++ (halfText (word "settled") (f .settled) ++ (10 ∷ []))
+    ++ (halfText (word "glitch") (f .glitch) ++ (10 ∷ []))
+    ≡ netlistText n
+unfolding findings countsText netlistText
+answer-listed n = rw (half-listed (word "settled") _, half-listed (word "glitch") _, ← line-parted _)
 
 -- five bytes that are those of a step print its node, layer, rule and set
 pub step-told : (s : Step) (node layer rule low high : ℕ) → node ∷ layer ∷ rule ∷ low ∷ high ∷ [] ≡ stepBytes s

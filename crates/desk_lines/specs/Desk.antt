@@ -1,14 +1,13 @@
--- What commands print, byte for byte: fields parted by one blank, with no line feed, so that words may follow; of an answer three whole lines of
--- document 01's listing. Assumes nothing.
+-- What commands print, byte for byte: fields parted by one blank, with no line feed, so that words may follow. Assumes nothing.
 use Prim.Native.Nat.{ℕ, zero, suc}
 use mathlib.Core.Bool.{Bool, false, cond}
 use mathlib.Core.List.{List, [], _∷_, _++_, map}
 use lib.ListN.{getD}
 use Rattle.rules.specs.Lists.{digit}
 use Rattle.rules.specs.Records.{most-nodes}
-use Rattle.rules.specs.Families.{Finding, Findings}
+use Rattle.rules.specs.Families.{Finding, clear, suspectAt}
 use Rattle.rules.specs.Queries.{Memberships}
-use Rattle.rules.specs.Listing.{word, decimal, line, halfLine}
+use Rattle.rules.specs.Listing.{word, decimal}
 use Rattle.pair_search.specs.Pairs.{PairFinding, single, noPair, pairAt, spent, Searched}
 
 -- fields, a blank before each
@@ -27,13 +26,11 @@ refusalText k p = parted (word "refused" ∷ decimal k ∷ decimal p ∷ [])
 
 -- an answer by three lines of the listing: its first one, with the counts, and its last two, with the halves
 unfoldable pub countsText : (variables nodes : ℕ) → List ℕ
-countsText variables nodes = line (word "vars" ∷ decimal variables ∷ word "nodes" ∷ decimal nodes ∷ [])
+countsText variables nodes = parted (word "vars" ∷ decimal variables ∷ word "nodes" ∷ decimal nodes ∷ [])
 
-unfoldable pub halvesText : (settled glitch : Finding) → List ℕ
-halvesText settled glitch = halfLine (word "settled") settled ++ halfLine (word "glitch") glitch
-
-unfoldable pub answerText : Findings → List ℕ
-answerText f = countsText (f .variables) (f .nodes) ++ halvesText (f .settled) (f .glitch)
+unfoldable pub halfText : (name : List ℕ) → Finding → List ℕ
+halfText name clear = parted (name ∷ word "clear" ∷ [])
+halfText name (suspectAt node set) = parted (name ∷ decimal node ∷ decimal set ∷ [])
 
 -- what a search over pairs finds
 unfoldable pub foundFields : PairFinding → List (List ℕ)

@@ -1,15 +1,14 @@
 // The lines that commands print. Each public function puts a text at the front of bytes that have room for it and answers how
-// many bytes the text has: fields parted by one blank, and no line end but that of an answer's lines, so that words may follow.
+// many bytes the text has: fields parted by one blank, and no line feed, so that words may follow.
 ghost use mathlib.Core.Path.{_≡_};
 ghost use mathlib.Core.List.{_∷_, _++_, map};
 ghost use Prim.Native.Nat.{_+_, _*_, _≤_};
 ghost use lib.ListN.{length};
-ghost use Rattle.rules.specs.Listing.{word, decimal, halfLine};
-ghost use Rattle.rules.specs.Paper.{numberOf, placeOf, findingOf, findingsOf};
+ghost use Rattle.rules.specs.Listing.{word, decimal};
+ghost use Rattle.rules.specs.Paper.{numberOf, placeOf, findingOf};
 ghost use Rattle.lines.specs.Text.{Room, Appended};
 ghost use Rattle.pair_search.specs.Meaning.{pairFindingOf, searchedOf};
-ghost use Rattle.desk_lines.specs.Desk.{behind, parted, yesNo, foundFields, refusalText, countsText, answerText, pairsText, stepText, valueText, feedingText, memberText};
-use lines::put_byte;
+ghost use Rattle.desk_lines.specs.Desk.{behind, parted, yesNo, foundFields, refusalText, countsText, halfText, pairsText, stepText, valueText, feedingText, memberText};
 use lines::put_decimal;
 use lines::put_field;
 use lines::put_word;
@@ -64,44 +63,41 @@ pub fn refusal_fields(text: &mut [u8; ROOM], refusal: Refusal) -> usize
 
 // ---- an answer
 
-// The line of the counts.
-fn put_counts(text: &mut [u8], variables: usize, nodes: usize) -> usize
-    requires { ⌜ Room (now text) 0 53 ⌝ }
-    ensures { λ r. ⌜ Appended (now (text .entry)) (now (text .exit)) 0 r (countsText variables nodes) ⌝ }
-    ensures few { λ r. ⌜ r ≤ 53 ⌝ }
+// The counts of an answer: `vars V nodes N`.
+pub fn counts_fields(text: &mut [u8; ROOM], answer: Answer) -> usize
+    ensures { λ r. ⌜ Appended (now (text .entry)) (now (text .exit)) 0 r (countsText (answer .variables) (answer .nodes)) ⌝ }
 {
-    let middle = put_fields(text, 0, b"vars", &[variables]);
-    let end = put_fields(text, middle, b" nodes", &[nodes]);
-    put_byte(text, end, 10)
+    let middle = put_fields(text, 0, b"vars", &[answer.variables]);
+    put_fields(text, middle, b" nodes", &[answer.nodes])
 }
 
-// The line of a half.
-fn put_half(text: &mut [u8], at: usize, name: &[u8], half: Half) -> usize
-    requires { ⌜ Room (now text) at (length (now name) + 43) ⌝ }
-    ensures { λ r. ⌜ Appended (now (text .entry)) (now (text .exit)) at r (halfLine (now (name .entry)) (findingOf half)) ⌝ }
-    ensures few { λ r. ⌜ r ≤ at + (length (now (name .entry)) + 43) ⌝ }
+// A half of an answer behind its name.
+fn put_half(text: &mut [u8; ROOM], name: &[u8], half: Half) -> usize
+    requires { ⌜ length (now name) ≤ 7 ⌝ }
+    ensures { λ r. ⌜ Appended (now (text .entry)) (now (text .exit)) 0 r (halfText (now (name .entry)) (findingOf half)) ⌝ }
 {
     match half {
         Half::Clear => {
-            let said = put_word(text, at, name);
-            put_word(text, said, b" clear\n")
+            let said = put_word(text, 0, name);
+            put_word(text, said, b" clear")
         }
-        Half::Suspect(node, set) => {
-            let end = put_fields(text, at, name, &[node, set]);
-            put_byte(text, end, 10)
-        }
+        Half::Suspect(node, set) => put_fields(text, 0, name, &[node, set]),
     }
 }
 
-// The listing's lines but for those of the nodes, each with its line feed: `vars V nodes N`, `settled ..`, `glitch ..`.
-pub fn answer_lines(text: &mut [u8; ROOM], answer: Answer) -> usize
-    ensures { λ r. ⌜ Appended (now (text .entry)) (now (text .exit)) 0 r (answerText (findingsOf answer)) ⌝ }
+// The half of settled signals, `settled clear` or `settled NODE SET`, and that of glitching ones.
+pub fn settled_fields(text: &mut [u8; ROOM], answer: Answer) -> usize
+    ensures { λ r. ⌜ Appended (now (text .entry)) (now (text .exit)) 0 r (halfText (word "settled") (findingOf (answer .settled))) ⌝ }
 {
     let settled = answer.settled;
+    put_half(text, b"settled", settled)
+}
+
+pub fn glitch_fields(text: &mut [u8; ROOM], answer: Answer) -> usize
+    ensures { λ r. ⌜ Appended (now (text .entry)) (now (text .exit)) 0 r (halfText (word "glitch") (findingOf (answer .glitch))) ⌝ }
+{
     let glitch = answer.glitch;
-    let first = put_counts(text, answer.variables, answer.nodes);
-    let second = put_half(text, first, b"settled", settled);
-    put_half(text, second, b"glitch", glitch)
+    put_half(text, b"glitch", glitch)
 }
 
 // ---- two probes

@@ -146,13 +146,7 @@ fn search_row(netlist: Netlist, work: &[u8], j: usize, terms: Terms, looked: usi
 }
 
 // The search over the pairs of the nodes below `j` goes on with those of node `j`, unless it is over.
-pub fn search_node(
-    netlist: Netlist,
-    work: &[u8],
-    j: usize,
-    limit: usize,
-    so_far: Search,
-) -> Search
+pub fn search_node(netlist: Netlist, work: &[u8], j: usize, limit: usize, so_far: Search) -> Search
     requires { ⌜ Ready netlist (length (now work)) × (j < netlist .count) ⌝ }
     ensures { λ r. ⌜ ((n : Records.Netlist) → netlist ≡ flatOf n →
         searchedOf «so_far» ≡ searchFrom (reportIn (n .variables) (now (work .entry))) limit 0 (pairsBelow n j) →

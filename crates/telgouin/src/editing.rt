@@ -1,17 +1,17 @@
 // `edit`: edits of an open block, a line each.
 ghost use Prim.Native.Nat.{_≤_};
 ghost use lib.ListN.{length};
-use crate::ask::list;
 use crate::files::has_words;
-use crate::say::say;
-use crate::say::say_answer;
-use crate::say::say_fault;
-use crate::say::say_found;
-use crate::say::say_refused;
-use crate::say::say_refused_node;
 use block_words::MOST_WORDS;
 use block_words::Number;
 use block_words::Worded;
+use desk::ask::list;
+use desk::say::say;
+use desk::say::say_answer;
+use desk::say::say_fault;
+use desk::say::say_found;
+use desk::say::say_refused;
+use desk::say::say_refused_node;
 use libc::STDIN_FILENO;
 use open_blocks::Edit;
 use open_blocks::State;
@@ -82,8 +82,9 @@ fn change(
             spoken(session)
         }
         Reply::Answered(answer) => {
-            say_answer(answer);
             let state = edited.state;
+            let classes = state.classes;
+            say_answer(answer, classes);
             let nodes = seen.nodes;
             Session {
                 state,
@@ -394,7 +395,9 @@ pub fn edit(bytes: &[u8]) {
             let last = run(session, &mut work);
             if !last.spoken {
                 let answer = last.answer;
-                say_answer(answer);
+                let state = last.state;
+                let classes = state.classes;
+                say_answer(answer, classes);
             }
         }
     }

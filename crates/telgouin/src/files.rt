@@ -1,12 +1,12 @@
 // The arguments, and the file that holds the block.
-use crate::say::say;
-use crate::say::say_fault;
-use crate::say::say_found;
-use crate::say::say_number;
 use block_words::BlockWords;
 use block_words::MOST_BLOCK;
 use block_words::MOST_TEXT;
 use block_words::Number;
+use desk::say::say;
+use desk::say::say_fault;
+use desk::say::say_found;
+use desk::say::say_number;
 use libc::STDIN_FILENO;
 use rules::Refusal;
 

@@ -1,25 +1,21 @@
 // The designer's desk: one program for what the library can do. `telgouin help` tells what it takes and prints.
-mod ask;
 mod editing;
 mod files;
-mod help;
-mod picture;
-mod say;
-mod search;
-mod why;
 
 use block_words::MOST_BLOCK;
 use block_words::is_word;
+use desk::ask;
+use desk::help;
+use desk::picture;
+use desk::say::say;
+use desk::say::say_found;
+use desk::say::say_refused;
+use desk::search;
+use desk::why;
 use files::Block;
 use files::MOST_NUMBERS;
 use netlists::Netlist;
-use rules::MOST_NODES;
-use rules::MOST_WORK;
 use rules::QueryOutcome;
-use rules::Reply;
-use say::say;
-use say::say_found;
-use say::say_refused;
 
 // The commands.
 enum Command {
@@ -98,25 +94,6 @@ fn say_usage(command: Command) {
     }
 }
 
-// Looks for suspects, which `why` explains and `picture` shows.
-fn examine(command: Command, bytes: &[u8]) {
-    let mut work = [0u8; MOST_WORK];
-    let examined = checker::examine(bytes, MOST_NODES, &mut work);
-    let reply = examined.reply;
-    let netlist = examined.netlist;
-    let marks = examined.marks;
-    match reply {
-        Reply::Refused(refusal) => say_refused(refusal, 0),
-        Reply::Answered(answer) => {
-            let glitch = answer.glitch;
-            match command {
-                Command::Picture => picture::picture(bytes, netlist, marks, glitch),
-                _ => why::why_suspect(bytes, netlist, glitch),
-            }
-        }
-    }
-}
-
 // A command over a block that obeys the record rules, with so many numbers.
 fn obey(
     command: Command,
@@ -128,15 +105,16 @@ fn obey(
     match command {
         Command::List => ask::list(bytes),
         Command::Pairs => {
+            let classes = netlist.classes;
             if count == 0 {
-                search::pairs(bytes, netlist, usize::MAX);
+                search::pairs(bytes, classes, usize::MAX);
             } else {
-                search::pairs(bytes, netlist, numbers[0]);
+                search::pairs(bytes, classes, numbers[0]);
             }
         }
         Command::Why => {
             if count == 0 {
-                examine(Command::Why, bytes);
+                why::why_first(bytes, netlist);
             } else {
                 why::why(bytes, netlist, numbers[0], numbers[1], numbers[2]);
             }
@@ -145,7 +123,7 @@ fn obey(
         Command::Feeding => ask::feeding(bytes, numbers[0]),
         Command::Member => ask::member(bytes, numbers[0], numbers[1]),
         Command::Edit => editing::edit(bytes),
-        Command::Picture => examine(Command::Picture, bytes),
+        Command::Picture => picture::picture(bytes, netlist),
         Command::Help => {}
         Command::None => {}
     }

@@ -1,11 +1,8 @@
 -- `desk_lines::put_half` meets its contract: behind the name a word, or the node and the set. Assumes nothing.
-use mathlib.Core.Path.{sym}
-use native.Mathlib.Omega.{arith}
 use borrow.Author.Needs.{needs}
-use Rattle.rules.specs.Listing.{word, line, halfLine}
-use Rattle.lines.proofs.Text.{appended-more, appended-as}
-use Rattle.desk_lines.specs.Desk.{parted, behind}
-use Rattle.desk_lines.proofs.Desk.{line-parted}
+use Rattle.rules.specs.Listing.{word}
+use Rattle.lines.proofs.Text.{appended-more}
+use Rattle.desk_lines.specs.Desk.{behind, parted, halfText}
 use Rattle.desk_lines.proofs.put_half.Statement.{statement}
 use Rattle.desk_lines.proofs.put_half.Tie as tie
 
@@ -30,32 +27,15 @@ slice-aggregate-put-fields c = search needs
 put-fields-requires : tie.Need-put-fields-requires
 put-fields-requires c κs = search needs
 
-put-byte-requires : tie.Need-put-byte-requires
-put-byte-requires c κs = search needs
-
-same-length : tie.Need-same-length
-same-length c = search needs
-
 returns : tie.Need-returns
-unfolding word line halfLine
+unfolding word behind parted halfText
 returns c =
-    let said = c .before .before in
-    let name = said .before .before .before .before .before in
-    let half = name .before .before in
-    (rw (half .enum-told .given .1) (appended-more (name .put-word .ensures) (said .put-word2 .ensures)), omega arith)
-
-same-length-2 : tie.Need-same-length-2
-same-length-2 c = search needs
+    let name = c .before .before .before in
+    rw (name .before .before .enum-told .given .1) (appended-more (name .put-word .ensures) (c .put-word2 .ensures))
 
 returns-2 : tie.Need-returns-2
-unfolding halfLine parted
-returns-2 c =
-    let end = c .before .before in
-    let fields = end .before .before .before .before in
-    let half = fields .before .before .before .before in (
-      rw (half .half .given .1) (appended-as (sym (line-parted _)) (appended-more (fields .put-fields .ensures .0) (end .put-byte .ensures))),
-      omega arith,
-    )
+unfolding parted halfText
+returns-2 c = rw (c .before .before .before .before .half .given .1) (c .put-fields .ensures .0)
 
 pub put-half-spec : {M : Type 1} → statement M
 put-half-spec =
@@ -68,8 +48,5 @@ put-half-spec =
     enum-known-half
     slice-aggregate-put-fields
     put-fields-requires
-    put-byte-requires
-    same-length
     returns
-    same-length-2
     returns-2)

@@ -1,0 +1,195 @@
+// Printing: answers, refusals, sets, and what was expected.
+use block_words::Fault;
+use desk_lines::ROOM;
+use libc::STDOUT_FILENO;
+use rules::Answer;
+use rules::Half;
+use rules::MOST_VARIABLES;
+use rules::Refusal;
+
+// The most bytes that are shown of what was found.
+const SHOWN: usize = 80;
+
+pub fn say(text: &[u8]) {
+    io::write_all(STDOUT_FILENO, text);
+}
+
+pub fn say_number(x: usize) {
+    io::print_decimal(STDOUT_FILENO, x as u64);
+}
+
+// A blank and a number.
+pub fn say_field(x: usize) {
+    say(b" ");
+    say_number(x);
+}
+
+// The first bytes of a text.
+pub fn say_first(text: &[u8; ROOM], count: usize) {
+    let whole: &[u8] = text;
+    if count <= whole.len() {
+        say(&whole[..count]);
+    }
+}
+
+// ---- answers and refusals
+
+// The variables of a suspect set, for people, and the end of the line.
+fn say_suspect(half: Half, classes: [u8; MOST_VARIABLES]) {
+    if let Half::Suspect(_, set) = half {
+        say(b" # ");
+        say_set(classes, set);
+    }
+    say(b"\n");
+}
+
+// The lines `vars`, `settled` and `glitch`, of a block whose variables have these classes.
+pub fn say_answer(answer: Answer, classes: [u8; MOST_VARIABLES]) {
+    let mut text = [0u8; ROOM];
+    let counts = desk_lines::counts_fields(&mut text, answer);
+    say_first(&text, counts);
+    say(b"\n");
+    let first = desk_lines::settled_fields(&mut text, answer);
+    say_first(&text, first);
+    let settled = answer.settled;
+    say_suspect(settled, classes);
+    let second = desk_lines::glitch_fields(&mut text, answer);
+    say_first(&text, second);
+    let glitch = answer.glitch;
+    say_suspect(glitch, classes);
+}
+
+// The reason of a refusal.
+fn say_reason(number: usize) {
+    match number {
+        1 => say(b"a kind above 7"),
+        2 => say(b"a variable after a node"),
+        3 => say(b"the eleventh variable or the 201st node"),
+        4 => say(b"the bytes end inside a record"),
+        5 => say(b"a class above 2"),
+        6 => say(b"an input names a variable that is not declared"),
+        7 => say(b"an operand is not a lower node"),
+        8 => say(b"the bytes run out with no end record"),
+        9 => say(b"bytes after the end record"),
+        10 => say(b"fewer entries than nodes"),
+        11 => say(b"work below 256 bytes a node"),
+        12 => say(b"there is no such node"),
+        13 => say(b"the number has a bit of a variable that is not declared"),
+        14 => say(b"another node names this one"),
+        15 => say(b"more steps than 512"),
+        _ => say(b"the set is not in the family"),
+    }
+}
+
+// A refusal's fields, and what stands before its reason.
+fn say_refusal_fields(refusal: Refusal) {
+    let mut text = [0u8; ROOM];
+    let count = desk_lines::refusal_fields(&mut text, refusal);
+    say_first(&text, count);
+}
+
+// The line in a text in words, unless it is 0, and the end of the line.
+fn say_line(line: usize) {
+    if line > 0 {
+        say(b", line ");
+        say_number(line);
+    }
+    say(b"\n");
+}
+
+// A refusal with its reason, and the line of the text that it stands on, where that is not 0.
+pub fn say_refused(refusal: Refusal, line: usize) {
+    say_refusal_fields(refusal);
+    say(b" # ");
+    say_reason(refusals::number_of(refusal));
+    say_line(line);
+}
+
+// The refusal of a new node: of kinds it names those that are no node's too.
+pub fn say_refused_node(refusal: Refusal) {
+    if refusals::number_of(refusal) == 1 {
+        say_refusal_fields(refusal);
+        say(b" # the record is no node\n");
+    } else {
+        say_refused(refusal, 0);
+    }
+}
+
+// ---- sets, for people
+
+fn say_class(class: u8) {
+    match class {
+        0 => say(b"s"),
+        1 => say(b"m"),
+        _ => say(b"p"),
+    }
+}
+
+// A variable that the set holds, behind a blank if others stand there: whether any stands there now.
+fn say_variable(held: bool, others: bool, class: u8, v: usize) -> bool {
+    if !held {
+        return others;
+    }
+    if others {
+        say(b" ");
+    }
+    say_class(class);
+    say_number(v);
+    true
+}
+
+// A set as its variables, by class and number.
+pub fn say_set(classes: [u8; MOST_VARIABLES], set: usize) {
+    let mut rest = set;
+    let mut others = false;
+    let mut v = 0;
+    while v < MOST_VARIABLES {
+        others = say_variable(rest % 2 == 1, others, classes[v], v);
+        rest /= 2;
+        v += 1;
+    }
+    if !others {
+        say(b"the empty set");
+    }
+}
+
+// ---- what was expected
+
+fn say_byte(byte: u8) {
+    let mut shown = byte;
+    if byte < 32 {
+        shown = b'?';
+    }
+    if byte > 126 {
+        shown = b'?';
+    }
+    let one = [shown; 1];
+    say(&one);
+}
+
+// What was found, and the end of the line.
+pub fn say_found(word: &[u8]) {
+    let mut k = 0;
+    while k < word.len() {
+        if k >= SHOWN {
+            break;
+        }
+        say_byte(word[k]);
+        k += 1;
+    }
+    say(b"\n");
+}
+
+// What a record in words was expected to be, with its line, unless that is 0.
+pub fn say_fault(fault: Fault, line: usize) {
+    match fault {
+        Fault::Record => say(b"expected secret, mask, public, in, not, xor, and, or, reg or end"),
+        Fault::NoNumber => say(b"expected a record with no number"),
+        Fault::OneNumber => say(b"expected a record with one number"),
+        Fault::TwoNumbers => say(b"expected a record with two numbers"),
+        Fault::Operand => say(b"expected a number from 0 to 255"),
+        Fault::Variable => say(b"expected a number from 0 to 15"),
+        Fault::Twice => say(b"expected each variable once"),
+    }
+    say_line(line);
+}

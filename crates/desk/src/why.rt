@@ -1,0 +1,151 @@
+// `why`: a derivation, a line a step.
+use crate::nodes::node_of;
+use crate::nodes::say_node;
+use crate::say::say;
+use crate::say::say_first;
+use crate::say::say_refused;
+use crate::say::say_set;
+use crate::steps::Step;
+use crate::steps::step_at;
+use derivation_steps::STEP;
+use derivations::Derived;
+use derivations::MOST_BYTES;
+use desk_lines::ROOM;
+use netlists::Netlist;
+use rules::Half;
+use rules::MOST_NODES;
+use rules::MOST_WORK;
+use rules::Reply;
+use std::num::wrapping_add_usize;
+
+// The most steps that wait to be told: one more than there may be steps.
+const MOST_WAITING: usize = 513;
+
+// ---- how deep a step stands
+
+// The depths of the steps that wait to be told, of which the last is the next one's; an operand's step waits one level below its own.
+fn wait(depths: &mut [usize; MOST_WAITING], waiting: usize, depth: usize) -> usize {
+    if waiting < MOST_WAITING {
+        depths[waiting] = depth;
+        return waiting + 1;
+    }
+    waiting
+}
+
+// The steps that a rule needs: one by rules 2, 4 and 5, two by rule 6.
+fn wait_operands(
+    depths: &mut [usize; MOST_WAITING],
+    waiting: usize,
+    depth: usize,
+    rule: u8,
+) -> usize {
+    let below = wrapping_add_usize(depth, 1);
+    match rule {
+        2 | 4 | 5 => wait(depths, waiting, below),
+        6 => {
+            let first = wait(depths, waiting, below);
+            wait(depths, first, below)
+        }
+        _ => waiting,
+    }
+}
+
+// ---- what it prints
+
+fn indent(depth: usize) {
+    let mut k = 0;
+    while k < depth {
+        say(b"  ");
+        k += 1;
+    }
+}
+
+fn say_layer(layer: u8) {
+    if layer == 0 {
+        say(b", settled: ");
+    } else {
+        say(b", glitching: ");
+    }
+}
+
+fn say_rule(rule: u8) {
+    match rule {
+        1 => say(b", its own set\n"),
+        2 => say(b", as its operand has it\n"),
+        3 => say(b", which such a gate always has\n"),
+        4 => say(b", as its first operand has it\n"),
+        5 => say(b", as its second operand has it\n"),
+        _ => say(b", the difference of a set of each operand\n"),
+    }
+}
+
+// A step: its fields, and for people the node, the layer, the set and the rule.
+fn say_step(netlist: Netlist, step: Step, depth: usize) {
+    let mut text = [0u8; ROOM];
+    let count = desk_lines::step_fields(
+        &mut text,
+        step.node,
+        step.layer,
+        step.rule,
+        step.low,
+        step.high,
+    );
+    let classes = netlist.classes;
+    say_first(&text, count);
+    say(b" # ");
+    indent(depth);
+    say_node(node_of(netlist, step.node as usize));
+    say_layer(step.layer);
+    say_set(classes, step.low as usize + 256 * (step.high as usize));
+    say_rule(step.rule);
+}
+
+// So many steps.
+fn say_steps(netlist: Netlist, steps: &[u8; MOST_BYTES], count: usize) {
+    let mut depths = [0usize; MOST_WAITING];
+    let mut waiting: usize = 1;
+    let mut at = 0;
+    let mut k = 0;
+    while k < count {
+        let mut depth = 0;
+        if 0 < waiting {
+            waiting -= 1;
+        }
+        if waiting < MOST_WAITING {
+            depth = depths[waiting];
+        }
+        let step = step_at(steps, at);
+        say_step(netlist, step, depth);
+        waiting = wait_operands(&mut depths, waiting, depth, step.rule);
+        at = wrapping_add_usize(at, STEP);
+        k += 1;
+    }
+}
+
+// The derivation of a set of a node's family in a layer.
+pub fn why(bytes: &[u8], netlist: Netlist, node: usize, layer: usize, set: usize) {
+    let mut steps = [0u8; MOST_BYTES];
+    match derivations::derive(bytes, node, layer, set, &mut steps) {
+        Derived::Refused(refusal) => say_refused(refusal, 0),
+        Derived::Steps(count) => say_steps(netlist, &steps, count),
+    }
+}
+
+// That of the first glitch suspect.
+pub fn why_first(bytes: &[u8], netlist: Netlist) {
+    let mut work = [0u8; MOST_WORK];
+    let examined = checker::examine(bytes, MOST_NODES, &mut work);
+    let reply = examined.reply;
+    match reply {
+        Reply::Refused(refusal) => say_refused(refusal, 0),
+        Reply::Answered(answer) => {
+            let glitch = answer.glitch;
+            match glitch {
+                Half::Clear => {
+                    say(b"glitch clear # no node is suspect, so there is nothing to explain\n");
+                }
+                Half::Suspect(node, set) => why(bytes, netlist, node, 1, set),
+            }
+        }
+    }
+}
