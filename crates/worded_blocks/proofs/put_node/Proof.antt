@@ -98,42 +98,42 @@ same-length c = search needs
 
 returns : tie.Need-returns
 unfolding lineFor word
-returns c = (said _ 2 (c .before .before .before .before .match .keys1) (c .before .before .put-input .ensures .0), omega arith)
+returns c = (said (c .before .before .before .before .before .before .args .node) 2 (c .before .before .before .before .match .keys1) (c .before .before .put-input .ensures .0), omega arith)
 
 same-length-2 : tie.Need-same-length-2
 same-length-2 c = search needs
 
 returns-2 : tie.Need-returns-2
 unfolding lineFor word
-returns-2 c = (said _ 3 (c .before .before .before .before .before .match .keys2) (c .before .before .put-one .ensures .0), omega arith)
+returns-2 c = (said (c .before .before .before .before .before .before .before .args .node) 3 (c .before .before .before .before .before .match .keys2) (c .before .before .put-one .ensures .0), omega arith)
 
 same-length-3 : tie.Need-same-length-3
 same-length-3 c = search needs
 
 returns-3 : tie.Need-returns-3
 unfolding lineFor word
-returns-3 c = (said _ 4 (c .before .before .before .before .before .match .keys3) (c .before .before .put-two .ensures .0), omega arith)
+returns-3 c = (said (c .before .before .before .before .before .before .before .args .node) 4 (c .before .before .before .before .before .match .keys3) (c .before .before .put-two .ensures .0), omega arith)
 
 same-length-4 : tie.Need-same-length-4
 same-length-4 c = search needs
 
 returns-4 : tie.Need-returns-4
 unfolding lineFor word
-returns-4 c = (said _ 5 (c .before .before .before .before .before .match .keys4) (c .before .before .put-two2 .ensures .0), omega arith)
+returns-4 c = (said (c .before .before .before .before .before .before .before .args .node) 5 (c .before .before .before .before .before .match .keys4) (c .before .before .put-two2 .ensures .0), omega arith)
 
 same-length-5 : tie.Need-same-length-5
 same-length-5 c = search needs
 
 returns-5 : tie.Need-returns-5
 unfolding lineFor word
-returns-5 c = (said _ 6 (c .before .before .before .before .before .match .keys5) (c .before .before .put-two3 .ensures .0), omega arith)
+returns-5 c = (said (c .before .before .before .before .before .before .before .args .node) 6 (c .before .before .before .before .before .match .keys5) (c .before .before .put-two3 .ensures .0), omega arith)
 
 same-length-6 : tie.Need-same-length-6
 same-length-6 c = search needs
 
 returns-6 : tie.Need-returns-6
 unfolding lineFor word
-returns-6 c = (λ cell e. said _ 7 (omega (arith, numbered cell e)) (c .before .before .put-one2 .ensures .0) cell e, omega arith)
+returns-6 c = (λ cell e. said (c .before .before .before .before .before .before .before .args .node) 7 (omega (arith, numbered cell e)) (c .before .before .put-one2 .ensures .0) cell e, omega arith)
 
 pub put-node-spec : {M : Type 1} → statement M
 put-node-spec =
