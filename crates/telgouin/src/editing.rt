@@ -2,7 +2,6 @@
 ghost use Prim.Native.Nat.{_≤_};
 ghost use lib.ListN.{length};
 use crate::files::has_words;
-use block_words::MOST_WORDS;
 use block_words::Number;
 use block_words::Worded;
 use desk::ask::list;
@@ -22,6 +21,7 @@ use rules::Node;
 use rules::NodeRecord;
 use rules::Refusal;
 use rules::Reply;
+use worded_blocks::MOST_WORDS;
 use written_blocks::MOST_WRITTEN;
 
 // The most bytes of an edit's line, its line feed among them.
@@ -162,7 +162,7 @@ fn put_file(name: &[u8], text: &[u8]) -> bool {
     is_written & is_closed
 }
 
-// So many bytes of a block's words.
+// So many bytes of a block's words, and of the block.
 fn put_words(name: &[u8], text: &[u8; MOST_WORDS], count: usize) -> bool {
     let whole: &[u8] = text;
     if count > whole.len() {
@@ -171,26 +171,30 @@ fn put_words(name: &[u8], text: &[u8; MOST_WORDS], count: usize) -> bool {
     put_file(name, &whole[..count])
 }
 
-// A block of so many bytes, in words where the file's name says so.
-fn put_block(name: &[u8], bytes: &[u8; MOST_WRITTEN], count: usize) -> bool {
+fn put_bytes(name: &[u8], bytes: &[u8; MOST_WRITTEN], count: usize) -> bool {
     let whole: &[u8] = bytes;
     if count > whole.len() {
         return false;
     }
-    if has_words(name) {
-        let mut text = [0u8; MOST_WORDS];
-        let letters = block_words::words_of(&whole[..count], &mut text);
-        return put_words(name, &text, letters);
-    }
     put_file(name, &whole[..count])
 }
 
-fn write(session: Session, name: &[u8]) -> Session {
-    let mut bytes = [0u8; MOST_WRITTEN];
+// The block, in words where the file's name says so.
+fn put_block(name: &[u8], session: Session) -> bool {
     let state = session.state;
     let nodes = session.nodes;
+    if has_words(name) {
+        let mut text = [0u8; MOST_WORDS];
+        let count = worded_blocks::write_words(state, nodes, &mut text);
+        return put_words(name, &text, count);
+    }
+    let mut bytes = [0u8; MOST_WRITTEN];
     let count = written_blocks::write_out(state, nodes, &mut bytes);
-    if put_block(name, &bytes, count) {
+    put_bytes(name, &bytes, count)
+}
+
+fn write(session: Session, name: &[u8]) -> Session {
+    if put_block(name, session) {
         return session;
     }
     say(b"expected a file that can be written, found: ");

@@ -1,0 +1,2 @@
+-- What is proved of lines in words.
+pub mod Worded
