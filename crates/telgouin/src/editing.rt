@@ -1,6 +1,14 @@
 // `edit`: edits of an open block, a line each.
+ghost use mathlib.Core.Path.{_≡_};
 ghost use Prim.Native.Nat.{_≤_};
 ghost use lib.ListN.{length};
+ghost use Rattle.rules.specs.Records as Records;
+ghost use Rattle.rules.specs.Records.{most-nodes};
+ghost use Rattle.rules.specs.Checks.{answered, admitted};
+ghost use Rattle.rules.specs.Slices.{reply};
+ghost use Rattle.rules.specs.Paper.{replyOf};
+ghost use Rattle.open_blocks.specs.Meaning.{IsOpen};
+ghost use Rattle.telgouin.specs.Editing.{SameBlock, StaysOpen};
 use crate::files::has_words;
 use block_words::Number;
 use block_words::Worded;
@@ -14,8 +22,8 @@ use desk::say::say_refused_node;
 use libc::STDIN_FILENO;
 use open_blocks::Edit;
 use open_blocks::State;
-use rules::Answer;
 use rules::MOST_NODES;
+use rules::MOST_VARIABLES;
 use rules::MOST_WORK;
 use rules::Node;
 use rules::NodeRecord;
@@ -27,26 +35,28 @@ use written_blocks::MOST_WRITTEN;
 // The most bytes of an edit's line, its line feed among them.
 const MOST_LINE: usize = 4097;
 
-// An open block with its answer; whether a line has been printed, and whether the session goes on.
-struct Session {
+// An open block, held by value; whether a line has been printed, and whether more edits are read.
+struct Held {
     state: State,
     nodes: [NodeRecord; MOST_NODES],
-    answer: Answer,
     spoken: bool,
-    open: bool,
+    more: bool,
 }
 
-// The session, after something has been printed.
-fn spoken(session: Session) -> Session {
-    let mut next = session;
+// The same block, after something has been printed, and at the end of the edits.
+fn spoken(held: Held) -> Held
+    ensures { λ r. ⌜ SameBlock (held .state) (held .nodes) (r .state) (r .nodes) ⌝ }
+{
+    let mut next = held;
     next.spoken = true;
     next
 }
 
-// The session at its end.
-fn closed(session: Session) -> Session {
-    let mut next = session;
-    next.open = false;
+fn closed(held: Held) -> Held
+    ensures { λ r. ⌜ SameBlock (held .state) (held .nodes) (r .state) (r .nodes) ⌝ }
+{
+    let mut next = held;
+    next.more = false;
     next
 }
 
@@ -59,75 +69,82 @@ fn say_refused_edit(edit: Edit, refusal: Refusal) {
     }
 }
 
+// The answer for a block whose variables have these classes, or the refusal of an edit.
+fn say_reply(edit: Edit, reply: Reply, classes: [u8; MOST_VARIABLES]) {
+    match reply {
+        Reply::Refused(refusal) => say_refused_edit(edit, refusal),
+        Reply::Answered(answer) => say_answer(answer, classes),
+    }
+}
+
 // Makes an edit, with so many bytes of a record, and prints the answer for the block as it now is, or the refusal.
 fn change(
-    session: Session,
+    held: Held,
     edit: Edit,
     record: &[u8; 3],
     count: usize,
     work: &mut [u8; MOST_WORK],
-) -> Session {
-    let state = session.state;
-    let nodes = session.nodes;
+) -> Held
+    ensures { λ r. ⌜ StaysOpen (held .state) (held .nodes) (now (work .entry)) (r .state) (r .nodes) (now (work .exit)) ⌝ }
+{
+    let state = held.state;
+    let nodes = held.nodes;
     let whole: &[u8] = record;
     if count > whole.len() {
-        return session;
+        return held;
     }
     let seen = edit_trial::edit_over(state, edit, &whole[..count], MOST_NODES, nodes, work);
     let edited = seen.edited;
     let reply = edited.reply;
-    match reply {
-        Reply::Refused(refusal) => {
-            say_refused_edit(edit, refusal);
-            spoken(session)
-        }
-        Reply::Answered(answer) => {
-            let state = edited.state;
-            let classes = state.classes;
-            say_answer(answer, classes);
-            let nodes = seen.nodes;
-            Session {
-                state,
-                nodes,
-                answer,
-                spoken: true,
-                open: true,
-            }
-        }
+    let state = edited.state;
+    let nodes = seen.nodes;
+    let classes = state.classes;
+    say_reply(edit, reply, classes);
+    Held {
+        state,
+        nodes,
+        spoken: true,
+        more: true,
     }
 }
 
 // An edit that is none.
-fn no_edit(session: Session, line: &[u8]) -> Session {
+fn no_edit(held: Held, line: &[u8]) -> Held
+    ensures { λ r. ⌜ SameBlock (held .state) (held .nodes) (r .state) (r .nodes) ⌝ }
+{
     say(b"expected add RECORD, remove NODE, list, write OUT or quit, found: ");
     say_found(line);
-    spoken(session)
+    spoken(held)
 }
 
 // A new node, by a record in words.
-fn add(session: Session, line: &[u8], words: &[u8], work: &mut [u8; MOST_WORK]) -> Session {
+fn add(held: Held, line: &[u8], words: &[u8], work: &mut [u8; MOST_WORK]) -> Held
+    ensures { λ r. ⌜ StaysOpen (held .state) (held .nodes) (now (work .entry)) (r .state) (r .nodes) (now (work .exit)) ⌝ }
+{
     let mut record = [0u8; 3];
     match block_words::record_of(words, &mut record) {
-        Worded::Nothing => no_edit(session, line),
+        Worded::Nothing => no_edit(held, line),
         Worded::Wrong(fault) => {
             say_fault(fault, 0);
-            spoken(session)
+            spoken(held)
         }
-        Worded::Bytes(count) => change(session, Edit::Add, &record, count, work),
+        Worded::Bytes(count) => change(held, Edit::Add, &record, count, work),
     }
 }
 
 // A node to give up.
-fn remove(session: Session, word: &[u8], work: &mut [u8; MOST_WORK]) -> Session {
+fn remove(held: Held, word: &[u8], work: &mut [u8; MOST_WORK]) -> Held
+    ensures { λ r. ⌜ StaysOpen (held .state) (held .nodes) (now (work .entry)) (r .state) (r .nodes) (now (work .exit)) ⌝ }
+{
     match block_words::number_of(word) {
         Number::Is(node) => {
             let none = [0u8; 3];
-            change(session, Edit::Remove(node), &none, 0, work)
+            change(held, Edit::Remove(node), &none, 0, work)
         }
         Number::None => {
             say(b"expected a number, found: ");
             say_found(word);
-            spoken(session)
+            spoken(held)
         }
     }
 }
@@ -142,13 +159,15 @@ fn list_first(bytes: &[u8; MOST_WRITTEN], count: usize) {
     }
 }
 
-fn list_block(session: Session) -> Session {
+fn list_block(held: Held) -> Held
+    ensures { λ r. ⌜ SameBlock (held .state) (held .nodes) (r .state) (r .nodes) ⌝ }
+{
     let mut bytes = [0u8; MOST_WRITTEN];
-    let state = session.state;
-    let nodes = session.nodes;
+    let state = held.state;
+    let nodes = held.nodes;
     let count = written_blocks::write_out(state, nodes, &mut bytes);
     list_first(&bytes, count);
-    spoken(session)
+    spoken(held)
 }
 
 // Puts a block's bytes, or its words, into a file: whether it could.
@@ -180,9 +199,9 @@ fn put_bytes(name: &[u8], bytes: &[u8; MOST_WRITTEN], count: usize) -> bool {
 }
 
 // The block, in words where the file's name says so.
-fn put_block(name: &[u8], session: Session) -> bool {
-    let state = session.state;
-    let nodes = session.nodes;
+fn put_block(name: &[u8], held: Held) -> bool {
+    let state = held.state;
+    let nodes = held.nodes;
     if has_words(name) {
         let mut text = [0u8; MOST_WORDS];
         let count = worded_blocks::write_words(state, nodes, &mut text);
@@ -193,19 +212,23 @@ fn put_block(name: &[u8], session: Session) -> bool {
     put_bytes(name, &bytes, count)
 }
 
-fn write(session: Session, name: &[u8]) -> Session {
-    if put_block(name, session) {
-        return session;
+fn write(held: Held, name: &[u8]) -> Held
+    ensures { λ r. ⌜ SameBlock (held .state) (held .nodes) (r .state) (r .nodes) ⌝ }
+{
+    if put_block(name, held) {
+        return held;
     }
     say(b"expected a file that can be written, found: ");
     say_found(name);
-    spoken(session)
+    spoken(held)
 }
 
 // ---- lines
 
 // What a line asks for, from its first word to the end of its last.
-fn obey(session: Session, line: &[u8], work: &mut [u8; MOST_WORK]) -> Session {
+fn obey(held: Held, line: &[u8], work: &mut [u8; MOST_WORK]) -> Held
+    ensures { λ r. ⌜ StaysOpen (held .state) (held .nodes) (now (work .entry)) (r .state) (r .nodes) (now (work .exit)) ⌝ }
+{
     let command = block_words::word_at(line, 0);
     let from = command.from;
     let to = command.to;
@@ -216,24 +239,24 @@ fn obey(session: Session, line: &[u8], work: &mut [u8; MOST_WORK]) -> Session {
     let word = &line[from..to];
     let one = (first < last) & (third.from == third.to);
     if block_words::is_word(word, b"add") & (first < last) {
-        return add(session, line, &line[first..], work);
+        return add(held, line, &line[first..], work);
     }
     if block_words::is_word(word, b"remove") & one {
-        return remove(session, &line[first..last], work);
+        return remove(held, &line[first..last], work);
     }
     if block_words::is_word(word, b"write") & one {
-        return write(session, &line[first..last]);
+        return write(held, &line[first..last]);
     }
     if first < last {
-        return no_edit(session, line);
+        return no_edit(held, line);
     }
     if block_words::is_word(word, b"list") {
-        return list_block(session);
+        return list_block(held);
     }
     if block_words::is_word(word, b"quit") {
-        return closed(session);
+        return closed(held);
     }
-    no_edit(session, line)
+    no_edit(held, line)
 }
 
 // A line of standard input, without its line feed: so many bytes; or more than a line may have, or none, since the input has ended.
@@ -309,60 +332,67 @@ fn words_end(line: &[u8]) -> usize
 }
 
 // A line with its comment and the blanks round its words.
-fn read_words(session: Session, line: &[u8], work: &mut [u8; MOST_WORK]) -> Session {
+fn read_words(held: Held, line: &[u8], work: &mut [u8; MOST_WORK]) -> Held
+    ensures { λ r. ⌜ StaysOpen (held .state) (held .nodes) (now (work .entry)) (r .state) (r .nodes) (now (work .exit)) ⌝ }
+{
     let end = words_end(line);
     let words = &line[..end];
     let first = block_words::word_at(words, 0);
     let from = first.from;
     if from == first.to {
-        return session;
+        return held;
     }
-    obey(session, &words[from..], work)
+    obey(held, &words[from..], work)
 }
 
 // So many bytes of a line.
-fn take_line(
-    session: Session,
-    line: &[u8; MOST_LINE],
-    count: usize,
-    work: &mut [u8; MOST_WORK],
-) -> Session {
+fn take_line(held: Held, line: &[u8; MOST_LINE], count: usize, work: &mut [u8; MOST_WORK]) -> Held
+    ensures { λ r. ⌜ StaysOpen (held .state) (held .nodes) (now (work .entry)) (r .state) (r .nodes) (now (work .exit)) ⌝ }
+{
     let whole: &[u8] = line;
     if count > whole.len() {
-        return session;
+        return held;
     }
-    read_words(session, &whole[..count], work)
+    read_words(held, &whole[..count], work)
 }
 
 // A line that is too long for an edit.
-fn long_line(session: Session, line: &[u8; MOST_LINE]) -> Session {
+fn long_line(held: Held, line: &[u8; MOST_LINE]) -> Held
+    ensures { λ r. ⌜ SameBlock (held .state) (held .nodes) (r .state) (r .nodes) ⌝ }
+{
     let whole: &[u8] = line;
-    no_edit(session, whole)
+    no_edit(held, whole)
 }
 
-// The next line of the session.
-fn step(session: Session, work: &mut [u8; MOST_WORK]) -> Session {
+// The next line.
+fn step(held: Held, work: &mut [u8; MOST_WORK]) -> Held
+    ensures { λ r. ⌜ StaysOpen (held .state) (held .nodes) (now (work .entry)) (r .state) (r .nodes) (now (work .exit)) ⌝ }
+{
     let mut line = [0u8; MOST_LINE];
     match read_line(&mut line) {
-        Line::End => closed(session),
-        Line::Long => long_line(session, &line),
-        Line::Of(count) => take_line(session, &line, count, work),
+        Line::End => closed(held),
+        Line::Long => long_line(held, &line),
+        Line::Of(count) => take_line(held, &line, count, work),
     }
 }
 
-// Line by line until the session ends. That an input ends is not known, so the turns are counted down from a number that no session uses up.
-fn run(session: Session, work: &mut [u8; MOST_WORK]) -> Session {
-    let mut now = session;
+// Line by line until the edits end. That an input ends is not known, so the turns are counted down from a number that nobody uses up.
+fn run(held: Held, work: &mut [u8; MOST_WORK]) -> Held
+    ensures { λ r. ⌜ StaysOpen (held .state) (held .nodes) (now (work .entry)) (r .state) (r .nodes) (now (work .exit)) ⌝ }
+{
+    let mut last = held;
     let mut turns = u64::MAX;
     while turns > 0 {
-        if !now.open {
+        if !last.more {
             break;
         }
-        now = step(now, work);
+        last = step(last, work);
         turns -= 1;
     }
-    now
+    last
 }
+
+// ---- the whole
 
 // The entries of node records before a block is opened.
 fn no_entry() -> NodeRecord {
@@ -378,29 +408,44 @@ fn no_entry() -> NodeRecord {
     }
 }
 
-// Edits of the block that these bytes are. A session that has printed nothing ends with the answer for the block as it then is.
-pub fn edit(bytes: &[u8]) {
-    let mut work = [0u8; MOST_WORK];
-    let seen = edit_trial::open_over(bytes, MOST_NODES, [no_entry(); MOST_NODES], &mut work);
+// The reply to opening a block, and the block, which is open unless that is a refusal.
+struct Opened {
+    reply: Reply,
+    held: Held,
+}
+
+fn open(bytes: &[u8], work: &mut [u8; MOST_WORK]) -> Opened
+    ensures reply { λ r. ⌜ replyOf (r .reply) ≡ reply (now (bytes .entry)) most-nodes (length (now (work .entry))) ⌝ }
+    ensures open { λ r. ⌜ ((n : Records.Netlist) → admitted (now (bytes .entry)) most-nodes (length (now (work .entry))) ≡ answered n →
+        IsOpen n (r .held .state) (r .held .nodes) (now (work .exit))) ⌝ }
+{
+    let seen = edit_trial::open_over(bytes, MOST_NODES, [no_entry(); MOST_NODES], work);
     let edited = seen.edited;
     let reply = edited.reply;
+    let state = edited.state;
+    let nodes = seen.nodes;
+    let held = Held {
+        state,
+        nodes,
+        spoken: false,
+        more: true,
+    };
+    Opened { reply, held }
+}
+
+// Edits of the block that these bytes are. Where they print nothing, the answer for the block is printed at the end.
+pub fn edit(bytes: &[u8]) {
+    let mut work = [0u8; MOST_WORK];
+    let opened = open(bytes, &mut work);
+    let reply = opened.reply;
+    let held = opened.held;
     match reply {
         Reply::Refused(refusal) => say_refused(refusal, 0),
         Reply::Answered(answer) => {
-            let state = edited.state;
-            let nodes = seen.nodes;
-            let session = Session {
-                state,
-                nodes,
-                answer,
-                spoken: false,
-                open: true,
-            };
-            let last = run(session, &mut work);
+            let last = run(held, &mut work);
+            let state = last.state;
+            let classes = state.classes;
             if !last.spoken {
-                let answer = last.answer;
-                let state = last.state;
-                let classes = state.classes;
                 say_answer(answer, classes);
             }
         }

@@ -1,16 +1,18 @@
--- `telgouin::editing::run` is safe and ends. Assumes nothing.
+-- `telgouin::editing::run` meets its contract. The loop's invariant: the block is open if it was so before the first line. The measure is what is left
+-- of the turns. Assumes nothing.
 use borrow.Author.Needs.{needs}
+use Rattle.telgouin.specs.Editing.{StaysOpen}
 use Rattle.telgouin.proofs.editing.run.Statement.{statement}
 use Rattle.telgouin.proofs.editing.run.Tie as tie
 
 abbrev Inv-loop : tie.InvT-loop
-Inv-loop work₀ now₀ turns₀ work now turns = Unit {0}
+Inv-loop work₀ last₀ turns₀ work last turns = StaysOpen (last₀ .state) (last₀ .nodes) work₀ (last .state) (last .nodes) work
 
 abbrev μ-loop : tie.MeasureT-loop
-μ-loop work₀ now₀ turns₀ work now turns = turns
+μ-loop work₀ last₀ turns₀ work last turns = turns
 
 loop-holds : tie.Need-loop-holds Inv-loop μ-loop
-loop-holds c = search needs
+loop-holds c = λ held. held
 
 step-requires : tie.Need-step-requires Inv-loop μ-loop
 step-requires c κs = search needs
@@ -22,13 +24,13 @@ loop-less : tie.Need-loop-less Inv-loop μ-loop
 loop-less c = search needs
 
 loop-again : tie.Need-loop-again Inv-loop μ-loop
-loop-again c = search needs
+loop-again c = λ held. c .step .ensures (c .before .before .before .before .before .loop .inv held)
 
 returns : tie.Need-returns Inv-loop μ-loop
-returns c = search needs
+returns c = c .before .loop .inv
 
 returns-2 : tie.Need-returns-2 Inv-loop μ-loop
-returns-2 c = search needs
+returns-2 c = c .before .before .before .loop .inv
 
 pub run-spec : {M : Type 1} → statement M
 run-spec =
