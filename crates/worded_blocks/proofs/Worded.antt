@@ -1,8 +1,7 @@
 -- Lines in words, bit by bit: a line is its word, its numbers with a blank before each, and a line feed; one number more, and one line more, goes
 -- behind those before it. Assumes nothing.
 use Prim.Native.Nat.{ℕ, _+_, _/_, _%_, _^_, _<_}
-use mathlib.Core.Path.{_≡_, refl, ap}
-use mathlib.Core.Bool.{true, false}
+use mathlib.Core.Path.{_≡_, refl}
 use mathlib.Core.List.{List, [], _∷_, _++_, map, map-append, append-nil, append-assoc}
 use native.Mathlib.Numerals.{add-one}
 use lib.ListN.{length, getD, take}
@@ -43,7 +42,7 @@ module _ (s i : ℕ) where
 
 -- ---- lines
 
-lines-append : (records more : List Record) → recordLines (records ++ more) ≡ recordLines records ++ recordLines more
+pub lines-append : (records more : List Record) → recordLines (records ++ more) ≡ recordLines records ++ recordLines more
 unfolding recordLines
 lines-append [] more = refl
 lines-append (r ∷ records) more = rw (lines-append records more, append-assoc)

@@ -20,11 +20,14 @@ variablesBelow (suc k) s = variablesBelow k s ++ cond (odd (s / 2 ^ k)) (k ∷ [
 unfoldable pub numbersOf : Cell → List ℕ
 numbersOf cell = operands cell ++ variablesBelow most-variables (setOf cell)
 
--- the line of a record
+-- a record in words, and its line
+unfoldable pub recordWords : Record → List (List ℕ)
+recordWords end = word "end" ∷ []
+recordWords (variable c) = className c ∷ []
+recordWords (node cell) = kindName cell ∷ map decimal (numbersOf cell)
+
 unfoldable pub recordLine : Record → List ℕ
-recordLine end = line (word "end" ∷ [])
-recordLine (variable c) = line (className c ∷ [])
-recordLine (node cell) = line (kindName cell ∷ map decimal (numbersOf cell))
+recordLine r = line (recordWords r)
 
 unfoldable pub recordLines : List Record → List ℕ
 recordLines [] = []

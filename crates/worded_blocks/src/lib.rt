@@ -1,5 +1,6 @@
-// An open block written out in words: the lines of its variables, those of its nodes, and the end. Each function but the last puts
-// lines behind the first `at` bytes of a text, or at its front, and answers where the next ones go; its caller shows that there is room.
+// An open block written out in words: the lines of its variables, those of its nodes, and the end. What is written, read again, is the
+// block (`words-again` of `proofs/ReadAgain`). Each function but the last puts lines behind the first `at` bytes of a text, or at its
+// front, and answers where the next ones go; its caller shows that there is room.
 ghost use mathlib.Core.Path.{_≡_};
 ghost use mathlib.Core.List.{List, [], _∷_, map};
 ghost use Prim.Native.Nat.{ℕ, _+_, _*_, _≤_};

@@ -9,7 +9,7 @@ use Rattle.rules.specs.Records.{Class, secret, mask, public, variable, classByt
 use Rattle.rules.specs.Listing.{word, line}
 use Rattle.lines.specs.Text.{Appended}
 use Rattle.lines.proofs.Text.{appended-as}
-use Rattle.worded_blocks.specs.Worded.{className, recordLine}
+use Rattle.worded_blocks.specs.Worded.{className, recordWords, recordLine}
 use Rattle.worded_blocks.proofs.put_class.Statement.{statement}
 use Rattle.worded_blocks.proofs.put_class.Tie as tie
 
@@ -57,21 +57,21 @@ same-length : tie.Need-same-length
 same-length c = search needs
 
 returns : tie.Need-returns
-unfolding lineFor word line className recordLine
+unfolding lineFor word line className recordWords recordLine
 returns c = (said 0 (c .before .before .before .before .before .match .keys1) (c .before .before .put-word .ensures), omega arith)
 
 same-length-2 : tie.Need-same-length-2
 same-length-2 c = search needs
 
 returns-2 : tie.Need-returns-2
-unfolding lineFor word line className recordLine
+unfolding lineFor word line className recordWords recordLine
 returns-2 c = (said 1 (c .before .before .before .before .before .match .keys2) (c .before .before .put-word2 .ensures), omega arith)
 
 same-length-3 : tie.Need-same-length-3
 same-length-3 c = search needs
 
 returns-3 : tie.Need-returns-3
-unfolding lineFor word line className recordLine
+unfolding lineFor word line className recordWords recordLine
 returns-3 c = (λ class e. said 2 (omega (arith, numbered class)) (c .before .before .put-word3 .ensures) class e, omega arith)
 
 pub put-class-spec : {M : Type 1} → statement M

@@ -11,7 +11,7 @@ use Rattle.rules.specs.Listing.{word, decimal, line, kindName}
 use Rattle.rules.specs.Slices.{entry}
 use Rattle.lines.specs.Text.{Appended}
 use Rattle.lines.proofs.Text.{appended-as}
-use Rattle.worded_blocks.specs.Worded.{variablesBelow, numbersOf, recordLine}
+use Rattle.worded_blocks.specs.Worded.{variablesBelow, numbersOf, recordWords, recordLine}
 use borrow.Author.Needs.{needs}
 use Rattle.worded_blocks.proofs.put_node.Statement.{statement}
 use Rattle.worded_blocks.proofs.put_node.Tie as tie
@@ -34,7 +34,7 @@ lineFor n kind =
     (one (word "reg"))
 
 named : (cell : Cell) → lineFor (entry cell) (kindOf cell) ≡ recordLine (node cell)
-unfolding lineFor entry kindOf kindName operands setOf variablesBelow numbersOf recordLine
+unfolding lineFor entry kindOf kindName operands setOf variablesBelow numbersOf recordWords recordLine
 named (input s) = refl
 named (NOT a) = refl
 named (XOR a b) = refl

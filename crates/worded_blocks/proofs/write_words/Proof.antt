@@ -11,7 +11,7 @@ use Rattle.open_blocks.specs.Meaning.{IsOpen}
 use Rattle.lines.specs.Text.{Appended}
 use Rattle.lines.proofs.Text.{appended-more}
 use Rattle.written_blocks.proofs.Records.{state-variables, state-count}
-use Rattle.worded_blocks.specs.Worded.{recordLine, wordedOut}
+use Rattle.worded_blocks.specs.Worded.{recordWords, recordLine, wordedOut}
 use Rattle.worded_blocks.proofs.write_words.Statement.{statement}
 use Rattle.worded_blocks.proofs.write_words.Tie as tie
 
@@ -40,7 +40,7 @@ put-word-requires : tie.Need-put-word-requires
 put-word-requires c κs = search needs
 
 returns-3 : tie.Need-returns-3
-unfolding word line recordLine wordedOut
+unfolding word line recordWords recordLine wordedOut
 returns-3 c = (λ n work opened. omega (arith, wholly n work opened .place), (λ n work opened. wholly n work opened .bytes, omega arith))
   where
     start : tie.Start
