@@ -1,2 +1,4 @@
 -- What this crate's proofs share.
 pub mod Numbers
+pub mod Scans
+pub mod Words

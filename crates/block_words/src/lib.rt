@@ -2,10 +2,13 @@
 // bytes. Only the form of each line is looked at; whether the records obey the rules is for the checker to say.
 ghost use mathlib.Core.Path.{_≡_};
 ghost use mathlib.Core.Bool.{true, false};
+ghost use mathlib.Core.List.{[]};
 ghost use Prim.Native.Nat.{_+_, _-_, _*_, _≤_, _<_};
-ghost use lib.ListN.{length};
+ghost use lib.ListN.{length, getD, drop};
 ghost use Rattle.block_words.specs.Bounds.{RecordBound, BlockBound};
 ghost use Rattle.block_words.specs.Numbers.{isDigit, numberIn};
+ghost use Rattle.block_words.specs.Scans.{first, stopsAt, part, NextWord};
+ghost use Rattle.block_words.specs.Words.{isBlank, words, same, cut};
 
 // The bytes of a block that are looked at, and the bytes of a text in words.
 pub const MOST_BLOCK: usize = 1024;
@@ -60,28 +63,37 @@ enum Input {
 
 // ---- words
 
-fn is_blank(letter: u8) -> bool {
-    match letter {
-        b' ' | b'\t' | b'\r' => true,
-        _ => false,
+// What a scan stops at: what is no blank, the end of a word, or the end of a line.
+enum Stop {
+    NoBlank,
+    WordEnd,
+    LineEnd,
+}
+
+fn is_blank(letter: u8) -> bool
+    ensures { λ r. ⌜ r ≡ isBlank letter ⌝ }
+{
+    (letter == b' ') | ((letter == b'\t') | (letter == b'\r'))
+}
+
+fn stops(stop: Stop, letter: u8) -> bool
+    ensures { λ r. ⌜ r ≡ stopsAt stop letter ⌝ }
+{
+    match stop {
+        Stop::NoBlank => !is_blank(letter),
+        Stop::WordEnd => is_blank(letter) | (letter == b'#'),
+        Stop::LineEnd => letter == b'\n',
     }
 }
 
-fn ends_word(letter: u8) -> bool {
-    match letter {
-        b' ' | b'\t' | b'\r' | b'#' => true,
-        _ => false,
-    }
-}
-
-// The first place from `from` on where no blank stands, or the end of the line.
-fn past_blanks(line: &[u8], from: usize) -> usize
-    requires { ⌜ from ≤ length (now line) ⌝ }
-    ensures { λ r. ⌜ (from ≤ r) × (r ≤ length (now (line .entry))) ⌝ }
+// The first place from `from` on of a letter that the scan stops at, or the end of the text.
+fn past(text: &[u8], from: usize, stop: Stop) -> usize
+    requires { ⌜ from ≤ length (now text) ⌝ }
+    ensures { λ r. ⌜ (r ≤ length (now (text .entry))) × (r ≡ from + first (stopsAt stop) (drop from (now (text .entry)))) ⌝ }
 {
     let mut at = from;
-    while at < line.len() {
-        if !is_blank(line[at]) {
+    while at < text.len() {
+        if stops(stop, text[at]) {
             return at;
         }
         at += 1;
@@ -89,49 +101,46 @@ fn past_blanks(line: &[u8], from: usize) -> usize
     at
 }
 
-// The first place from `from` on where a blank or a comment starts, or the end of the line.
-fn past_word(line: &[u8], from: usize) -> usize
-    requires { ⌜ from ≤ length (now line) ⌝ }
-    ensures { λ r. ⌜ (from ≤ r) × (r ≤ length (now (line .entry))) ⌝ }
+// Where the next word of a line from `at` on starts and ends; it starts where it ends if there is none. A comment, from `#` on, has no
+// words.
+fn next_word(line: &[u8], at: usize) -> Place
+    requires { ⌜ at ≤ length (now line) ⌝ }
+    ensures { λ r. ⌜ NextWord (now (line .entry)) at (r .from) (r .to) ⌝ }
 {
-    let mut at = from;
-    while at < line.len() {
-        if ends_word(line[at]) {
-            return at;
-        }
-        at += 1;
-    }
-    at
-}
-
-// Where word `k` of a line, from 0, starts and ends; it starts where it ends if there is none. A comment, from `#` on, has no words.
-pub fn word_at(line: &[u8], k: usize) -> Place
-    ensures { λ r. ⌜ (r .from ≤ r .to) × (r .to ≤ length (now (line .entry))) ⌝ }
-{
-    let mut from = past_blanks(line, 0);
-    let mut to = past_word(line, from);
-    let mut i = 0;
-    while i < k {
-        if from == to {
-            return Place { from, to };
-        }
-        from = past_blanks(line, to);
-        to = past_word(line, from);
-        i += 1;
-    }
+    let from = past(line, at, Stop::NoBlank);
+    let to = past(line, from, Stop::WordEnd);
     Place { from, to }
 }
 
-fn count_words(line: &[u8]) -> usize {
+// Where word `k` of a line, from 0, starts and ends; it starts where it ends if there is none.
+pub fn word_at(line: &[u8], k: usize) -> Place
+    ensures { λ r. ⌜ (r .from ≤ r .to) × (r .to ≤ length (now (line .entry))) ×
+        (part (r .from) (r .to) (now (line .entry)) ≡ getD (words (now (line .entry))) k []) ⌝ }
+{
+    let mut at = 0;
+    let mut i = 0;
+    while i < k {
+        let word = next_word(line, at);
+        if word.from == word.to {
+            return word;
+        }
+        at = word.to;
+        i += 1;
+    }
+    next_word(line, at)
+}
+
+fn count_words(line: &[u8]) -> usize
+    ensures { λ r. ⌜ r ≡ length (words (now (line .entry))) ⌝ }
+{
     let mut count: usize = 0;
     let mut at = 0;
     while at < line.len() {
-        let from = past_blanks(line, at);
-        let to = past_word(line, from);
-        if from == to {
+        let word = next_word(line, at);
+        if word.from == word.to {
             return count;
         }
-        at = to;
+        at = word.to;
         count += 1;
     }
     count
@@ -139,7 +148,7 @@ fn count_words(line: &[u8]) -> usize {
 
 // Whether a word has the same bytes as another.
 pub fn is_word(word: &[u8], other: &[u8]) -> bool
-    ensures { λ r. ⌜ (r ≡ true → now (word .entry) ≡ now (other .entry)) × (now (word .entry) ≡ now (other .entry) → r ≡ true) ⌝ }
+    ensures { λ r. ⌜ r ≡ same (now (word .entry)) (now (other .entry)) ⌝ }
 {
     if word.len() != other.len() {
         return false;
@@ -194,7 +203,7 @@ pub fn number_of(word: &[u8]) -> Number
 
 // The number that a word is if it is below a limit, and else that limit.
 fn number_below(word: &[u8], limit: usize) -> usize
-    ensures { λ r. ⌜ r ≤ limit ⌝ }
+    ensures { λ r. ⌜ (r ≡ cut limit (numberIn (now (word .entry)))) × (r ≤ limit) ⌝ }
 {
     match number_of(word) {
         Number::Is(number) => {
@@ -209,7 +218,7 @@ fn number_below(word: &[u8], limit: usize) -> usize
 
 // The operand that word `k` of a line is, and 256 if it is none.
 fn operand_at(line: &[u8], k: usize) -> usize
-    ensures { λ r. ⌜ r ≤ 256 ⌝ }
+    ensures { λ r. ⌜ r ≡ cut 256 (numberIn (getD (words (now (line .entry))) k [])) ⌝ }
 {
     let place = word_at(line, k);
     let from = place.from;
@@ -245,8 +254,9 @@ fn input_of(numbers: &[u8]) -> Input {
     let mut set: u16 = 0;
     let mut at = 0;
     while at < numbers.len() {
-        let from = past_blanks(numbers, at);
-        let to = past_word(numbers, from);
+        let word = next_word(numbers, at);
+        let from = word.from;
+        let to = word.to;
         if from == to {
             return Input::Set(set);
         }
@@ -371,21 +381,6 @@ pub fn record_of(line: &[u8], bytes: &mut [u8; 3]) -> Worded
 
 // ---- the block of a text
 
-// The place of the next line feed from `from` on, or the end of the text.
-fn line_end(text: &[u8], from: usize) -> usize
-    requires { ⌜ from ≤ length (now text) ⌝ }
-    ensures { λ r. ⌜ (from ≤ r) × (r ≤ length (now (text .entry))) ⌝ }
-{
-    let mut at = from;
-    while at < text.len() {
-        if text[at] == b'\n' {
-            return at;
-        }
-        at += 1;
-    }
-    at
-}
-
 // The place of the next line, behind one that starts at `from` and ends at `end`.
 fn next_line(text: &[u8], from: usize, end: usize) -> usize
     requires { ⌜ (from < length (now text)) × (from ≤ end) × (end ≤ length (now text)) ⌝ }
@@ -454,7 +449,7 @@ pub fn block_of(
     let mut line: usize = 0;
     let mut at = 0;
     while at < text.len() {
-        let end = line_end(text, at);
+        let end = past(text, at, Stop::LineEnd);
         let mut record = [0u8; 3];
         line += 1;
         match record_of(&text[at..end], &mut record) {

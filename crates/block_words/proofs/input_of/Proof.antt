@@ -14,11 +14,8 @@ abbrev μ-loop : tie.MeasureT-loop
 loop-holds : tie.Need-loop-holds Inv-loop μ-loop
 loop-holds c = search needs
 
-past-blanks-requires : tie.Need-past-blanks-requires Inv-loop μ-loop
-past-blanks-requires c κs = search needs
-
-past-word-requires : tie.Need-past-word-requires Inv-loop μ-loop
-past-word-requires c κs = search needs
+next-word-requires : tie.Need-next-word-requires Inv-loop μ-loop
+next-word-requires c κs = search needs
 
 returns : tie.Need-returns Inv-loop μ-loop
 returns c = search needs
@@ -63,8 +60,7 @@ input-of-spec =
     Inv-loop
     μ-loop
     loop-holds
-    past-blanks-requires
-    past-word-requires
+    next-word-requires
     returns
     sub-number-below
     part-number-below-start
