@@ -1,4 +1,7 @@
 -- What this crate's proofs share.
+pub mod Lines
 pub mod Numbers
+pub mod Records
 pub mod Scans
+pub mod Stores
 pub mod Words

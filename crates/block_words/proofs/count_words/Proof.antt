@@ -1,13 +1,12 @@
 -- `block_words::count_words` meets its contract. The loop's invariant: the words of the line are those counted and those from here on. The measure is
 -- what is left of the line. Assumes nothing.
 use Prim.Native.Nat.{_+_, _-_, _≤_}
-use mathlib.Core.Path.{_≡_, refl, ap, _∙_}
+use mathlib.Core.Path.{_≡_, ap}
 use native.Mathlib.Omega.{arith}
 use borrow.Author.Needs.{needs}
 use lib.ListN.{length, drop}
-use denote.Ref.{now}
 use Rattle.block_words.specs.Words.{words}
-use Rattle.block_words.proofs.Words.{none-left, one-more, no-line}
+use Rattle.block_words.proofs.Words.{none-left, one-more}
 use Rattle.block_words.proofs.count_words.Statement.{statement}
 use Rattle.block_words.proofs.count_words.Tie as tie
 
@@ -35,19 +34,7 @@ loop-less c = search needs
 loop-again : tie.Need-loop-again Inv-loop μ-loop
 loop-again c = (search needs, search needs, omega (arith, ap length (one-more (c .before .before .next-word .ensures) (c .if1 .left))))
 
-returns-2 : tie.Need-returns-2 Inv-loop μ-loop
-returns-2 c = omega (arith, ap length (no-line (now (c .before .before .before .args .line)) _ (c .loop-test .left)))
-
 pub count-words-spec : {M : Type 1} → statement M
 count-words-spec =
     tie.close
-    (tie.spec
-    Inv-loop
-    μ-loop
-    loop-holds
-    next-word-requires
-    returns
-    add-count
-    loop-less
-    loop-again
-    returns-2)
+    (tie.spec Inv-loop μ-loop loop-holds next-word-requires returns add-count loop-less loop-again)

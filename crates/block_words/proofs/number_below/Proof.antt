@@ -16,7 +16,7 @@ returns : tie.Need-returns
 unfolding cut
 returns c =
     let is = sym (c .before .before .before .before .number-of .ensures) ∙ c .before .before .number .given .1 in
-    (rw is (omega arith), omega arith)
+    rw is (omega arith)
 
 enum-told : tie.Need-enum-told
 enum-told c = search needs
@@ -25,11 +25,11 @@ returns-2 : tie.Need-returns-2
 unfolding cut
 returns-2 c =
     let is = sym (c .before .before .before .before .number-of .ensures) ∙ c .before .before .number .given .1 in
-    (rw is (omega arith), omega arith)
+    rw is (omega arith)
 
 returns-3 : tie.Need-returns-3
 unfolding cut
-returns-3 c = (rw (sym (c .before .before .number-of .ensures) ∙ c .enum-told .given .1), omega arith)
+returns-3 c = rw (sym (c .before .before .number-of .ensures) ∙ c .enum-told .given .1)
 
 pub number-below-spec : {M : Type 1} → statement M
 number-below-spec =

@@ -24,7 +24,7 @@ number-below-requires : tie.Need-number-below-requires
 number-below-requires c κs = search needs
 
 returns : tie.Need-returns
-returns c = c .number-below .ensures .0 ∙ ap (λ (word : List ℕ). cut 256 (numberIn word)) (c .before .before .word-at .ensures .2)
+returns c = c .number-below .ensures ∙ ap (λ (word : List ℕ). cut 256 (numberIn word)) (c .before .before .word-at .ensures .2)
 
 pub operand-at-spec : {M : Type 1} → statement M
 operand-at-spec =
