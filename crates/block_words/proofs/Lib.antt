@@ -2,6 +2,7 @@
 pub mod Lines
 pub mod Numbers
 pub mod Records
+pub mod Samples
 pub mod Scans
 pub mod Stores
 pub mod Words

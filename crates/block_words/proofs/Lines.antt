@@ -13,7 +13,7 @@ use Rattle.rules.specs.Records.{Record, recordBytes}
 use Rattle.block_words.specs.declared.Stop.the-variants as Stop
 use Rattle.block_words.specs.declared.Fault.{Fault}
 use Rattle.block_words.specs.Scans.{first, stopsAt, part}
-use Rattle.block_words.specs.Words.{closed, linesBehind, linesOf, words, Said, nothing, says, wrong, recordIn, block, wrongIn, blockBehind, blockIn}
+use Rattle.block_words.specs.Words.{closed, linesBehind, linesOf, words, nothing, says, wrong, recordIn, wrongIn, blockBehind, blockIn}
 use Rattle.block_words.specs.Meaning.{IsRecord, IsBlock}
 use Rattle.block_words.proofs.Stores.{sets-cut, front-more}
 

@@ -10,12 +10,13 @@ use lib.ListN.{length, getD, take, drop, set, length-set, length-drop, take-appe
 use lib.Seq.{sets, set-out, take-all, take-suc, take-append-le, take-append-add, length-take-le}
 
 -- two runs, one behind the other, are one
-pub sets-append : (l : List ℕ) (i : ℕ) (xs ys : List ℕ) → sets (sets l i xs) (i + length xs) ys ≡ sets l i (xs ++ ys)
+sets-append : (l : List ℕ) (i : ℕ) (xs ys : List ℕ) → sets (sets l i xs) (i + length xs) ys ≡ sets l i (xs ++ ys)
 sets-append l i [] ys = rw add-zero
 sets-append l i (x ∷ xs) ys =
     let next : i + length (x ∷ xs) ≡ suc i + length xs = omega arith in
     rw next (sets-append (set l i x) (suc i) xs ys)
 
+-- a run that is one store longer
 pub sets-more : (l : List ℕ) (i : ℕ) (xs : List ℕ) (k : ℕ) (now : List ℕ) → k < length xs → now ≡ sets l i (take k xs)
     → set now (i + k) (getD xs k 0) ≡ sets l i (take (k + 1) xs)
 sets-more l i xs k now h e =
@@ -39,7 +40,7 @@ sets-behind : (x : ℕ) (l : List ℕ) (i : ℕ) (xs : List ℕ) → sets (x ∷
 sets-behind x l i [] = refl
 sets-behind x l i (y ∷ ys) = sets-behind x (set l i y) (suc i) ys
 
-pub sets-front : (n : ℕ) (l xs : List ℕ) → n ≤ length l → n ≤ length xs → take n (sets l 0 xs) ≡ take n xs
+sets-front : (n : ℕ) (l xs : List ℕ) → n ≤ length l → n ≤ length xs → take n (sets l 0 xs) ≡ take n xs
 sets-front zero l xs h k = refl
 sets-front (suc n) [] xs h k = absurd (omega arith)
 sets-front (suc n) (y ∷ l) [] h k = absurd (omega arith)

@@ -7,7 +7,7 @@ use native.Mathlib.Omega.{arith}
 use native.Mathlib.Nat.{add-zero, sub-self}
 use borrow.Author.Tests.{eqb-true, eq-eqb}
 use lib.Dec.{eqb}
-use lib.ListN.{length, getD, take, drop, length-take, length-drop, List·getD-eq-default, drop-of-length-le}
+use lib.ListN.{length, getD, take, drop, length-take, length-drop, List·getD-eq-default}
 use lib.Seq.{drop-drop, getD-drop, take-all}
 use Rattle.block_words.specs.declared.Stop.the-variants as Stop
 use Rattle.block_words.specs.Scans.{first, stopsAt, part, opened, NextWord}
@@ -80,11 +80,6 @@ unfolding opened
 opened-first [] behind = refl
 opened-first (letter ∷ letters) behind = refl
 
--- no words are behind the end of a line
-pub no-line : (line : List ℕ) (at : ℕ) → length line ≤ at → words (drop at line) ≡ []
-unfolding words wordsBehind closed
-no-line line at h = ap words (drop-of-length-le line h)
-
 module _ {line : List ℕ} {at from to : ℕ} (w : NextWord line at from to) where
   part-long : length (part from to line) ≡ to - from
   part-long = let h = w .within in simp (length-take, length-drop) (omega arith)
@@ -108,7 +103,7 @@ module _ {line : List ℕ} {at from to : ℕ} (w : NextWord line at from to) whe
   pub word-passed : (i : ℕ) → drop i (words line) ≡ words (drop at line) → (from ≡ to → ⊥) → drop (i + 1) (words line) ≡ words (drop to line)
   word-passed i passed e = sym (drop-drop 1 i (words line)) ∙ ap (drop 1) (passed ∙ one-more e)
 
--- what stands behind a word, up to the end of the line
+-- what stands behind a place, up to the end of the line
 pub to-the-end : (at : ℕ) (line : List ℕ) → take (length line - at) (drop at line) ≡ drop at line
 to-the-end at line = take-all (length line - at) (drop at line) (omega (arith, length-drop at line))
 

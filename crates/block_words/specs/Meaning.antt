@@ -22,7 +22,7 @@ lineOf (says r) =
     Line.Record (length bytes) (getD bytes 0 0) (getD bytes 1 0) (getD bytes 2 0)
 lineOf (wrong fault) = Line.Wrong fault
 
--- a line says a record, whose bytes are the first n of these; a record has at most three
+-- a line says a record, whose bytes are the first n of those that were stored; a record has at most three
 pub record IsRecord (said : Said) (n : ℕ) (bytes : List ℕ) : Type 0 where
   pub own : Record
   pub is : said ≡ says own
@@ -38,8 +38,8 @@ TellsRecord (Worded.Wrong fault) bytes said = said ≡ wrong fault
 
 -- ---- a text
 
--- A text says a block, of which the first 1,024 bytes are kept: they are the first n of these. The lines of its records are as they were
--- stored, and the last line has this number, or the text has no line.
+-- A text says a block, and of its bytes the first n were stored: all of them, or 1,024 of more. The lines of its records were stored too, and `last` is
+-- how many lines the text has, or 1 if it has none.
 pub record IsBlock (said : BlockSaid) (text : List ℕ) (n last : ℕ) (bytes lines : List ℕ) : Type 0 where
   pub own : List ℕ
   pub is : said ≡ block own lines

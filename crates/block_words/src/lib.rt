@@ -300,6 +300,28 @@ fn binary_record(numbers: &[u8], kind: u8) -> Line
     Line::Record(3, kind, first as u8, second as u8)
 }
 
+// The record of a node that is no input.
+fn gate_record(word: &[u8], numbers: &[u8]) -> Line
+    ensures { λ r. ⌜ r ≡ lineOf (readBy (drop 5 forms) (now (word .entry)) (words (now (numbers .entry)))) ⌝ }
+{
+    if is_word(word, b"not") {
+        return unary_record(numbers, 3);
+    }
+    if is_word(word, b"xor") {
+        return binary_record(numbers, 4);
+    }
+    if is_word(word, b"and") {
+        return binary_record(numbers, 5);
+    }
+    if is_word(word, b"or") {
+        return binary_record(numbers, 6);
+    }
+    if is_word(word, b"reg") {
+        return unary_record(numbers, 7);
+    }
+    Line::Wrong(Fault::Record)
+}
+
 fn record_with(word: &[u8], numbers: &[u8]) -> Line
     ensures { λ r. ⌜ r ≡ lineOf (readBy forms (now (word .entry)) (words (now (numbers .entry)))) ⌝ }
 {
@@ -318,22 +340,7 @@ fn record_with(word: &[u8], numbers: &[u8]) -> Line
     if is_word(word, b"in") {
         return input_record(numbers);
     }
-    if is_word(word, b"not") {
-        return unary_record(numbers, 3);
-    }
-    if is_word(word, b"xor") {
-        return binary_record(numbers, 4);
-    }
-    if is_word(word, b"and") {
-        return binary_record(numbers, 5);
-    }
-    if is_word(word, b"or") {
-        return binary_record(numbers, 6);
-    }
-    if is_word(word, b"reg") {
-        return unary_record(numbers, 7);
-    }
-    Line::Wrong(Fault::Record)
+    gate_record(word, numbers)
 }
 
 // The record that a line says, without its line feed: no words, so many bytes at the front of `bytes`, or what was expected instead.

@@ -1,11 +1,14 @@
 -- `block_words::block_of` meets its contract. The loop's invariant: what the text says is said by the block so far and the lines from here on. The
 -- measure is what is left of the text. Assumes nothing.
-use Prim.Native.Nat.{_-_, _≤_}
-use mathlib.Core.Path.{_≡_, refl, sym, ap, _∙_}
-use mathlib.Core.Logic.{⊎-elim}
-use native.Mathlib.Omega.{arith}
+use Prim.Native.Nat.{_+_, _-_, _≤_, min}
+use mathlib.Core.Path.{_≡_}
+use mathlib.Core.List.{_∷_}
+use mathlib.Core.Logic.{inl, inr}
 use borrow.Author.Needs.{needs}
-use lib.ListN.{length}
+use lib.ListN.{length, drop}
+use denote.Ref.{now}
+use Rattle.block_words.specs.Scans.{part}
+use Rattle.block_words.specs.Words.{linesOf}
 use Rattle.block_words.proofs.Lines.{line-found, Reached, reached-first, reached-last, reached-nothing, reached-wrong, reached-record}
 use Rattle.block_words.proofs.block_of.Statement.{statement}
 use Rattle.block_words.proofs.block_of.Tie as tie
@@ -15,6 +18,14 @@ Inv-loop text bytes₀ lines₀ count₀ line₀ at₀ bytes lines count line at
 
 abbrev μ-loop : tie.MeasureT-loop
 μ-loop text bytes₀ lines₀ count₀ line₀ at₀ bytes lines count line at = length text - at
+
+-- the line that is read
+found : (c : tie.After-record-of Inv-loop μ-loop)
+    → let text = now (c .before .before .before .before .before .before .before .args .text) in
+    let at = c .before .before .before .before .before .loop .at in
+    let end = c .before .before .before .past .result in
+    linesOf (drop at text) ≡ part at end text ∷ linesOf (drop (min (end + 1) (length text)) text)
+found c = line-found _ _ _ (c .before .before .before .before .loop-test .taken) (c .before .before .before .past .ensures .1)
 
 loop-holds : tie.Need-loop-holds Inv-loop μ-loop
 loop-holds c = (search needs, search needs, reached-first _ _ _)
@@ -57,9 +68,7 @@ enum-known-fault c = search needs
 returns : tie.Need-returns Inv-loop μ-loop
 returns c =
     let told = c .before .before .before in
-    let turn = told .before .before .before .before in
-    reached-wrong (turn .before .loop .inv .2) _ _ _ (line-found _ _ _ (turn .loop-test .taken) (told .before .before .before .past .ensures .1))
-    (rw (c .before .fault .given .1) at (told .record-of .ensures))
+    reached-wrong (told .before .before .before .before .before .loop .inv .2) _ _ _ (found told) (rw (c .before .fault .given .1) at (told .record-of .ensures))
 
 add-lower : tie.Need-add-lower Inv-loop μ-loop
 add-lower c = search needs
@@ -73,16 +82,16 @@ loop-less c = search needs
 loop-again : tie.Need-loop-again Inv-loop μ-loop
 loop-again c =
     let told = c .before .before in
-    let turn = told .before .before .before .before in
-    let reached = turn .before .loop .inv .2 in
-    let found = line-found _ _ _ (turn .loop-test .taken) (told .before .before .before .past .ensures .1) in (
+    let reached = told .before .before .before .before .before .loop .inv .2 in (
       search needs,
       search needs,
       rw (c .lower .ensures)
-          (⊎-elim (λ w. rw (w .2, w .3, w .4) (reached-nothing reached _ _ found (rw (w .1 .given .1) at (told .record-of .ensures))))
-          (λ w. rw (w .7, w .8, w .9, w .6 .ensures .0, w .6 .ensures .1, w .4 .ensures)
-          (reached-record reached _ _ found _ _ (rw (w .1 .given .1) at (told .record-of .ensures)) (search needs) (search needs)))
-          (c .before .match .came)),
+          (elim (c .before .match .came) [
+            | inl w ↦ rw (w .2, w .3, w .4) (reached-nothing reached _ _ (found told) (rw (w .1 .given .1) at (told .record-of .ensures)))
+            | inr w ↦
+                rw (w .7, w .8, w .9, w .6 .ensures .0, w .6 .ensures .1, w .4 .ensures)
+                (reached-record reached _ _ (found told) _ _ (rw (w .1 .given .1) at (told .record-of .ensures)) (search needs) (search needs))
+          ]),
     )
 
 at-least-one-requires : tie.Need-at-least-one-requires Inv-loop μ-loop

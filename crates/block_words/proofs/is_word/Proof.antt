@@ -19,7 +19,7 @@ abbrev μ-loop : tie.MeasureT-loop
 μ-loop word other k₀ k = length word - k
 
 returns : tie.Need-returns Inv-loop μ-loop
-returns c = differ _ _ (λ e. c .if1 .taken (ap length e))
+returns c = differ _ _ (λ e. let long = ap length e in omega arith)
 
 loop-holds : tie.Need-loop-holds Inv-loop μ-loop
 loop-holds c = (search needs, λ i h. absurd (omega arith))

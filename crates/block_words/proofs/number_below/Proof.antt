@@ -1,7 +1,7 @@
 -- `block_words::number_below` meets its contract: the number if it is below the limit, and else the limit. Assumes nothing.
 use borrow.Author.Needs.{needs}
 use native.Mathlib.Omega.{arith}
-use mathlib.Core.Path.{ap, _∙_, sym}
+use mathlib.Core.Path.{_∙_, sym}
 use Rattle.block_words.specs.Words.{cut}
 use Rattle.block_words.proofs.number_below.Statement.{statement}
 use Rattle.block_words.proofs.number_below.Tie as tie

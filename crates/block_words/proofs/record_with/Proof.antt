@@ -4,7 +4,7 @@ use mathlib.Core.List.{List}
 use borrow.Author.Needs.{needs}
 use lib.ListN.{drop}
 use denote.Ref.{now}
-use Rattle.rules.specs.Records.{secret, mask, public, NOT, XOR, AND, OR, register, end, variable, operands, kindOf, body, classByte, recordBytes}
+use Rattle.rules.specs.Records.{secret, mask, public, end, variable, classByte, recordBytes}
 use Rattle.rules.specs.Listing.{word}
 use Rattle.block_words.specs.Words.{words, Said, Form, forms, readBy}
 use Rattle.block_words.specs.Meaning.{lineOf}
@@ -12,7 +12,7 @@ use Rattle.block_words.proofs.Records.{by-form, by-rest}
 use Rattle.block_words.proofs.record_with.Statement.{statement}
 use Rattle.block_words.proofs.record_with.Tie as tie
 
--- what the words say by some of the forms
+-- what the words say by some of the forms, and by those left where a form is passed
 abbrev by : tie.Start → List Form → Said
 by c some = readBy some (now (c .args .word)) (words (now (c .args .numbers)))
 
@@ -51,41 +51,6 @@ past5 : (c : tie.Else5) → by (start5 c) forms ≡ by (start5 c) (drop 5 forms)
 unfolding forms word
 past5 c = past4 (c .before .before .before) ∙ by-rest _ _ _ _ _ (c .before .is-word5 .ensures) (c .if5 .left)
 
-abbrev start6 : tie.Else6 → tie.Start
-start6 c = start5 (c .before .before .before)
-
-past6 : (c : tie.Else6) → by (start6 c) forms ≡ by (start6 c) (drop 6 forms)
-unfolding forms word
-past6 c = past5 (c .before .before .before) ∙ by-rest _ _ _ _ _ (c .before .is-word6 .ensures) (c .if6 .left)
-
-abbrev start7 : tie.Else7 → tie.Start
-start7 c = start6 (c .before .before .before)
-
-past7 : (c : tie.Else7) → by (start7 c) forms ≡ by (start7 c) (drop 7 forms)
-unfolding forms word
-past7 c = past6 (c .before .before .before) ∙ by-rest _ _ _ _ _ (c .before .is-word7 .ensures) (c .if7 .left)
-
-abbrev start8 : tie.Else8 → tie.Start
-start8 c = start7 (c .before .before .before)
-
-past8 : (c : tie.Else8) → by (start8 c) forms ≡ by (start8 c) (drop 8 forms)
-unfolding forms word
-past8 c = past7 (c .before .before .before) ∙ by-rest _ _ _ _ _ (c .before .is-word8 .ensures) (c .if8 .left)
-
-abbrev start9 : tie.Else9 → tie.Start
-start9 c = start8 (c .before .before .before)
-
-past9 : (c : tie.Else9) → by (start9 c) forms ≡ by (start9 c) (drop 9 forms)
-unfolding forms word
-past9 c = past8 (c .before .before .before) ∙ by-rest _ _ _ _ _ (c .before .is-word9 .ensures) (c .if9 .left)
-
-abbrev start10 : tie.Else10 → tie.Start
-start10 c = start9 (c .before .before .before)
-
-past10 : (c : tie.Else10) → by (start10 c) forms ≡ by (start10 c) (drop 10 forms)
-unfolding forms word
-past10 c = past9 (c .before .before .before) ∙ by-rest _ _ _ _ _ (c .before .is-word10 .ensures) (c .if10 .left)
-
 slice-aggregate-is-word : tie.Need-slice-aggregate-is-word
 slice-aggregate-is-word c = search needs
 
@@ -96,7 +61,7 @@ alone-record-requires : tie.Need-alone-record-requires
 alone-record-requires c κs = search needs
 
 returns : tie.Need-returns
-unfolding forms word lineOf recordBytes kindOf body operands classByte
+unfolding forms word lineOf recordBytes classByte
 returns c = c .alone-record .ensures end refl ∙ sym (ap lineOf (by-form _ _ _ _ _ (c .before .before .is-word .ensures) (c .before .if1 .taken)))
 
 slice-aggregate-is-word-2 : tie.Need-slice-aggregate-is-word-2
@@ -109,7 +74,7 @@ alone-record-requires-2 : tie.Need-alone-record-requires-2
 alone-record-requires-2 c κs = search needs
 
 returns-2 : tie.Need-returns-2
-unfolding forms word lineOf recordBytes kindOf body operands classByte
+unfolding forms word lineOf recordBytes classByte
 returns-2 c = c .alone-record2 .ensures (variable secret) refl ∙ sym (ap lineOf (past1 (c .before .before .before .before) ∙ by-form _ _ _ _ _ (c .before .before .is-word2 .ensures) (c .before .if2 .taken)))
 
 slice-aggregate-is-word-3 : tie.Need-slice-aggregate-is-word-3
@@ -122,7 +87,7 @@ alone-record-requires-3 : tie.Need-alone-record-requires-3
 alone-record-requires-3 c κs = search needs
 
 returns-3 : tie.Need-returns-3
-unfolding forms word lineOf recordBytes kindOf body operands classByte
+unfolding forms word lineOf recordBytes classByte
 returns-3 c = c .alone-record3 .ensures (variable mask) refl ∙ sym (ap lineOf (past2 (c .before .before .before .before) ∙ by-form _ _ _ _ _ (c .before .before .is-word3 .ensures) (c .before .if3 .taken)))
 
 slice-aggregate-is-word-4 : tie.Need-slice-aggregate-is-word-4
@@ -135,7 +100,7 @@ alone-record-requires-4 : tie.Need-alone-record-requires-4
 alone-record-requires-4 c κs = search needs
 
 returns-4 : tie.Need-returns-4
-unfolding forms word lineOf recordBytes kindOf body operands classByte
+unfolding forms word lineOf recordBytes classByte
 returns-4 c = c .alone-record4 .ensures (variable public) refl ∙ sym (ap lineOf (past3 (c .before .before .before .before) ∙ by-form _ _ _ _ _ (c .before .before .is-word4 .ensures) (c .before .if4 .taken)))
 
 slice-aggregate-is-word-5 : tie.Need-slice-aggregate-is-word-5
@@ -148,77 +113,14 @@ input-record-requires : tie.Need-input-record-requires
 input-record-requires c κs = search needs
 
 returns-5 : tie.Need-returns-5
-unfolding forms word lineOf recordBytes kindOf body operands classByte
+unfolding forms word lineOf recordBytes classByte
 returns-5 c = c .input-record .ensures ∙ sym (ap lineOf (past4 (c .before .before .before .before) ∙ by-form _ _ _ _ _ (c .before .before .is-word5 .ensures) (c .before .if5 .taken)))
 
-slice-aggregate-is-word-6 : tie.Need-slice-aggregate-is-word-6
-slice-aggregate-is-word-6 c = search needs
-
-is-word-requires-6 : tie.Need-is-word-requires-6
-is-word-requires-6 c κs = search needs
-
-unary-record-requires : tie.Need-unary-record-requires
-unary-record-requires c κs = search needs
+gate-record-requires : tie.Need-gate-record-requires
+gate-record-requires c κs = search needs
 
 returns-6 : tie.Need-returns-6
-unfolding forms word lineOf recordBytes kindOf body operands classByte
-returns-6 c = c .unary-record .ensures NOT (λ a. refl) ∙ sym (ap lineOf (past5 (c .before .before .before .before) ∙ by-form _ _ _ _ _ (c .before .before .is-word6 .ensures) (c .before .if6 .taken)))
-
-slice-aggregate-is-word-7 : tie.Need-slice-aggregate-is-word-7
-slice-aggregate-is-word-7 c = search needs
-
-is-word-requires-7 : tie.Need-is-word-requires-7
-is-word-requires-7 c κs = search needs
-
-binary-record-requires : tie.Need-binary-record-requires
-binary-record-requires c κs = search needs
-
-returns-7 : tie.Need-returns-7
-unfolding forms word lineOf recordBytes kindOf body operands classByte
-returns-7 c = c .binary-record .ensures XOR (λ a b. refl) ∙ sym (ap lineOf (past6 (c .before .before .before .before) ∙ by-form _ _ _ _ _ (c .before .before .is-word7 .ensures) (c .before .if7 .taken)))
-
-slice-aggregate-is-word-8 : tie.Need-slice-aggregate-is-word-8
-slice-aggregate-is-word-8 c = search needs
-
-is-word-requires-8 : tie.Need-is-word-requires-8
-is-word-requires-8 c κs = search needs
-
-binary-record-requires-2 : tie.Need-binary-record-requires-2
-binary-record-requires-2 c κs = search needs
-
-returns-8 : tie.Need-returns-8
-unfolding forms word lineOf recordBytes kindOf body operands classByte
-returns-8 c = c .binary-record2 .ensures AND (λ a b. refl) ∙ sym (ap lineOf (past7 (c .before .before .before .before) ∙ by-form _ _ _ _ _ (c .before .before .is-word8 .ensures) (c .before .if8 .taken)))
-
-slice-aggregate-is-word-9 : tie.Need-slice-aggregate-is-word-9
-slice-aggregate-is-word-9 c = search needs
-
-is-word-requires-9 : tie.Need-is-word-requires-9
-is-word-requires-9 c κs = search needs
-
-binary-record-requires-3 : tie.Need-binary-record-requires-3
-binary-record-requires-3 c κs = search needs
-
-returns-9 : tie.Need-returns-9
-unfolding forms word lineOf recordBytes kindOf body operands classByte
-returns-9 c = c .binary-record3 .ensures OR (λ a b. refl) ∙ sym (ap lineOf (past8 (c .before .before .before .before) ∙ by-form _ _ _ _ _ (c .before .before .is-word9 .ensures) (c .before .if9 .taken)))
-
-slice-aggregate-is-word-10 : tie.Need-slice-aggregate-is-word-10
-slice-aggregate-is-word-10 c = search needs
-
-is-word-requires-10 : tie.Need-is-word-requires-10
-is-word-requires-10 c κs = search needs
-
-unary-record-requires-2 : tie.Need-unary-record-requires-2
-unary-record-requires-2 c κs = search needs
-
-returns-10 : tie.Need-returns-10
-unfolding forms word lineOf recordBytes kindOf body operands classByte
-returns-10 c = c .unary-record2 .ensures register (λ a. refl) ∙ sym (ap lineOf (past9 (c .before .before .before .before) ∙ by-form _ _ _ _ _ (c .before .before .is-word10 .ensures) (c .before .if10 .taken)))
-
-returns-11 : tie.Need-returns-11
-unfolding forms readBy lineOf
-returns-11 c = sym (ap lineOf (past10 c))
+returns-6 c = c .gate-record .ensures ∙ sym (ap lineOf (past5 (c .before)))
 
 pub record-with-spec : {M : Type 1} → statement M
 record-with-spec =
@@ -244,24 +146,5 @@ record-with-spec =
     is-word-requires-5
     input-record-requires
     returns-5
-    slice-aggregate-is-word-6
-    is-word-requires-6
-    unary-record-requires
-    returns-6
-    slice-aggregate-is-word-7
-    is-word-requires-7
-    binary-record-requires
-    returns-7
-    slice-aggregate-is-word-8
-    is-word-requires-8
-    binary-record-requires-2
-    returns-8
-    slice-aggregate-is-word-9
-    is-word-requires-9
-    binary-record-requires-3
-    returns-9
-    slice-aggregate-is-word-10
-    is-word-requires-10
-    unary-record-requires-2
-    returns-10
-    returns-11)
+    gate-record-requires
+    returns-6)

@@ -1,7 +1,7 @@
 -- `block_words::word_at` meets its contract. The loop's invariant: the words from here on are those behind the first i. The measure is the number of
 -- words left to pass. Assumes nothing.
 use Prim.Native.Nat.{_-_, _≤_}
-use mathlib.Core.Path.{_≡_, refl, _∙_}
+use mathlib.Core.Path.{_≡_, refl}
 use native.Mathlib.Omega.{arith}
 use borrow.Author.Needs.{needs}
 use lib.ListN.{length, drop}
