@@ -1,2 +1,8 @@
 -- What this crate's proofs share.
+pub mod Lines
 pub mod Numbers
+pub mod Records
+pub mod Samples
+pub mod Scans
+pub mod Stores
+pub mod Words

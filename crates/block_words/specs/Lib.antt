@@ -1,4 +1,5 @@
 -- What this crate's contracts cite.
-pub mod Bounds
+pub mod Meaning
 pub mod Numbers
+pub mod Scans
 pub mod Words

@@ -2,10 +2,15 @@
 // whether the records obey the rules is for the checker to say.
 ghost use mathlib.Core.Path.{_≡_};
 ghost use mathlib.Core.Bool.{true, false};
-ghost use Prim.Native.Nat.{_+_, _-_, _*_, _≤_, _<_};
-ghost use lib.ListN.{length};
-ghost use Rattle.block_words.specs.Bounds.{RecordBound, BlockBound};
+ghost use mathlib.Core.List.{[], _∷_};
+ghost use Prim.Native.Nat.{ℕ, _+_, _-_, _*_, _≤_, _<_, min, max};
+ghost use lib.ListN.{length, getD, take, drop, set};
+ghost use lib.Seq.{sets};
+ghost use Rattle.rules.specs.Records.{Cell, Record, node, recordBytes};
 ghost use Rattle.block_words.specs.Numbers.{isDigit, numberIn};
+ghost use Rattle.block_words.specs.Scans.{first, stopsAt, part, NextWord};
+ghost use Rattle.block_words.specs.Words.{isBlank, words, same, cut, says, alone, withOne, withTwo, withVariables, forms, readBy, recordIn};
+ghost use Rattle.block_words.specs.Meaning.{lineOf, TellsRecord, TellsBlock};
 
 // The bytes of a block that are looked at, and the bytes of a text in words.
 pub const MOST_BLOCK: usize = 1024;
@@ -48,36 +53,46 @@ pub enum Number {
     None,
 }
 
-// The variables of an input, or what was expected instead.
-enum Input {
-    Set(u16),
+// What a line says, with the record itself: how many bytes it has, and these, 0 behind them.
+enum Line {
+    Nothing,
+    Record(usize, u8, u8, u8),
     Wrong(Fault),
 }
 
 // ---- words
 
-fn is_blank(letter: u8) -> bool {
-    match letter {
-        b' ' | b'\t' | b'\r' => true,
-        _ => false,
+// What a scan stops at: what is no blank, the end of a word, or the end of a line.
+enum Stop {
+    NoBlank,
+    WordEnd,
+    LineEnd,
+}
+
+fn is_blank(letter: u8) -> bool
+    ensures { λ r. ⌜ r ≡ isBlank letter ⌝ }
+{
+    (letter == b' ') | ((letter == b'\t') | (letter == b'\r'))
+}
+
+fn stops(stop: Stop, letter: u8) -> bool
+    ensures { λ r. ⌜ r ≡ stopsAt stop letter ⌝ }
+{
+    match stop {
+        Stop::NoBlank => !is_blank(letter),
+        Stop::WordEnd => is_blank(letter) | (letter == b'#'),
+        Stop::LineEnd => letter == b'\n',
     }
 }
 
-fn ends_word(letter: u8) -> bool {
-    match letter {
-        b' ' | b'\t' | b'\r' | b'#' => true,
-        _ => false,
-    }
-}
-
-// The first place from `from` on where no blank stands, or the end of the line.
-fn past_blanks(line: &[u8], from: usize) -> usize
-    requires { ⌜ from ≤ length (now line) ⌝ }
-    ensures { λ r. ⌜ (from ≤ r) × (r ≤ length (now (line .entry))) ⌝ }
+// The first place from `from` on of a letter that the scan stops at, or the end of the text.
+fn past(text: &[u8], from: usize, stop: Stop) -> usize
+    requires { ⌜ from ≤ length (now text) ⌝ }
+    ensures { λ r. ⌜ (r ≤ length (now (text .entry))) × (r ≡ from + first (stopsAt stop) (drop from (now (text .entry)))) ⌝ }
 {
     let mut at = from;
-    while at < line.len() {
-        if !is_blank(line[at]) {
+    while at < text.len() {
+        if stops(stop, text[at]) {
             return at;
         }
         at += 1;
@@ -85,57 +100,53 @@ fn past_blanks(line: &[u8], from: usize) -> usize
     at
 }
 
-// The first place from `from` on where a blank or a comment starts, or the end of the line.
-fn past_word(line: &[u8], from: usize) -> usize
-    requires { ⌜ from ≤ length (now line) ⌝ }
-    ensures { λ r. ⌜ (from ≤ r) × (r ≤ length (now (line .entry))) ⌝ }
+// Where the next word of a line from `at` on starts and ends; it starts where it ends if there is none. A comment, from `#` on, has no
+// words.
+fn next_word(line: &[u8], at: usize) -> Place
+    requires { ⌜ at ≤ length (now line) ⌝ }
+    ensures { λ r. ⌜ NextWord (now (line .entry)) at (r .from) (r .to) ⌝ }
 {
-    let mut at = from;
-    while at < line.len() {
-        if ends_word(line[at]) {
-            return at;
-        }
-        at += 1;
-    }
-    at
-}
-
-// Where word `k` of a line, from 0, starts and ends; it starts where it ends if there is none. A comment, from `#` on, has no words.
-pub fn word_at(line: &[u8], k: usize) -> Place
-    ensures { λ r. ⌜ (r .from ≤ r .to) × (r .to ≤ length (now (line .entry))) ⌝ }
-{
-    let mut from = past_blanks(line, 0);
-    let mut to = past_word(line, from);
-    let mut i = 0;
-    while i < k {
-        if from == to {
-            return Place { from, to };
-        }
-        from = past_blanks(line, to);
-        to = past_word(line, from);
-        i += 1;
-    }
+    let from = past(line, at, Stop::NoBlank);
+    let to = past(line, from, Stop::WordEnd);
     Place { from, to }
 }
 
-fn count_words(line: &[u8]) -> usize {
+// Where word `k` of a line, from 0, starts and ends; it starts where it ends if there is none.
+pub fn word_at(line: &[u8], k: usize) -> Place
+    ensures { λ r. ⌜ (r .from ≤ r .to) × (r .to ≤ length (now (line .entry))) ×
+        (part (r .from) (r .to) (now (line .entry)) ≡ getD (words (now (line .entry))) k []) ⌝ }
+{
+    let mut at = 0;
+    let mut i = 0;
+    while i < k {
+        let word = next_word(line, at);
+        if word.from == word.to {
+            return word;
+        }
+        at = word.to;
+        i += 1;
+    }
+    next_word(line, at)
+}
+
+fn count_words(line: &[u8]) -> usize
+    ensures { λ r. ⌜ r ≡ length (words (now (line .entry))) ⌝ }
+{
     let mut count: usize = 0;
     let mut at = 0;
-    while at < line.len() {
-        let from = past_blanks(line, at);
-        let to = past_word(line, from);
-        if from == to {
+    loop {
+        let word = next_word(line, at);
+        if word.from == word.to {
             return count;
         }
-        at = to;
+        at = word.to;
         count += 1;
     }
-    count
 }
 
 // Whether a word has the same bytes as another.
 pub fn is_word(word: &[u8], other: &[u8]) -> bool
-    ensures { λ r. ⌜ (r ≡ true → now (word .entry) ≡ now (other .entry)) × (now (word .entry) ≡ now (other .entry) → r ≡ true) ⌝ }
+    ensures { λ r. ⌜ r ≡ same (now (word .entry)) (now (other .entry)) ⌝ }
 {
     if word.len() != other.len() {
         return false;
@@ -190,7 +201,7 @@ pub fn number_of(word: &[u8]) -> Number
 
 // The number that a word is if it is below a limit, and else that limit.
 fn number_below(word: &[u8], limit: usize) -> usize
-    ensures { λ r. ⌜ r ≤ limit ⌝ }
+    ensures { λ r. ⌜ r ≡ cut limit (numberIn (now (word .entry))) ⌝ }
 {
     match number_of(word) {
         Number::Is(number) => {
@@ -205,7 +216,7 @@ fn number_below(word: &[u8], limit: usize) -> usize
 
 // The operand that word `k` of a line is, and 256 if it is none.
 fn operand_at(line: &[u8], k: usize) -> usize
-    ensures { λ r. ⌜ r ≤ 256 ⌝ }
+    ensures { λ r. ⌜ r ≡ cut 256 (numberIn (getD (words (now (line .entry))) k [])) ⌝ }
 {
     let place = word_at(line, k);
     let from = place.from;
@@ -215,221 +226,154 @@ fn operand_at(line: &[u8], k: usize) -> usize
 
 // ---- the record of a line: `numbers` is what stands behind its first word
 
-fn end_record(numbers: &[u8], bytes: &mut [u8; 3]) -> Worded
-    ensures { λ r. ⌜ RecordBound r ⌝ }
+// A record whose word has no number behind it.
+fn alone_record(numbers: &[u8], line: Line) -> Line
+    ensures { λ r. ⌜ ((said : Record) → line ≡ lineOf (says said) → r ≡ lineOf (alone said (words (now (numbers .entry))))) ⌝ }
 {
     if count_words(numbers) != 0 {
-        return Worded::Wrong(Fault::NoNumber);
+        return Line::Wrong(Fault::NoNumber);
     }
-    bytes[0] = 0;
-    Worded::Bytes(1)
+    line
 }
 
-fn variable_record(numbers: &[u8], bytes: &mut [u8; 3], class: u8) -> Worded
-    ensures { λ r. ⌜ RecordBound r ⌝ }
+// An input: its variables, as the sum of 2 to the power v over its variables v.
+fn input_record(numbers: &[u8]) -> Line
+    ensures { λ r. ⌜ r ≡ lineOf (withVariables 0 (words (now (numbers .entry)))) ⌝ }
 {
-    if count_words(numbers) != 0 {
-        return Worded::Wrong(Fault::NoNumber);
-    }
-    bytes[0] = 1;
-    bytes[1] = class;
-    Worded::Bytes(2)
-}
-
-// The variables of an input, as the sum of 2 to the power v over its variables v.
-fn input_of(numbers: &[u8]) -> Input {
     let mut set: u16 = 0;
     let mut at = 0;
-    while at < numbers.len() {
-        let from = past_blanks(numbers, at);
-        let to = past_word(numbers, from);
+    loop {
+        let word = next_word(numbers, at);
+        let from = word.from;
+        let to = word.to;
         if from == to {
-            return Input::Set(set);
+            return Line::Record(3, 2, (set % 256) as u8, (set / 256) as u8);
         }
         let variable = number_below(&numbers[from..to], 16);
         if variable > 15 {
-            return Input::Wrong(Fault::Variable);
+            return Line::Wrong(Fault::Variable);
         }
-        let bit = 1u16 << variable;
-        if set & bit != 0 {
-            return Input::Wrong(Fault::Twice);
+        let power = 1u16 << variable;
+        if set / power % 2 == 1 {
+            return Line::Wrong(Fault::Twice);
         }
-        set = set | bit;
+        set = set + power;
         at = to;
     }
-    Input::Set(set)
 }
 
-fn input_record(numbers: &[u8], bytes: &mut [u8; 3]) -> Worded
-    ensures { λ r. ⌜ RecordBound r ⌝ }
-{
-    match input_of(numbers) {
-        Input::Wrong(fault) => Worded::Wrong(fault),
-        Input::Set(set) => {
-            bytes[0] = 2;
-            bytes[1] = (set % 256) as u8;
-            bytes[2] = (set / 256) as u8;
-            Worded::Bytes(3)
-        }
-    }
-}
-
-fn unary_record(numbers: &[u8], bytes: &mut [u8; 3], kind: u8) -> Worded
-    ensures { λ r. ⌜ RecordBound r ⌝ }
+// NOT, or a register.
+fn unary_record(numbers: &[u8], kind: u8) -> Line
+    ensures { λ r. ⌜ ((cell : ℕ → Cell) → ((a : ℕ) → recordBytes (node (cell a)) ≡ kind ∷ a ∷ []) →
+        r ≡ lineOf (withOne cell (words (now (numbers .entry))))) ⌝ }
 {
     if count_words(numbers) != 1 {
-        return Worded::Wrong(Fault::OneNumber);
+        return Line::Wrong(Fault::OneNumber);
     }
     let operand = operand_at(numbers, 0);
     if operand > 255 {
-        return Worded::Wrong(Fault::Operand);
+        return Line::Wrong(Fault::Operand);
     }
-    bytes[0] = kind;
-    bytes[1] = operand as u8;
-    Worded::Bytes(2)
+    Line::Record(2, kind, operand as u8, 0)
 }
 
-fn binary_record(numbers: &[u8], bytes: &mut [u8; 3], kind: u8) -> Worded
-    ensures { λ r. ⌜ RecordBound r ⌝ }
+// XOR, AND or OR.
+fn binary_record(numbers: &[u8], kind: u8) -> Line
+    ensures { λ r. ⌜ ((cell : ℕ → ℕ → Cell) → ((a b : ℕ) → recordBytes (node (cell a b)) ≡ kind ∷ a ∷ b ∷ []) →
+        r ≡ lineOf (withTwo cell (words (now (numbers .entry))))) ⌝ }
 {
     if count_words(numbers) != 2 {
-        return Worded::Wrong(Fault::TwoNumbers);
+        return Line::Wrong(Fault::TwoNumbers);
     }
     let first = operand_at(numbers, 0);
     let second = operand_at(numbers, 1);
     if first > 255 {
-        return Worded::Wrong(Fault::Operand);
+        return Line::Wrong(Fault::Operand);
     }
     if second > 255 {
-        return Worded::Wrong(Fault::Operand);
+        return Line::Wrong(Fault::Operand);
     }
-    bytes[0] = kind;
-    bytes[1] = first as u8;
-    bytes[2] = second as u8;
-    Worded::Bytes(3)
+    Line::Record(3, kind, first as u8, second as u8)
 }
 
 // The record of a node that is no input.
-fn gate_record(word: &[u8], numbers: &[u8], bytes: &mut [u8; 3]) -> Worded
-    ensures { λ r. ⌜ RecordBound r ⌝ }
+fn gate_record(word: &[u8], numbers: &[u8]) -> Line
+    ensures { λ r. ⌜ r ≡ lineOf (readBy (drop 5 forms) (now (word .entry)) (words (now (numbers .entry)))) ⌝ }
 {
     if is_word(word, b"not") {
-        return unary_record(numbers, bytes, 3);
+        return unary_record(numbers, 3);
     }
     if is_word(word, b"xor") {
-        return binary_record(numbers, bytes, 4);
+        return binary_record(numbers, 4);
     }
     if is_word(word, b"and") {
-        return binary_record(numbers, bytes, 5);
+        return binary_record(numbers, 5);
     }
     if is_word(word, b"or") {
-        return binary_record(numbers, bytes, 6);
+        return binary_record(numbers, 6);
     }
     if is_word(word, b"reg") {
-        return unary_record(numbers, bytes, 7);
+        return unary_record(numbers, 7);
     }
-    Worded::Wrong(Fault::Record)
+    Line::Wrong(Fault::Record)
 }
 
-fn record_with(word: &[u8], numbers: &[u8], bytes: &mut [u8; 3]) -> Worded
-    ensures { λ r. ⌜ RecordBound r ⌝ }
+fn record_with(word: &[u8], numbers: &[u8]) -> Line
+    ensures { λ r. ⌜ r ≡ lineOf (readBy forms (now (word .entry)) (words (now (numbers .entry)))) ⌝ }
 {
     if is_word(word, b"end") {
-        return end_record(numbers, bytes);
+        return alone_record(numbers, Line::Record(1, 0, 0, 0));
     }
     if is_word(word, b"secret") {
-        return variable_record(numbers, bytes, 0);
+        return alone_record(numbers, Line::Record(2, 1, 0, 0));
     }
     if is_word(word, b"mask") {
-        return variable_record(numbers, bytes, 1);
+        return alone_record(numbers, Line::Record(2, 1, 1, 0));
     }
     if is_word(word, b"public") {
-        return variable_record(numbers, bytes, 2);
+        return alone_record(numbers, Line::Record(2, 1, 2, 0));
     }
     if is_word(word, b"in") {
-        return input_record(numbers, bytes);
+        return input_record(numbers);
     }
-    gate_record(word, numbers, bytes)
+    gate_record(word, numbers)
 }
 
 // The record that a line says, without its line feed: no words, so many bytes at the front of `bytes`, or what was expected instead.
+// Beyond the record's bytes, `bytes` is left open.
 pub fn record_of(line: &[u8], bytes: &mut [u8; 3]) -> Worded
-    ensures { λ r. ⌜ RecordBound r ⌝ }
+    ensures { λ r. ⌜ TellsRecord r (now (bytes .exit)) (recordIn (words (now (line .entry)))) ⌝ }
 {
-    let place = word_at(line, 0);
-    let from = place.from;
-    let to = place.to;
+    let word = next_word(line, 0);
+    let from = word.from;
+    let to = word.to;
     if from == to {
         return Worded::Nothing;
     }
-    record_with(&line[from..to], &line[to..], bytes)
+    match record_with(&line[from..to], &line[to..]) {
+        Line::Nothing => Worded::Nothing,
+        Line::Wrong(fault) => Worded::Wrong(fault),
+        Line::Record(size, kind, first, second) => {
+            *bytes = [kind, first, second];
+            Worded::Bytes(size)
+        }
+    }
 }
 
 // ---- the block of a text
 
-// The place of the next line feed from `from` on, or the end of the text.
-fn line_end(text: &[u8], from: usize) -> usize
-    requires { ⌜ from ≤ length (now text) ⌝ }
-    ensures { λ r. ⌜ (from ≤ r) × (r ≤ length (now (text .entry))) ⌝ }
+// The lower of two numbers.
+fn lower(a: usize, b: usize) -> usize
+    ensures { λ r. ⌜ r ≡ min a b ⌝ }
 {
-    let mut at = from;
-    while at < text.len() {
-        if text[at] == b'\n' {
-            return at;
-        }
-        at += 1;
+    if a < b {
+        return a;
     }
-    at
-}
-
-// The place of the next line, behind one that starts at `from` and ends at `end`.
-fn next_line(text: &[u8], from: usize, end: usize) -> usize
-    requires { ⌜ (from < length (now text)) × (from ≤ end) × (end ≤ length (now text)) ⌝ }
-    ensures { λ r. ⌜ (from < r) × (r ≤ length (now (text .entry))) ⌝ }
-{
-    if end < text.len() {
-        return end + 1;
-    }
-    end
-}
-
-// A byte behind the first `at` of a block, if there is room.
-fn put_byte(bytes: &mut [u8; MOST_BLOCK], at: usize, byte: u8) -> usize
-    requires { ⌜ at ≤ 1024 ⌝ }
-    ensures { λ r. ⌜ r ≤ 1024 ⌝ }
-{
-    if at < MOST_BLOCK {
-        bytes[at] = byte;
-        return at + 1;
-    }
-    at
-}
-
-// The first `size` bytes of a record likewise.
-fn put_record(bytes: &mut [u8; MOST_BLOCK], at: usize, record: [u8; 3], size: usize) -> usize
-    requires { ⌜ at ≤ 1024 ⌝ }
-    ensures { λ r. ⌜ r ≤ 1024 ⌝ }
-{
-    let kind = put_byte(bytes, at, record[0]);
-    if size < 2 {
-        return kind;
-    }
-    let first = put_byte(bytes, kind, record[1]);
-    if size < 3 {
-        return first;
-    }
-    put_byte(bytes, first, record[2])
-}
-
-// The line of the record whose kind byte is at `at`.
-fn put_line(lines: &mut [usize; MOST_BLOCK], at: usize, line: usize) {
-    if at < MOST_BLOCK {
-        lines[at] = line;
-    }
+    b
 }
 
 fn at_least_one(count: usize) -> usize
-    ensures { λ r. ⌜ (count ≤ r) × (1 ≤ r) ⌝ }
+    ensures { λ r. ⌜ r ≡ max 1 count ⌝ }
 {
     if count == 0 {
         return 1;
@@ -437,20 +381,51 @@ fn at_least_one(count: usize) -> usize
     count
 }
 
-// The block that a text says: how many bytes it has, those beyond 1,024 left out, and how many lines the text has; or what was expected
-// instead, and in which line. `lines[k]` is the line of the record whose kind byte is at offset `k` of the block.
+// A byte at a place of a block, and the line of a record there, if there is room.
+fn put_byte(bytes: &mut [u8], at: usize, byte: u8)
+    ensures { λ _. ⌜ now (bytes .exit) ≡ set (now (bytes .entry)) at byte ⌝ }
+{
+    if at < bytes.len() {
+        bytes[at] = byte;
+    }
+}
+
+fn put_line(lines: &mut [usize], at: usize, line: usize)
+    ensures { λ _. ⌜ now (lines .exit) ≡ set (now (lines .entry)) at line ⌝ }
+{
+    if at < lines.len() {
+        lines[at] = line;
+    }
+}
+
+// The first `size` bytes of a record behind the first `at` of a block, as far as there is room: how many the block has then.
+fn put_record(bytes: &mut [u8], at: usize, own: [u8; 3], size: usize) -> usize
+    requires { ⌜ (at ≤ length (now bytes)) × (size ≤ 3) ⌝ }
+    ensures { λ r. ⌜ (r ≡ min (at + size) (length (now (bytes .entry)))) × (now (bytes .exit) ≡ sets (now (bytes .entry)) at (take size own)) ⌝ }
+{
+    let mut k = 0;
+    while k < size {
+        put_byte(bytes, at + k, own[k]);
+        k += 1;
+    }
+    lower(at + size, bytes.len())
+}
+
+// The block that a text says: how many bytes it has, those beyond 1,024 left out, and how many lines the text has, at least 1; or what
+// was expected instead, and in which line. `lines[k]` is the line of the record whose kind byte is at offset `k` of the block. Where
+// something else was expected, both arrays are left open.
 pub fn block_of(
     text: &[u8],
     bytes: &mut [u8; MOST_BLOCK],
     lines: &mut [usize; MOST_BLOCK],
 ) -> BlockWords
-    ensures { λ r. ⌜ BlockBound r ⌝ }
+    ensures { λ r. ⌜ TellsBlock r (now (text .entry)) (now (lines .entry)) (now (bytes .exit)) (now (lines .exit)) ⌝ }
 {
     let mut count: usize = 0;
     let mut line: usize = 0;
     let mut at = 0;
     while at < text.len() {
-        let end = line_end(text, at);
+        let end = past(text, at, Stop::LineEnd);
         let mut record = [0u8; 3];
         line += 1;
         match record_of(&text[at..end], &mut record) {
@@ -463,7 +438,7 @@ pub fn block_of(
                 return BlockWords::Wrong(fault, line);
             }
         }
-        at = next_line(text, at, end);
+        at = lower(end + 1, text.len());
     }
     BlockWords::Bytes(count, at_least_one(line))
 }

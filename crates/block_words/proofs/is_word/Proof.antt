@@ -3,12 +3,12 @@
 use borrow.Author.Count.{below-more}
 use borrow.Author.Needs.{needs}
 use Prim.Native.Nat.{ℕ, _-_, _≤_, _<_}
-use mathlib.Core.Bool.{false≢true}
 use mathlib.Core.List.{List}
-use mathlib.Core.Path.{_≡_, refl, ap}
+use mathlib.Core.Path.{_≡_, ap}
 use native.Mathlib.Omega.{arith}
 use lib.ListN.{length, getD}
 use lib.Seq.{ext-getD}
+use Rattle.block_words.proofs.Words.{agree, differ}
 use Rattle.block_words.proofs.is_word.Statement.{statement}
 use Rattle.block_words.proofs.is_word.Tie as tie
 
@@ -19,7 +19,7 @@ abbrev μ-loop : tie.MeasureT-loop
 μ-loop word other k₀ k = length word - k
 
 returns : tie.Need-returns Inv-loop μ-loop
-returns c = (λ e. absurd (false≢true e), λ e. absurd (c .if1 .taken (ap length e)))
+returns c = differ _ _ (λ e. let long = ap length e in omega arith)
 
 loop-holds : tie.Need-loop-holds Inv-loop μ-loop
 loop-holds c = (search needs, λ i h. absurd (omega arith))
@@ -31,7 +31,7 @@ shared-slice-read-if2-2 : tie.Need-shared-slice-read-if2-2 Inv-loop μ-loop
 shared-slice-read-if2-2 c = search needs
 
 returns-2 : tie.Need-returns-2 Inv-loop μ-loop
-returns-2 c = (λ e. absurd (false≢true e), λ e. absurd (c .if2 .taken (ap (λ (l : List ℕ). getD l (c .before .before .before .before .loop .k) 0) e)))
+returns-2 c = differ _ _ (λ e. c .if2 .taken (ap (λ (l : List ℕ). getD l (c .before .before .before .before .loop .k) 0) e))
 
 add-k : tie.Need-add-k Inv-loop μ-loop
 add-k c = search needs
@@ -43,7 +43,7 @@ loop-again : tie.Need-loop-again Inv-loop μ-loop
 loop-again c = (search needs, below-more _ _ (c .before .before .before .before .loop .inv .1) (c .if2 .left))
 
 returns-3 : tie.Need-returns-3 Inv-loop μ-loop
-returns-3 c = (λ _. ext-getD 0 _ _ (c .before .before .if1 .left) (λ i h. c .before .loop .inv .1 i (omega arith)), λ _. refl)
+returns-3 c = agree _ _ (ext-getD 0 _ _ (c .before .before .if1 .left) (λ i h. c .before .loop .inv .1 i (omega arith)))
 
 pub is-word-spec : {M : Type 1} → statement M
 is-word-spec =

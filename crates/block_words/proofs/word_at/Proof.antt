@@ -1,33 +1,32 @@
--- `block_words::word_at` meets its contract: no word reaches past the end of the line. Assumes nothing.
-use borrow.Author.Needs.{needs}
+-- `block_words::word_at` meets its contract. The loop's invariant: the words from here on are those behind the first i. The measure is the number of
+-- words left to pass. Assumes nothing.
 use Prim.Native.Nat.{_-_, _≤_}
-use lib.ListN.{length}
+use mathlib.Core.Path.{_≡_, refl}
+use native.Mathlib.Omega.{arith}
+use borrow.Author.Needs.{needs}
+use lib.ListN.{length, drop}
+use Rattle.block_words.specs.Words.{words}
+use Rattle.block_words.proofs.Words.{word-here, word-missing, word-passed}
 use Rattle.block_words.proofs.word_at.Statement.{statement}
 use Rattle.block_words.proofs.word_at.Tie as tie
 
 abbrev Inv-loop : tie.InvT-loop
-Inv-loop line k from₀ to₀ i₀ from to i = (from ≤ to) × (to ≤ length line)
+Inv-loop line k at₀ i₀ at i = (at ≤ length line) × (i ≤ k) × (drop i (words line) ≡ words (drop at line))
 
 abbrev μ-loop : tie.MeasureT-loop
-μ-loop line k from₀ to₀ i₀ from to i = k - i
-
-past-blanks-requires : tie.Need-past-blanks-requires Inv-loop μ-loop
-past-blanks-requires c κs = search needs
-
-past-word-requires : tie.Need-past-word-requires Inv-loop μ-loop
-past-word-requires c κs = search needs
+μ-loop line k at₀ i₀ at i = k - i
 
 loop-holds : tie.Need-loop-holds Inv-loop μ-loop
-loop-holds c = search needs
+loop-holds c = (search needs, search needs, refl)
+
+next-word-requires : tie.Need-next-word-requires Inv-loop μ-loop
+next-word-requires c κs = search needs
 
 returns : tie.Need-returns Inv-loop μ-loop
-returns c = search needs
-
-past-blanks-requires-2 : tie.Need-past-blanks-requires-2 Inv-loop μ-loop
-past-blanks-requires-2 c κs = search needs
-
-past-word-requires-2 : tie.Need-past-word-requires-2 Inv-loop μ-loop
-past-word-requires-2 c κs = search needs
+returns c =
+    let loop = c .before .before .before .before .loop in
+    let next = c .before .before .next-word .ensures in
+    (next .ordered, next .within, word-missing next (loop .i) _ (loop .inv .2) (loop .inv .1) (c .if1 .taken))
 
 add-i : tie.Need-add-i Inv-loop μ-loop
 add-i c = search needs
@@ -36,10 +35,20 @@ loop-less : tie.Need-loop-less Inv-loop μ-loop
 loop-less c = search needs
 
 loop-again : tie.Need-loop-again Inv-loop μ-loop
-loop-again c = search needs
+loop-again c =
+    let loop = c .before .before .before .before .loop in
+    let next = c .before .before .next-word .ensures in
+    (next .within, search needs, word-passed next (loop .i) (loop .inv .2) (c .if1 .left))
+
+next-word-requires-2 : tie.Need-next-word-requires-2 Inv-loop μ-loop
+next-word-requires-2 c κs = search needs
 
 returns-2 : tie.Need-returns-2 Inv-loop μ-loop
-returns-2 c = search needs
+returns-2 c =
+    let loop = c .before .before .loop in
+    let all : loop .i ≡ c .before .before .before .before .args .k = omega arith in
+    let next = c .next-word2 .ensures in
+    (next .ordered, next .within, rw (← all) (word-here next (loop .i) (loop .inv .2)))
 
 pub word-at-spec : {M : Type 1} → statement M
 word-at-spec =
@@ -47,13 +56,11 @@ word-at-spec =
     (tie.spec
     Inv-loop
     μ-loop
-    past-blanks-requires
-    past-word-requires
     loop-holds
+    next-word-requires
     returns
-    past-blanks-requires-2
-    past-word-requires-2
     add-i
     loop-less
     loop-again
+    next-word-requires-2
     returns-2)
