@@ -2,13 +2,7 @@
 ghost use mathlib.Core.Path.{_≡_};
 ghost use Prim.Native.Nat.{_≤_};
 ghost use lib.ListN.{length};
-ghost use Rattle.rules.specs.Records as Records;
-ghost use Rattle.rules.specs.Records.{most-nodes};
-ghost use Rattle.rules.specs.Checks.{answered, admitted};
-ghost use Rattle.rules.specs.Slices.{reply};
-ghost use Rattle.rules.specs.Paper.{replyOf};
-ghost use Rattle.open_blocks.specs.Meaning.{IsOpen};
-ghost use Rattle.telgouin.specs.Editing.{SameBlock, StaysOpen};
+ghost use Rattle.telgouin.specs.Editing.{StaysOpen};
 use crate::files::has_words;
 use block_words::Number;
 use block_words::Worded;
@@ -19,14 +13,11 @@ use desk::say::say_fault;
 use desk::say::say_found;
 use desk::say::say_refused;
 use desk::say::say_refused_node;
+use held_blocks::Held;
 use libc::STDIN_FILENO;
 use open_blocks::Edit;
-use open_blocks::State;
-use rules::MOST_NODES;
 use rules::MOST_VARIABLES;
 use rules::MOST_WORK;
-use rules::Node;
-use rules::NodeRecord;
 use rules::Refusal;
 use rules::Reply;
 use worded_blocks::MOST_WORDS;
@@ -35,27 +26,26 @@ use written_blocks::MOST_WRITTEN;
 // The most bytes of an edit's line, its line feed among them.
 const MOST_LINE: usize = 4097;
 
-// An open block, held by value; whether a line has been printed, and whether more edits are read.
-struct Held {
-    state: State,
-    nodes: [NodeRecord; MOST_NODES],
+// Between two lines: the open block, whether a line has been printed, and whether more edits are read.
+struct Turn {
+    held: Held,
     spoken: bool,
     more: bool,
 }
 
 // The same block, after something has been printed, and at the end of the edits.
-fn spoken(held: Held) -> Held
-    ensures { λ r. ⌜ SameBlock (held .state) (held .nodes) (r .state) (r .nodes) ⌝ }
+fn spoken(turn: Turn) -> Turn
+    ensures { λ r. ⌜ r .held ≡ turn .held ⌝ }
 {
-    let mut next = held;
+    let mut next = turn;
     next.spoken = true;
     next
 }
 
-fn closed(held: Held) -> Held
-    ensures { λ r. ⌜ SameBlock (held .state) (held .nodes) (r .state) (r .nodes) ⌝ }
+fn closed(turn: Turn) -> Turn
+    ensures { λ r. ⌜ r .held ≡ turn .held ⌝ }
 {
-    let mut next = held;
+    let mut next = turn;
     next.more = false;
     next
 }
@@ -79,72 +69,69 @@ fn say_reply(edit: Edit, reply: Reply, classes: [u8; MOST_VARIABLES]) {
 
 // Makes an edit, with so many bytes of a record, and prints the answer for the block as it now is, or the refusal.
 fn change(
-    held: Held,
+    turn: Turn,
     edit: Edit,
     record: &[u8; 3],
     count: usize,
     work: &mut [u8; MOST_WORK],
-) -> Held
-    ensures { λ r. ⌜ StaysOpen (held .state) (held .nodes) (now (work .entry)) (r .state) (r .nodes) (now (work .exit)) ⌝ }
+) -> Turn
+    ensures { λ r. ⌜ StaysOpen (turn .held) (now (work .entry)) (r .held) (now (work .exit)) ⌝ }
 {
-    let state = held.state;
-    let nodes = held.nodes;
+    let held = turn.held;
     let whole: &[u8] = record;
     if count > whole.len() {
-        return held;
+        return turn;
     }
-    let seen = edit_trial::edit_over(state, edit, &whole[..count], MOST_NODES, nodes, work);
-    let edited = seen.edited;
-    let reply = edited.reply;
-    let state = edited.state;
-    let nodes = seen.nodes;
+    let changed = held_blocks::edit_held(held, edit, &whole[..count], work);
+    let reply = changed.reply;
+    let held = changed.held;
+    let state = held.state;
     let classes = state.classes;
     say_reply(edit, reply, classes);
-    Held {
-        state,
-        nodes,
+    Turn {
+        held,
         spoken: true,
         more: true,
     }
 }
 
 // An edit that is none.
-fn no_edit(held: Held, line: &[u8]) -> Held
-    ensures { λ r. ⌜ SameBlock (held .state) (held .nodes) (r .state) (r .nodes) ⌝ }
+fn no_edit(turn: Turn, line: &[u8]) -> Turn
+    ensures { λ r. ⌜ r .held ≡ turn .held ⌝ }
 {
     say(b"expected add RECORD, remove NODE, list, write OUT or quit, found: ");
     say_found(line);
-    spoken(held)
+    spoken(turn)
 }
 
 // A new node, by a record in words.
-fn add(held: Held, line: &[u8], words: &[u8], work: &mut [u8; MOST_WORK]) -> Held
-    ensures { λ r. ⌜ StaysOpen (held .state) (held .nodes) (now (work .entry)) (r .state) (r .nodes) (now (work .exit)) ⌝ }
+fn add(turn: Turn, line: &[u8], words: &[u8], work: &mut [u8; MOST_WORK]) -> Turn
+    ensures { λ r. ⌜ StaysOpen (turn .held) (now (work .entry)) (r .held) (now (work .exit)) ⌝ }
 {
     let mut record = [0u8; 3];
     match block_words::record_of(words, &mut record) {
-        Worded::Nothing => no_edit(held, line),
+        Worded::Nothing => no_edit(turn, line),
         Worded::Wrong(fault) => {
             say_fault(fault, 0);
-            spoken(held)
+            spoken(turn)
         }
-        Worded::Bytes(count) => change(held, Edit::Add, &record, count, work),
+        Worded::Bytes(count) => change(turn, Edit::Add, &record, count, work),
     }
 }
 
 // A node to give up.
-fn remove(held: Held, word: &[u8], work: &mut [u8; MOST_WORK]) -> Held
-    ensures { λ r. ⌜ StaysOpen (held .state) (held .nodes) (now (work .entry)) (r .state) (r .nodes) (now (work .exit)) ⌝ }
+fn remove(turn: Turn, word: &[u8], work: &mut [u8; MOST_WORK]) -> Turn
+    ensures { λ r. ⌜ StaysOpen (turn .held) (now (work .entry)) (r .held) (now (work .exit)) ⌝ }
 {
     match block_words::number_of(word) {
         Number::Is(node) => {
             let none = [0u8; 3];
-            change(held, Edit::Remove(node), &none, 0, work)
+            change(turn, Edit::Remove(node), &none, 0, work)
         }
         Number::None => {
             say(b"expected a number, found: ");
             say_found(word);
-            spoken(held)
+            spoken(turn)
         }
     }
 }
@@ -159,15 +146,16 @@ fn list_first(bytes: &[u8; MOST_WRITTEN], count: usize) {
     }
 }
 
-fn list_block(held: Held) -> Held
-    ensures { λ r. ⌜ SameBlock (held .state) (held .nodes) (r .state) (r .nodes) ⌝ }
+fn list_block(turn: Turn) -> Turn
+    ensures { λ r. ⌜ r .held ≡ turn .held ⌝ }
 {
     let mut bytes = [0u8; MOST_WRITTEN];
+    let held = turn.held;
     let state = held.state;
     let nodes = held.nodes;
     let count = written_blocks::write_out(state, nodes, &mut bytes);
     list_first(&bytes, count);
-    spoken(held)
+    spoken(turn)
 }
 
 // Puts a block's bytes, or its words, into a file: whether it could.
@@ -199,7 +187,8 @@ fn put_bytes(name: &[u8], bytes: &[u8; MOST_WRITTEN], count: usize) -> bool {
 }
 
 // The block, in words where the file's name says so.
-fn put_block(name: &[u8], held: Held) -> bool {
+fn put_block(name: &[u8], turn: Turn) -> bool {
+    let held = turn.held;
     let state = held.state;
     let nodes = held.nodes;
     if has_words(name) {
@@ -212,22 +201,22 @@ fn put_block(name: &[u8], held: Held) -> bool {
     put_bytes(name, &bytes, count)
 }
 
-fn write(held: Held, name: &[u8]) -> Held
-    ensures { λ r. ⌜ SameBlock (held .state) (held .nodes) (r .state) (r .nodes) ⌝ }
+fn write(turn: Turn, name: &[u8]) -> Turn
+    ensures { λ r. ⌜ r .held ≡ turn .held ⌝ }
 {
-    if put_block(name, held) {
-        return held;
+    if put_block(name, turn) {
+        return turn;
     }
     say(b"expected a file that can be written, found: ");
     say_found(name);
-    spoken(held)
+    spoken(turn)
 }
 
 // ---- lines
 
 // What a line asks for, from its first word to the end of its last.
-fn obey(held: Held, line: &[u8], work: &mut [u8; MOST_WORK]) -> Held
-    ensures { λ r. ⌜ StaysOpen (held .state) (held .nodes) (now (work .entry)) (r .state) (r .nodes) (now (work .exit)) ⌝ }
+fn obey(turn: Turn, line: &[u8], work: &mut [u8; MOST_WORK]) -> Turn
+    ensures { λ r. ⌜ StaysOpen (turn .held) (now (work .entry)) (r .held) (now (work .exit)) ⌝ }
 {
     let command = block_words::word_at(line, 0);
     let from = command.from;
@@ -239,24 +228,24 @@ fn obey(held: Held, line: &[u8], work: &mut [u8; MOST_WORK]) -> Held
     let word = &line[from..to];
     let one = (first < last) & (third.from == third.to);
     if block_words::is_word(word, b"add") & (first < last) {
-        return add(held, line, &line[first..], work);
+        return add(turn, line, &line[first..], work);
     }
     if block_words::is_word(word, b"remove") & one {
-        return remove(held, &line[first..last], work);
+        return remove(turn, &line[first..last], work);
     }
     if block_words::is_word(word, b"write") & one {
-        return write(held, &line[first..last]);
+        return write(turn, &line[first..last]);
     }
     if first < last {
-        return no_edit(held, line);
+        return no_edit(turn, line);
     }
     if block_words::is_word(word, b"list") {
-        return list_block(held);
+        return list_block(turn);
     }
     if block_words::is_word(word, b"quit") {
-        return closed(held);
+        return closed(turn);
     }
-    no_edit(held, line)
+    no_edit(turn, line)
 }
 
 // A line of standard input, without its line feed: so many bytes; or more than a line may have, or none, since the input has ended.
@@ -332,55 +321,55 @@ fn words_end(line: &[u8]) -> usize
 }
 
 // A line with its comment and the blanks round its words.
-fn read_words(held: Held, line: &[u8], work: &mut [u8; MOST_WORK]) -> Held
-    ensures { λ r. ⌜ StaysOpen (held .state) (held .nodes) (now (work .entry)) (r .state) (r .nodes) (now (work .exit)) ⌝ }
+fn read_words(turn: Turn, line: &[u8], work: &mut [u8; MOST_WORK]) -> Turn
+    ensures { λ r. ⌜ StaysOpen (turn .held) (now (work .entry)) (r .held) (now (work .exit)) ⌝ }
 {
     let end = words_end(line);
     let words = &line[..end];
     let first = block_words::word_at(words, 0);
     let from = first.from;
     if from == first.to {
-        return held;
+        return turn;
     }
-    obey(held, &words[from..], work)
+    obey(turn, &words[from..], work)
 }
 
 // So many bytes of a line.
-fn take_line(held: Held, line: &[u8; MOST_LINE], count: usize, work: &mut [u8; MOST_WORK]) -> Held
-    ensures { λ r. ⌜ StaysOpen (held .state) (held .nodes) (now (work .entry)) (r .state) (r .nodes) (now (work .exit)) ⌝ }
+fn take_line(turn: Turn, line: &[u8; MOST_LINE], count: usize, work: &mut [u8; MOST_WORK]) -> Turn
+    ensures { λ r. ⌜ StaysOpen (turn .held) (now (work .entry)) (r .held) (now (work .exit)) ⌝ }
 {
     let whole: &[u8] = line;
     if count > whole.len() {
-        return held;
+        return turn;
     }
-    read_words(held, &whole[..count], work)
+    read_words(turn, &whole[..count], work)
 }
 
 // A line that is too long for an edit.
-fn long_line(held: Held, line: &[u8; MOST_LINE]) -> Held
-    ensures { λ r. ⌜ SameBlock (held .state) (held .nodes) (r .state) (r .nodes) ⌝ }
+fn long_line(turn: Turn, line: &[u8; MOST_LINE]) -> Turn
+    ensures { λ r. ⌜ r .held ≡ turn .held ⌝ }
 {
     let whole: &[u8] = line;
-    no_edit(held, whole)
+    no_edit(turn, whole)
 }
 
 // The next line.
-fn step(held: Held, work: &mut [u8; MOST_WORK]) -> Held
-    ensures { λ r. ⌜ StaysOpen (held .state) (held .nodes) (now (work .entry)) (r .state) (r .nodes) (now (work .exit)) ⌝ }
+fn step(turn: Turn, work: &mut [u8; MOST_WORK]) -> Turn
+    ensures { λ r. ⌜ StaysOpen (turn .held) (now (work .entry)) (r .held) (now (work .exit)) ⌝ }
 {
     let mut line = [0u8; MOST_LINE];
     match read_line(&mut line) {
-        Line::End => closed(held),
-        Line::Long => long_line(held, &line),
-        Line::Of(count) => take_line(held, &line, count, work),
+        Line::End => closed(turn),
+        Line::Long => long_line(turn, &line),
+        Line::Of(count) => take_line(turn, &line, count, work),
     }
 }
 
 // Line by line until the edits end. That an input ends is not known, so the turns are counted down from a number that nobody uses up.
-fn run(held: Held, work: &mut [u8; MOST_WORK]) -> Held
-    ensures { λ r. ⌜ StaysOpen (held .state) (held .nodes) (now (work .entry)) (r .state) (r .nodes) (now (work .exit)) ⌝ }
+fn run(turn: Turn, work: &mut [u8; MOST_WORK]) -> Turn
+    ensures { λ r. ⌜ StaysOpen (turn .held) (now (work .entry)) (r .held) (now (work .exit)) ⌝ }
 {
-    let mut last = held;
+    let mut last = turn;
     let mut turns = u64::MAX;
     while turns > 0 {
         if !last.more {
@@ -394,57 +383,23 @@ fn run(held: Held, work: &mut [u8; MOST_WORK]) -> Held
 
 // ---- the whole
 
-// The entries of node records before a block is opened.
-fn no_entry() -> NodeRecord {
-    NodeRecord {
-        node: Node {
-            kind: 0,
-            first: 0,
-            second: 0,
-            set: 0,
-        },
-        settled: 0,
-        glitch: 0,
-    }
-}
-
-// The reply to opening a block, and the block, which is open unless that is a refusal.
-struct Opened {
-    reply: Reply,
-    held: Held,
-}
-
-fn open(bytes: &[u8], work: &mut [u8; MOST_WORK]) -> Opened
-    ensures reply { λ r. ⌜ replyOf (r .reply) ≡ reply (now (bytes .entry)) most-nodes (length (now (work .entry))) ⌝ }
-    ensures open { λ r. ⌜ ((n : Records.Netlist) → admitted (now (bytes .entry)) most-nodes (length (now (work .entry))) ≡ answered n →
-        IsOpen n (r .held .state) (r .held .nodes) (now (work .exit))) ⌝ }
-{
-    let seen = edit_trial::open_over(bytes, MOST_NODES, [no_entry(); MOST_NODES], work);
-    let edited = seen.edited;
-    let reply = edited.reply;
-    let state = edited.state;
-    let nodes = seen.nodes;
-    let held = Held {
-        state,
-        nodes,
-        spoken: false,
-        more: true,
-    };
-    Opened { reply, held }
-}
-
 // Edits of the block that these bytes are. Where they print nothing, the answer for the block is printed at the end.
 pub fn edit(bytes: &[u8]) {
     let mut work = [0u8; MOST_WORK];
-    let opened = open(bytes, &mut work);
+    let opened = held_blocks::open_held(bytes, &mut work);
     let reply = opened.reply;
     let held = opened.held;
+    let state = held.state;
+    let classes = state.classes;
     match reply {
         Reply::Refused(refusal) => say_refused(refusal, 0),
         Reply::Answered(answer) => {
-            let last = run(held, &mut work);
-            let state = last.state;
-            let classes = state.classes;
+            let turn = Turn {
+                held,
+                spoken: false,
+                more: true,
+            };
+            let last = run(turn, &mut work);
             if !last.spoken {
                 say_answer(answer, classes);
             }

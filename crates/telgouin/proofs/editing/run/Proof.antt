@@ -6,7 +6,7 @@ use Rattle.telgouin.proofs.editing.run.Statement.{statement}
 use Rattle.telgouin.proofs.editing.run.Tie as tie
 
 abbrev Inv-loop : tie.InvT-loop
-Inv-loop work₀ last₀ turns₀ work last turns = StaysOpen (last₀ .state) (last₀ .nodes) work₀ (last .state) (last .nodes) work
+Inv-loop work₀ last₀ turns₀ work last turns = StaysOpen (last₀ .held) work₀ (last .held) work
 
 abbrev μ-loop : tie.MeasureT-loop
 μ-loop work₀ last₀ turns₀ work last turns = turns
