@@ -5,7 +5,8 @@ pub fn help() {
     say(
         b"./telgouin COMMAND FILE ..
 
-FILE is a block as bytes, in words if its name ends in .txt (blocks/README.md), or - for bytes on standard input.
+FILE is a block as bytes, in words if its name ends in .txt (blocks/README.md), or - for bytes on standard input (not for
+edit, which reads edits there).
 
   list FILE
     The listing: a line a node with number, kind and how many sets its settled and its glitch family have;

@@ -62,7 +62,7 @@ pub fn say_answer(answer: Answer, classes: [u8; MOST_VARIABLES]) {
 // The reason of a refusal.
 fn say_reason(number: usize) {
     match number {
-        1 => say(b"a kind above 7"),
+        1 => say(b"a kind above 7; words are read from a file whose name ends in .txt"),
         2 => say(b"a variable after a node"),
         3 => say(b"the eleventh variable or the 201st node"),
         4 => say(b"the bytes end inside a record"),
@@ -180,8 +180,8 @@ pub fn say_found(word: &[u8]) {
     say(b"\n");
 }
 
-// What a record in words was expected to be, with its line, unless that is 0.
-pub fn say_fault(fault: Fault, line: usize) {
+// What a record in words was expected to be.
+fn say_expected(fault: Fault) {
     match fault {
         Fault::Record => say(b"expected secret, mask, public, in, not, xor, and, or, reg or end"),
         Fault::NoNumber => say(b"expected a record with no number"),
@@ -191,5 +191,23 @@ pub fn say_fault(fault: Fault, line: usize) {
         Fault::Variable => say(b"expected a number from 0 to 15"),
         Fault::Twice => say(b"expected each variable once"),
     }
+}
+
+// The same with the line of a text.
+pub fn say_fault(fault: Fault, line: usize) {
+    say_expected(fault);
     say_line(line);
+}
+
+// The same with what was found.
+pub fn say_fault_found(fault: Fault, word: &[u8]) {
+    say_expected(fault);
+    say(b", found: ");
+    say_found(word);
+}
+
+// A number that is none.
+pub fn say_no_number(word: &[u8]) {
+    say(b"expected a number from 0 to 18446744073709551615, found: ");
+    say_found(word);
 }

@@ -12,6 +12,7 @@ use derivations::Derived;
 use derivations::MOST_BYTES;
 use desk_lines::ROOM;
 use netlists::Netlist;
+use rules::Answer;
 use rules::Half;
 use rules::MOST_NODES;
 use rules::MOST_WORK;
@@ -131,6 +132,14 @@ pub fn why(bytes: &[u8], netlist: Netlist, node: usize, layer: usize, set: usize
     }
 }
 
+// That there is no suspect to explain.
+fn say_clear(answer: Answer) {
+    let mut text = [0u8; ROOM];
+    let count = desk_lines::glitch_fields(&mut text, answer);
+    say_first(&text, count);
+    say(b" # no node is suspect, so there is nothing to explain\n");
+}
+
 // That of the first glitch suspect.
 pub fn why_first(bytes: &[u8], netlist: Netlist) {
     let mut work = [0u8; MOST_WORK];
@@ -141,9 +150,7 @@ pub fn why_first(bytes: &[u8], netlist: Netlist) {
         Reply::Answered(answer) => {
             let glitch = answer.glitch;
             match glitch {
-                Half::Clear => {
-                    say(b"glitch clear # no node is suspect, so there is nothing to explain\n");
-                }
+                Half::Clear => say_clear(answer),
                 Half::Suspect(node, set) => why(bytes, netlist, node, 1, set),
             }
         }

@@ -9,8 +9,9 @@ use block_words::Worded;
 use desk::ask::list;
 use desk::say::say;
 use desk::say::say_answer;
-use desk::say::say_fault;
+use desk::say::say_fault_found;
 use desk::say::say_found;
+use desk::say::say_no_number;
 use desk::say::say_refused;
 use desk::say::say_refused_node;
 use held_blocks::Held;
@@ -112,7 +113,7 @@ fn add(turn: Turn, line: &[u8], words: &[u8], work: &mut [u8; MOST_WORK]) -> Tur
     match block_words::record_of(words, &mut record) {
         Worded::Nothing => no_edit(turn, line),
         Worded::Wrong(fault) => {
-            say_fault(fault, 0);
+            say_fault_found(fault, words);
             spoken(turn)
         }
         Worded::Bytes(count) => change(turn, Edit::Add, &record, count, work),
@@ -129,8 +130,7 @@ fn remove(turn: Turn, word: &[u8], work: &mut [u8; MOST_WORK]) -> Turn
             change(turn, Edit::Remove(node), &none, 0, work)
         }
         Number::None => {
-            say(b"expected a number, found: ");
-            say_found(word);
+            say_no_number(word);
             spoken(turn)
         }
     }
@@ -214,8 +214,9 @@ fn write(turn: Turn, name: &[u8]) -> Turn
 
 // ---- lines
 
-// What a line asks for, from its first word to the end of its last.
-fn obey(turn: Turn, line: &[u8], work: &mut [u8; MOST_WORK]) -> Turn
+// What a line asks for, from its first word to the end of its last. Where a comment is stuck to that, nothing is written: its `#` may be meant
+// for the file's name.
+fn obey(turn: Turn, line: &[u8], stuck: bool, work: &mut [u8; MOST_WORK]) -> Turn
     ensures { λ r. ⌜ StaysOpen (turn .held) (now (work .entry)) (r .held) (now (work .exit)) ⌝ }
 {
     let command = block_words::word_at(line, 0);
@@ -233,7 +234,7 @@ fn obey(turn: Turn, line: &[u8], work: &mut [u8; MOST_WORK]) -> Turn
     if block_words::is_word(word, b"remove") & one {
         return remove(turn, &line[first..last], work);
     }
-    if block_words::is_word(word, b"write") & one {
+    if block_words::is_word(word, b"write") & (one & !stuck) {
         return write(turn, &line[first..last]);
     }
     if first < last {
@@ -320,18 +321,27 @@ fn words_end(line: &[u8]) -> usize
     end
 }
 
+// Whether a comment starts at a place.
+fn starts_comment(line: &[u8], at: usize) -> bool {
+    if at < line.len() {
+        return line[at] == b'#';
+    }
+    false
+}
+
 // A line with its comment and the blanks round its words.
 fn read_words(turn: Turn, line: &[u8], work: &mut [u8; MOST_WORK]) -> Turn
     ensures { λ r. ⌜ StaysOpen (turn .held) (now (work .entry)) (r .held) (now (work .exit)) ⌝ }
 {
     let end = words_end(line);
+    let stuck = starts_comment(line, end);
     let words = &line[..end];
     let first = block_words::word_at(words, 0);
     let from = first.from;
     if from == first.to {
         return turn;
     }
-    obey(turn, &words[from..], work)
+    obey(turn, &words[from..], stuck, work)
 }
 
 // So many bytes of a line.

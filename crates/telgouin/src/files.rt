@@ -6,6 +6,7 @@ use block_words::Number;
 use desk::say::say;
 use desk::say::say_fault;
 use desk::say::say_found;
+use desk::say::say_no_number;
 use desk::say::say_number;
 use libc::STDIN_FILENO;
 use rules::Refusal;
@@ -32,8 +33,7 @@ fn take_number(i: usize, into: &mut [usize; MOST_NUMBERS], k: usize) -> bool {
             true
         }
         Number::None => {
-            say(b"expected a number, found: ");
-            say_found(&word[..length]);
+            say_no_number(&word[..length]);
             false
         }
     }

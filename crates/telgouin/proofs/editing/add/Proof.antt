@@ -16,8 +16,8 @@ no-edit-requires c κs = search needs
 enum-known-fault : tie.Need-enum-known-fault
 enum-known-fault c = search needs
 
-say-fault-requires : tie.Need-say-fault-requires
-say-fault-requires c κs = search needs
+say-fault-found-requires : tie.Need-say-fault-found-requires
+say-fault-found-requires c κs = search needs
 
 spoken-requires : tie.Need-spoken-requires
 spoken-requires c κs = search needs
@@ -45,7 +45,7 @@ add-spec =
     enum-told
     no-edit-requires
     enum-known-fault
-    say-fault-requires
+    say-fault-found-requires
     spoken-requires
     enum-known-count
     change-requires

@@ -9,8 +9,11 @@ use Rattle.telgouin.proofs.editing.read_words.Tie as tie
 words-end-requires : tie.Need-words-end-requires
 words-end-requires c κs = search needs
 
+starts-comment-requires : tie.Need-starts-comment-requires
+starts-comment-requires c κs = search needs
+
 slice-aggregate-words : tie.Need-slice-aggregate-words
-slice-aggregate-words c = sym (length-take-le _ _ (c .before .words-end .ensures))
+slice-aggregate-words c = sym (length-take-le _ _ (c .before .before .words-end .ensures))
 
 word-at-requires : tie.Need-word-at-requires
 word-at-requires c κs = search needs
@@ -38,6 +41,7 @@ read-words-spec =
     tie.close
     (tie.spec
     words-end-requires
+    starts-comment-requires
     slice-aggregate-words
     word-at-requires
     returns

@@ -16,14 +16,8 @@ change-requires c κs = search needs
 enum-told : tie.Need-enum-told
 enum-told c = search needs
 
-slice-aggregate-say : tie.Need-slice-aggregate-say
-slice-aggregate-say c = search needs
-
-say-requires : tie.Need-say-requires
-say-requires c κs = search needs
-
-say-found-requires : tie.Need-say-found-requires
-say-found-requires c κs = search needs
+say-no-number-requires : tie.Need-say-no-number-requires
+say-no-number-requires c κs = search needs
 
 spoken-requires : tie.Need-spoken-requires
 spoken-requires c κs = search needs
@@ -42,9 +36,7 @@ remove-spec =
     enum-known-node
     change-requires
     enum-told
-    slice-aggregate-say
-    say-requires
-    say-found-requires
+    say-no-number-requires
     spoken-requires
     returns
     returns-2)
