@@ -214,9 +214,8 @@ fn write(turn: Turn, name: &[u8]) -> Turn
 
 // ---- lines
 
-// What a line asks for, from its first word to the end of its last. Where a comment is stuck to that, nothing is written: its `#` may be meant
-// for the file's name.
-fn obey(turn: Turn, line: &[u8], stuck: bool, work: &mut [u8; MOST_WORK]) -> Turn
+// What a line asks for, from its first word to the end of its last.
+fn obey(turn: Turn, line: &[u8], work: &mut [u8; MOST_WORK]) -> Turn
     ensures { λ r. ⌜ StaysOpen (turn .held) (now (work .entry)) (r .held) (now (work .exit)) ⌝ }
 {
     let command = block_words::word_at(line, 0);
@@ -234,7 +233,7 @@ fn obey(turn: Turn, line: &[u8], stuck: bool, work: &mut [u8; MOST_WORK]) -> Tur
     if block_words::is_word(word, b"remove") & one {
         return remove(turn, &line[first..last], work);
     }
-    if block_words::is_word(word, b"write") & (one & !stuck) {
+    if block_words::is_word(word, b"write") & one {
         return write(turn, &line[first..last]);
     }
     if first < last {
@@ -329,19 +328,24 @@ fn starts_comment(line: &[u8], at: usize) -> bool {
     false
 }
 
-// A line with its comment and the blanks round its words.
+// A line with its comment and the blanks round its words. Where a comment is stuck to the last word nothing is written: its `#` may be meant for
+// the file's name.
 fn read_words(turn: Turn, line: &[u8], work: &mut [u8; MOST_WORK]) -> Turn
     ensures { λ r. ⌜ StaysOpen (turn .held) (now (work .entry)) (r .held) (now (work .exit)) ⌝ }
 {
     let end = words_end(line);
-    let stuck = starts_comment(line, end);
     let words = &line[..end];
     let first = block_words::word_at(words, 0);
     let from = first.from;
-    if from == first.to {
+    let to = first.to;
+    if from == to {
         return turn;
     }
-    obey(turn, &words[from..], stuck, work)
+    let writes = block_words::is_word(&words[from..to], b"write");
+    if writes & starts_comment(line, end) {
+        return no_edit(turn, line);
+    }
+    obey(turn, &words[from..], work)
 }
 
 // So many bytes of a line.
