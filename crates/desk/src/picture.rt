@@ -6,7 +6,6 @@ use crate::say::say_number;
 use crate::say::say_refused;
 use crate::say::say_set;
 use crate::steps::step_at;
-use derivation_steps::STEP;
 use derivations::Derived;
 use derivations::MOST_BYTES;
 use marks::Marks;
@@ -57,12 +56,10 @@ fn with_step(path: Path, node: usize, rule: u8) -> Path {
 
 fn path_of(steps: &[u8; MOST_BYTES], count: usize) -> Path {
     let mut path = no_path(0, 0);
-    let mut at = 0;
     let mut k = 0;
     while k < count {
-        let step = step_at(steps, at);
+        let step = step_at(steps, k);
         path = with_step(path, step.node as usize, step.rule);
-        at = wrapping_add_usize(at, STEP);
         k += 1;
     }
     path

@@ -7,7 +7,6 @@ use crate::say::say_refused;
 use crate::say::say_set;
 use crate::steps::Step;
 use crate::steps::step_at;
-use derivation_steps::STEP;
 use derivations::Derived;
 use derivations::MOST_BYTES;
 use desk_lines::ROOM;
@@ -105,7 +104,6 @@ fn say_step(netlist: Netlist, step: Step, depth: usize) {
 fn say_steps(netlist: Netlist, steps: &[u8; MOST_BYTES], count: usize) {
     let mut depths = [0usize; MOST_WAITING];
     let mut waiting: usize = 1;
-    let mut at = 0;
     let mut k = 0;
     while k < count {
         let mut depth = 0;
@@ -115,10 +113,9 @@ fn say_steps(netlist: Netlist, steps: &[u8; MOST_BYTES], count: usize) {
         if waiting < MOST_WAITING {
             depth = depths[waiting];
         }
-        let step = step_at(steps, at);
+        let step = step_at(steps, k);
         say_step(netlist, step, depth);
         waiting = wait_operands(&mut depths, waiting, depth, step.rule);
-        at = wrapping_add_usize(at, STEP);
         k += 1;
     }
 }

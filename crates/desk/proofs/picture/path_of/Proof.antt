@@ -5,10 +5,10 @@ use Rattle.desk.proofs.picture.path_of.Statement.{statement}
 use Rattle.desk.proofs.picture.path_of.Tie as tie
 
 abbrev Inv-loop : tie.InvT-loop
-Inv-loop steps count path₀ at₀ k₀ path at k = k ≤ count
+Inv-loop steps count path₀ k₀ path k = k ≤ count
 
 abbrev μ-loop : tie.MeasureT-loop
-μ-loop steps count path₀ at₀ k₀ path at k = count - k
+μ-loop steps count path₀ k₀ path k = count - k
 
 no-path-requires : tie.Need-no-path-requires Inv-loop μ-loop
 no-path-requires c κs = search needs
@@ -24,9 +24,6 @@ cast-with-step c = search needs
 
 with-step-requires : tie.Need-with-step-requires Inv-loop μ-loop
 with-step-requires c κs = search needs
-
-wrapping-add-usize-requires : tie.Need-wrapping-add-usize-requires Inv-loop μ-loop
-wrapping-add-usize-requires c κs = search needs
 
 add-k : tie.Need-add-k Inv-loop μ-loop
 add-k c = search needs
@@ -51,7 +48,6 @@ path-of-spec =
     step-at-requires
     cast-with-step
     with-step-requires
-    wrapping-add-usize-requires
     add-k
     loop-less
     loop-again

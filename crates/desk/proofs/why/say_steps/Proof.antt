@@ -5,10 +5,10 @@ use Rattle.desk.proofs.why.say_steps.Statement.{statement}
 use Rattle.desk.proofs.why.say_steps.Tie as tie
 
 abbrev Inv-loop : tie.InvT-loop
-Inv-loop netlist steps count depths₀ waiting₀ at₀ k₀ depths waiting at k = k ≤ count
+Inv-loop netlist steps count depths₀ waiting₀ k₀ depths waiting k = k ≤ count
 
 abbrev μ-loop : tie.MeasureT-loop
-μ-loop netlist steps count depths₀ waiting₀ at₀ k₀ depths waiting at k = count - k
+μ-loop netlist steps count depths₀ waiting₀ k₀ depths waiting k = count - k
 
 loop-holds : tie.Need-loop-holds Inv-loop μ-loop
 loop-holds c = search needs
@@ -30,9 +30,6 @@ say-step-requires c κs = search needs
 
 wait-operands-requires : tie.Need-wait-operands-requires Inv-loop μ-loop
 wait-operands-requires c κs = search needs
-
-wrapping-add-usize-requires : tie.Need-wrapping-add-usize-requires Inv-loop μ-loop
-wrapping-add-usize-requires c κs = search needs
 
 add-k : tie.Need-add-k Inv-loop μ-loop
 add-k c = search needs
@@ -59,7 +56,6 @@ say-steps-spec =
     step-at-requires
     say-step-requires
     wait-operands-requires
-    wrapping-add-usize-requires
     add-k
     loop-less
     loop-again
