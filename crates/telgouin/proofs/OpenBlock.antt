@@ -2,7 +2,7 @@
 use Prim.Native.Nat.{ℕ}
 use mathlib.Core.Path.{_≡_}
 use mathlib.Core.List.{List}
-use Rattle.held_blocks.specs.declared.Held.{Held}
+use Rattle.edit_trial.specs.declared.Held.{Held}
 use Rattle.telgouin.specs.Editing.{OpenBlock}
 
 -- a block that is held as it was stays open

@@ -3,7 +3,7 @@ use Prim.Native.Nat.{ℕ}
 use mathlib.Core.List.{List}
 use Rattle.rules.specs.Records.{Netlist}
 use Rattle.open_blocks.specs.Meaning.{IsOpen}
-use Rattle.held_blocks.specs.declared.Held.{Held}
+use Rattle.edit_trial.specs.declared.Held.{Held}
 
 -- what is held, with the work bytes beside it, is an open block
 pub record OpenBlock (held : Held) (work : List ℕ) : Type 0 where

@@ -14,7 +14,7 @@ use desk::say::say_found;
 use desk::say::say_no_number;
 use desk::say::say_refused;
 use desk::say::say_refused_node;
-use held_blocks::Held;
+use edit_trial::Held;
 use libc::STDIN_FILENO;
 use open_blocks::Edit;
 use rules::MOST_VARIABLES;
@@ -83,7 +83,7 @@ fn change(
     if count > whole.len() {
         return turn;
     }
-    let changed = held_blocks::edit_held(held, edit, &whole[..count], work);
+    let changed = edit_trial::edit_held(held, edit, &whole[..count], work);
     let reply = changed.reply;
     let held = changed.held;
     let state = held.state;
@@ -400,7 +400,7 @@ fn run(turn: Turn, work: &mut [u8; MOST_WORK]) -> Turn
 // Edits of the block that these bytes are. Where they print nothing, the answer for the block is printed at the end.
 pub fn edit(bytes: &[u8]) {
     let mut work = [0u8; MOST_WORK];
-    let opened = held_blocks::open_held(bytes, &mut work);
+    let opened = edit_trial::open_held(bytes, &mut work);
     let reply = opened.reply;
     let held = opened.held;
     let state = held.state;

@@ -1,4 +1,4 @@
--- `held_blocks::open_held` meets its contract: a block that is not refused is open. Assumes nothing.
+-- `edit_trial::open_held` meets its contract: a block that is not refused is open. Assumes nothing.
 use mathlib.Core.Path.{_≡_}
 use mathlib.Core.List.{List}
 use native.Mathlib.Omega.{arith}
@@ -7,9 +7,9 @@ use lib.Seq.{length-take-le}
 use borrow.Author.Needs.{needs}
 use Rattle.rules.specs.declared.NodeRecord.{NodeRecord}
 use Rattle.rules.specs.Records.{most-nodes}
 use Rattle.edit_trial.proofs.StillOpen.{opened-open}
-use Rattle.held_blocks.proofs.open_held.Statement.{statement}
-use Rattle.held_blocks.proofs.open_held.Tie as tie
+use Rattle.edit_trial.proofs.open_held.Statement.{statement}
+use Rattle.edit_trial.proofs.open_held.Tie as tie
 
 no-entry-requires : tie.Need-no-entry-requires
 no-entry-requires c κs = search needs

@@ -1,13 +1,13 @@
--- `held_blocks::edit_held` meets its contract: what an edit leaves is an open block, and what one that is refused leaves too. Assumes nothing.
+-- `edit_trial::edit_held` meets its contract: what an edit leaves is an open block, and what one that is refused leaves too. Assumes nothing.
 use mathlib.Core.Path.{_≡_}
 use native.Mathlib.Omega.{arith}
 use lib.ListN.{length, take, length-map}
 use lib.Seq.{length-take-le}
 use borrow.Author.Needs.{needs}
 use Rattle.rules.specs.Records.{most-nodes}
 use Rattle.edit_trial.proofs.StillOpen.{lent-open, edited-open}
-use Rattle.held_blocks.proofs.edit_held.Statement.{statement}
-use Rattle.held_blocks.proofs.edit_held.Tie as tie
+use Rattle.edit_trial.proofs.edit_held.Statement.{statement}
+use Rattle.edit_trial.proofs.edit_held.Tie as tie
 
 edit-over-requires : tie.Need-edit-over-requires
 edit-over-requires c κs = search needs
