@@ -162,6 +162,7 @@ tells-record (says r) n k a b e =
       is = refl;
       long = en;
       front = rw (en, ek, ea, eb) (first-three bytes (few-bytes r));
+      whole = rw (ek, ea, eb);
       few = rw en (few-bytes r);
     }
 tells-record (wrong fault) n k a b e = absurd (let z : _≡_ {A = ℕ} 0 1 = cc in omega arith)

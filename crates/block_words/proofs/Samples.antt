@@ -24,16 +24,16 @@ other-kinds : (blockIn (word "public\r\n\tin 15 8#9\r\nnot 255\nand 7 007\n  or 
 unfolding blockIn blockBehind linesOf linesBehind closed words wordsBehind recordIn readBy forms word same alone withOperand withOne withTwo withVariables cut numberIn numberBehind allDigits valueBehind recordBytes classByte kindOf operands body
 other-kinds = (refl, refl, refl, refl)
 
--- what was expected instead, and in which line
-faults : (blockIn (word "secret\nnand 0 1\n") [] ≡ wrongIn Fault.Record 2)
-    × (blockIn (word "secret\n\nmask 1") [] ≡ wrongIn Fault.NoNumber 3)
-    × (blockIn (word "not") [] ≡ wrongIn Fault.OneNumber 1)
-    × (blockIn (word "reg 1 2") [] ≡ wrongIn Fault.OneNumber 1)
-    × (blockIn (word "or 1") [] ≡ wrongIn Fault.TwoNumbers 1)
-    × (blockIn (word "and 1 2 3") [] ≡ wrongIn Fault.TwoNumbers 1)
-    × (blockIn (word "xor 256 0") [] ≡ wrongIn Fault.Operand 1)
-    × (blockIn (word "xor 0 1x") [] ≡ wrongIn Fault.Operand 1)
-    × (blockIn (word "in 16") [] ≡ wrongIn Fault.Variable 1)
-    × (blockIn (word "in 1 01") [] ≡ wrongIn Fault.Twice 1)
+-- what was expected instead, in which line, and what the lines before it say
+faults : (blockIn (word "secret\nnand 0 1\n") [] ≡ wrongIn Fault.Record 2 (1 ∷ 0 ∷ []) [])
+    × (blockIn (word "secret\n\nmask 1") [] ≡ wrongIn Fault.NoNumber 3 (1 ∷ 0 ∷ []) [])
+    × (blockIn (word "not") [] ≡ wrongIn Fault.OneNumber 1 [] [])
+    × (blockIn (word "reg 1 2") [] ≡ wrongIn Fault.OneNumber 1 [] [])
+    × (blockIn (word "or 1") [] ≡ wrongIn Fault.TwoNumbers 1 [] [])
+    × (blockIn (word "and 1 2 3") [] ≡ wrongIn Fault.TwoNumbers 1 [] [])
+    × (blockIn (word "xor 256 0") [] ≡ wrongIn Fault.Operand 1 [] [])
+    × (blockIn (word "xor 0 1x") [] ≡ wrongIn Fault.Operand 1 [] [])
+    × (blockIn (word "in 16") [] ≡ wrongIn Fault.Variable 1 [] [])
+    × (blockIn (word "in 1 01") [] ≡ wrongIn Fault.Twice 1 [] [])
 unfolding blockIn blockBehind linesOf linesBehind closed words wordsBehind recordIn readBy forms word same alone withOperand withOne withTwo withVariables cut numberIn numberBehind allDigits valueBehind recordBytes classByte kindOf operands body
 faults = (refl, refl, refl, refl, refl, refl, refl, refl, refl, refl)

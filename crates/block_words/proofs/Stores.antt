@@ -3,11 +3,11 @@ use Prim.Native.Nat.{ℕ, zero, suc, _+_, _≤_, _<_, min}
 use mathlib.Core.Path.{_≡_, refl, sym, ap, _∙_}
 use mathlib.Core.List.{List, [], _∷_, _++_}
 use native.Mathlib.Decide.{decLe}
-use native.Mathlib.Nat.{add-zero}
-use native.Mathlib.Numerals.{add-one}
+use native.Mathlib.Nat.{add-zero, zero-add}
+use native.Mathlib.Numerals.{add-one, unary-clauses}
 use native.Mathlib.Omega.{arith}
-use lib.ListN.{length, getD, take, drop, set, length-set, length-drop, take-append-drop}
-use lib.Seq.{sets, set-out, take-all, take-suc, take-append-le, take-append-add, length-take-le}
+use lib.ListN.{length, getD, take, drop, set, length-set}
+use lib.Seq.{sets, set-out, take-suc, length-take-le, length-sets}
 
 -- two runs, one behind the other, are one
 sets-append : (l : List ℕ) (i : ℕ) (xs ys : List ℕ) → sets (sets l i xs) (i + length xs) ys ≡ sets l i (xs ++ ys)
@@ -35,42 +35,19 @@ sets-cut l i xs = either (decLe i (length l))
     either (yes h) = let inside : min i (length l) ≡ i = omega arith in rw inside
     either (no h) = sets-out l (min i (length l)) xs (omega arith) ∙ sym (sets-out l i xs (omega arith))
 
--- what a run from the front on leaves there
+-- a run from the front on, as far as there is room, and beyond it what was there
 sets-behind : (x : ℕ) (l : List ℕ) (i : ℕ) (xs : List ℕ) → sets (x ∷ l) (suc i) xs ≡ x ∷ sets l i xs
 sets-behind x l i [] = refl
 sets-behind x l i (y ∷ ys) = sets-behind x (set l i y) (suc i) ys
 
-sets-front : (n : ℕ) (l xs : List ℕ) → n ≤ length l → n ≤ length xs → take n (sets l 0 xs) ≡ take n xs
-sets-front zero l xs h k = refl
-sets-front (suc n) [] xs h k = absurd (omega arith)
-sets-front (suc n) (y ∷ l) [] h k = absurd (omega arith)
-sets-front (suc n) (y ∷ l) (x ∷ xs) h k = ap (take (suc n)) (sets-behind x l 0 xs) ∙ ap (_∷_ x) (sets-front n l xs (omega arith) (omega arith))
+pub sets-front : (l xs : List ℕ) → let n = min (length xs) (length l) in
+    sets l 0 xs ≡ take n xs ++ drop n l
+sets-front l [] = simp unary-clauses
+sets-front [] (x ∷ xs) = simp unary-clauses (sets-out [] 0 (x ∷ xs) (omega arith))
+sets-front (y ∷ l) (x ∷ xs) = simp unary-clauses (sets-behind x l 0 xs ∙ ap (_∷_ x) (sets-front l xs))
 
--- ---- the front of a block
-
-sets-seam : (xs rest ys : List ℕ) → sets (xs ++ rest) (length xs) ys ≡ xs ++ sets rest 0 ys
-sets-seam [] rest ys = refl
-sets-seam (x ∷ xs) rest ys = sets-behind x (xs ++ rest) (length xs) ys ∙ ap (_∷_ x) (sets-seam xs rest ys)
-
--- of a block whose first bytes are kept, as far as there is room, those of a run behind it are kept too
-pub front-more : (own bytes xs : List ℕ) (count : ℕ) → count ≡ min (length own) (length bytes) → take count bytes ≡ take count own
-    → let next = min (count + length xs) (length bytes) in
-    take next (sets bytes count xs) ≡ take next (own ++ xs)
-front-more own bytes xs count e front = either (decLe (length own) (length bytes))
-  where
-    next : ℕ
-    next = min (count + length xs) (length bytes)
-
-    either : Dec (length own ≤ length bytes) → take next (sets bytes count xs) ≡ take next (own ++ xs)
-    either (yes h) =
-        let m = min (length xs) (length (drop count bytes)) in
-        let all : count ≡ length own = omega arith in
-        let seam : bytes ≡ own ++ drop count bytes =
-        sym (take-append-drop count bytes) ∙ ap (λ (l : List ℕ). l ++ drop count bytes) (front ∙ take-all count own (omega arith)) in
-        let long : next ≡ length own + m = omega (arith, length-drop count bytes) in
-        let stored : sets bytes count xs ≡ own ++ sets (drop count bytes) 0 xs =
-        ap (λ (l : List ℕ). sets l count xs) seam ∙ ap (λ (i : ℕ). sets (own ++ drop count bytes) i xs) all ∙ sets-seam own (drop count bytes) xs in
-        rw (stored, long) (simp take-append-add (ap (λ (l : List ℕ). own ++ l) (sets-front m (drop count bytes) xs (omega arith) (omega arith))))
-    either (no h) =
-        let full : next ≡ count = omega arith in
-        ap (take next) (sets-out bytes count xs (omega arith)) ∙ rw full (front ∙ sym (take-append-le count own xs (omega arith)))
+-- a run behind another from the front on, that starts where there is room no more, or at its end
+pub sets-next : (l own xs : List ℕ) (count : ℕ) → count ≡ min (length own) (length l) → sets (sets l 0 own) count xs ≡ sets l 0 (own ++ xs)
+sets-next l own xs count e =
+    let cut : count ≡ min (length own) (length (sets l 0 own)) = omega (arith, length-sets l 0 own) in
+    rw cut (sets-cut (sets l 0 own) (length own) xs ∙ rw zero-add at (sets-append l 0 own xs))

@@ -120,10 +120,10 @@ recordIn (name ∷ numbers) = readBy forms name numbers
 -- ---- the block of a text
 
 -- What a text says: the bytes of its records, and at the offset of each kind byte the line of its record, in a list that held something
--- before; or in which line something else was expected.
+-- before; or in which line something else was expected, and what the lines before it say.
 pub data BlockSaid : Type 0 where
   block : (bytes lines : List ℕ) → BlockSaid
-  wrongIn : Fault → (line : ℕ) → BlockSaid
+  wrongIn : Fault → (line : ℕ) (bytes lines : List ℕ) → BlockSaid
 
 -- the same behind `bytes` and `lines` so far, with the next line's number; lines are numbered from 1
 unfoldable pub blockBehind : (bytes lines : List ℕ) (number : ℕ) (rest : List (List ℕ)) → BlockSaid
@@ -132,7 +132,7 @@ blockBehind bytes lines k (line ∷ rest) =
     elim (recordIn (words line)) [
       | nothing ↦ blockBehind bytes lines (suc k) rest
       | says r ↦ blockBehind (bytes ++ recordBytes r) (set lines (length bytes) k) (suc k) rest
-      | wrong fault ↦ wrongIn fault k
+      | wrong fault ↦ wrongIn fault k bytes lines
     ]
 
 unfoldable pub linesOf : (text : List ℕ) → List (List ℕ)

@@ -69,7 +69,8 @@ enum Stop {
     LineEnd,
 }
 
-fn is_blank(letter: u8) -> bool
+// Whether a letter parts words.
+pub fn is_blank(letter: u8) -> bool
     ensures { λ r. ⌜ r ≡ isBlank letter ⌝ }
 {
     (letter == b' ') | ((letter == b'\t') | (letter == b'\r'))
@@ -102,7 +103,7 @@ fn past(text: &[u8], from: usize, stop: Stop) -> usize
 
 // Where the next word of a line from `at` on starts and ends; it starts where it ends if there is none. A comment, from `#` on, has no
 // words.
-fn next_word(line: &[u8], at: usize) -> Place
+pub fn next_word(line: &[u8], at: usize) -> Place
     requires { ⌜ at ≤ length (now line) ⌝ }
     ensures { λ r. ⌜ NextWord (now (line .entry)) at (r .from) (r .to) ⌝ }
 {
@@ -339,10 +340,10 @@ fn record_with(word: &[u8], numbers: &[u8]) -> Line
     gate_record(word, numbers)
 }
 
-// The record that a line says, without its line feed: no words, so many bytes at the front of `bytes`, or what was expected instead.
-// Beyond the record's bytes, `bytes` is left open.
+// The record that a line says, without its line feed: no words, so many bytes at the front of `bytes` with 0 behind them, or what was
+// expected instead. Where there is no record, `bytes` is as it was.
 pub fn record_of(line: &[u8], bytes: &mut [u8; 3]) -> Worded
-    ensures { λ r. ⌜ TellsRecord r (now (bytes .exit)) (recordIn (words (now (line .entry)))) ⌝ }
+    ensures { λ r. ⌜ TellsRecord r (now (bytes .entry)) (now (bytes .exit)) (recordIn (words (now (line .entry)))) ⌝ }
 {
     let word = next_word(line, 0);
     let from = word.from;
@@ -413,13 +414,13 @@ fn put_record(bytes: &mut [u8], at: usize, own: [u8; 3], size: usize) -> usize
 
 // The block that a text says: how many bytes it has, those beyond 1,024 left out, and how many lines the text has, at least 1; or what
 // was expected instead, and in which line. `lines[k]` is the line of the record whose kind byte is at offset `k` of the block. Where
-// something else was expected, both arrays are left open.
+// something else was expected, both arrays hold what the lines before it say. All else in them is as it was.
 pub fn block_of(
     text: &[u8],
     bytes: &mut [u8; MOST_BLOCK],
     lines: &mut [usize; MOST_BLOCK],
 ) -> BlockWords
-    ensures { λ r. ⌜ TellsBlock r (now (text .entry)) (now (lines .entry)) (now (bytes .exit)) (now (lines .exit)) ⌝ }
+    ensures { λ r. ⌜ TellsBlock r (now (text .entry)) (now (bytes .entry)) (now (lines .entry)) (now (bytes .exit)) (now (lines .exit)) ⌝ }
 {
     let mut count: usize = 0;
     let mut line: usize = 0;

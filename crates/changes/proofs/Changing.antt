@@ -47,7 +47,8 @@ pub contained-looks : (entries : ℕ) (value : Value.Netlist) (marks : Marks) (e
 contained-looks entries value marks examined before after few small l =
     record { few-entries = rw (l .netlist) few; few-nodes = rw (l .netlist) small; unchanged = λ k p r. absurd (l .stands k p r) }
 
-edited-refused : (n : Netlist) (e : Edit) (entries work k p : ℕ) → fits n e entries work ≡ refused k p → edited n e entries work ≡ refused k p
+-- what is refused by the state and the lengths alone is refused
+pub edited-refused : (n : Netlist) (e : Edit) (entries work k p : ℕ) → fits n e entries work ≡ refused k p → edited n e entries work ≡ refused k p
 unfolding edited andThen
 edited-refused n (add bytes) entries work k p f = f
 edited-refused n (remove i) entries work k p f = rw f

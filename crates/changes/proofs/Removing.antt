@@ -1,5 +1,5 @@
--- What the functions that give a node up share: what is examined where another node still names the node and where it is given up, and what a removal
--- comes to before that. Assumes nothing.
+-- A node given up: what is examined where another node still names the node and where it is given up, and what a removal comes to before that. Assumes
+-- nothing.
 use Prim.Native.Nat.{ℕ, _+_, _*_, _≤_, _<_}
 use mathlib.Core.Path.{_≡_, refl, sym, ap, ap₂, _∙_}
 use mathlib.Core.List.{List}
@@ -24,9 +24,15 @@ use Rattle.checker.proofs.Core.{refusal, answers}
 use Rattle.open_blocks.specs.Edits.{remove, withoutNode, naming, givenUp, fits, edited}
 use Rattle.open_blocks.specs.Work.{movedDown, HoldsFamilies}
 use Rattle.open_blocks.proofs.Removing.{moved-families}
-use Rattle.changes.specs.Changes.{GivesUp, Changes}
+use Rattle.changes.specs.Changes.{Contained, Changes}
 use Rattle.changes.proofs.Changing.{state-count, contained-refused, contained-looks}
 use Rattle.open_blocks.proofs.Removal.{Unnamed, marks-removed}
+
+-- a node less, in slices that have room
+pub record GivesUp (block : Value.Netlist) (marks : Marks) (gone : ℕ) (examined : Examined) (before after : List ℕ) : Type 0 where
+  pub contained : Contained (block .count) examined before after
+  pub made : (n : Netlist) → WellFormed n → block ≡ flatOf n → marks ≡ marksOf n → HoldsFamilies n before
+      → Examines (givenUp gone n) examined before after
 
 -- a node is given up, where `by` is the lowest node that names it
 module _ (block : Value.Netlist) (marks : Marks) (gone by : ℕ) (lowest : (n : Netlist) → block ≡ flatOf n → by ≡ naming gone (n .nodes)) where

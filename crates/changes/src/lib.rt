@@ -2,13 +2,11 @@
 // families and the marks of the new node and of no other; a removal moves those behind the node down and works out none; the answer is read from
 // the marks.
 ghost use Prim.Native.Nat.{_<_};
-ghost use lib.ListN.{length};
 ghost use Rattle.rules.specs.Records.{most-nodes};
-ghost use Rattle.netlists.specs.Netlists.{Sized};
 ghost use Rattle.nodes.specs.Work.{Placed};
 ghost use Rattle.open_blocks.specs.Edits as Edits;
 ghost use Rattle.open_blocks.specs.Meaning.{editOf};
-ghost use Rattle.changes.specs.Changes.{Limited, Adds, GivesUp, Changes};
+ghost use Rattle.changes.specs.Changes.{Limited, Adds, Changes};
 use checker::Examined;
 use marks::Marks;
 use netlists::Netlist;
@@ -65,22 +63,7 @@ fn add_node(block: Netlist, marks: Marks, bytes: &[u8], entries: usize, work: &m
 
 // ---- a node given up
 
-// The answer for a block without one of its nodes, or the refusal where another node names it.
-fn give_up(block: Netlist, marks: Marks, gone: usize, work: &mut [u8]) -> Examined
-    requires { ⌜ Sized block (length (now work)) × (gone < block .count) ⌝ }
-    ensures { λ r. ⌜ GivesUp block marks gone r (now (work .entry)) (now (work .exit)) ⌝ }
-{
-    let count = block.count;
-    let by = open_blocks::naming(block, gone);
-    if by < count {
-        return checker::refused(Refusal::StillNamed(by));
-    }
-    open_blocks::move_down(work, gone, count);
-    let fewer = marks::without_marks(marks, gone, count);
-    checker::look(open_blocks::without_node(block, gone), fewer)
-}
-
-// A node given up: 12, then both slices for the nodes that the block has, then 14.
+// A node given up: 12, then both slices for the nodes that the block has, then 14 where another node names it; and only then does anything move.
 fn remove_node(
     block: Netlist,
     marks: Marks,
@@ -93,6 +76,7 @@ fn remove_node(
 {
     let count = block.count;
     let bytes = 256 * count;
+    let by = open_blocks::naming(block, gone);
     if count <= gone {
         return checker::refused(Refusal::NoSuchNode(gone));
     }
@@ -102,7 +86,12 @@ fn remove_node(
     if work.len() < bytes {
         return checker::refused(Refusal::ShortWork(bytes));
     }
-    give_up(block, marks, gone, work)
+    if by < count {
+        return checker::refused(Refusal::StillNamed(by));
+    }
+    open_blocks::move_down(work, gone, count);
+    let fewer = marks::without_marks(marks, gone, count);
+    checker::look(open_blocks::without_node(block, gone), fewer)
 }
 
 // ---- an edit

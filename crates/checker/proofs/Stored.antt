@@ -6,7 +6,7 @@ use mathlib.Core.List.{List, _++_}
 use mathlib.Core.Option.{none}
 use native.Mathlib.Omega.{arith}
 use native.Mathlib.Numerals.{add-one}
-use lib.ListN.{length, getD, drop, set, length-set}
+use lib.ListN.{length, getD, drop, set, length-set, length-replicate, List·getD-append}
 use lib.Seq.{drop-cons, set-at, append-snoc}
 use Rattle.rules.specs.declared.NodeRecord.{NodeRecord}
 use Rattle.rules.specs.Lists.{tabulate}
@@ -14,7 +14,7 @@ use Rattle.rules.specs.Records.{input, Netlist, empty, most-nodes}
 use Rattle.rules.specs.Families.{layerMarks}
 use Rattle.rules.specs.Slices.{nodeRecord, nodeRecords, filled, nodesAfter}
 use Rattle.rules.specs.Checks.{Outcome, answered, refused, admitted}
-use Rattle.rules.proofs.Packing.{tabulate-length, tabulate-same}
+use Rattle.rules.proofs.Packing.{tabulate-length, tabulate-at, tabulate-same}
 use Rattle.rules.proofs.Exit.{records-length}
 use Rattle.rules.proofs.Reading.{read-well-formed}
 use Rattle.rules.proofs.Room.{admitted-says}
@@ -23,7 +23,7 @@ use Rattle.netlists.proofs.Netlists.{flat-entry-at, value-count}
 use Rattle.marks.specs.Marks.{marksIn, marksOf}
 use Rattle.marks.proofs.Layers.{flat-at}
 use Rattle.checker.specs.declared.Examined.{Examined}
-use Rattle.checker.specs.Work.{recordIn, unwritten, stored}
+use Rattle.checker.specs.Work.{recordIn, unwritten, noEntries, stored}
 
 module _ (records : ℕ → NodeRecord) (before : List NodeRecord) where
   pub stored-none : stored records before 0 ≡ before
@@ -39,13 +39,23 @@ module _ (records : ℕ → NodeRecord) (before : List NodeRecord) where
   stored-length zero = refl
   stored-length (suc k) = length-set (stored records before k) k (records k) ∙ stored-length k
 
-  stored-front : (k : ℕ) → k ≤ length before → stored records before k ≡ tabulate records k ++ drop k before
+  pub stored-front : (k : ℕ) → k ≤ length before → stored records before k ≡ tabulate records k ++ drop k before
   unfolding stored tabulate
   stored-front zero h = refl
   stored-front (suc k) h =
       rw (stored-front k (omega arith), drop-cons before k unwritten (omega arith))
       (set-at (tabulate records k) (getD before k unwritten) (drop (suc k) before) (records k) k (tabulate-length records k)
       ∙ sym (append-snoc (tabulate records k) (records k) (drop (suc k) before)))
+
+  pub stored-at : (k i : ℕ) → i < k → k ≤ length before → getD (stored records before k) i unwritten ≡ records i
+  stored-at k i less h =
+      rw (stored-front k h)
+      (List·getD-append (tabulate records k) (drop k before) unwritten i (rw (tabulate-length records k) less)
+      ∙ tabulate-at records k i unwritten less)
+
+pub no-entries-length : length noEntries ≡ most-nodes
+unfolding noEntries
+no-entries-length = length-replicate most-nodes unwritten
 
 -- what is examined of a netlist: its own node records
 module _ (examined : Examined) (n : Netlist) (is-flat : examined .netlist ≡ flatOf n) (is-marked : examined .marks ≡ marksOf n) where

@@ -2,9 +2,9 @@
 use Prim.Native.Nat.{ℕ, zero, suc}
 use mathlib.Core.Path.{_≡_}
 use mathlib.Core.List.{List}
-use lib.ListN.{getD, set}
+use lib.ListN.{getD, set, replicate}
 use Rattle.rules.specs.declared.NodeRecord.{NodeRecord}
-use Rattle.rules.specs.Records.{Netlist, empty}
+use Rattle.rules.specs.Records.{Netlist, empty, most-nodes}
 use Rattle.rules.specs.Families.{families, findings}
 use Rattle.rules.specs.Slices.{workBytes, filled}
 use Rattle.rules.specs.Checks.{Outcome, answered, refused, andThen}
@@ -33,13 +33,19 @@ pub record Looks (value : Value.Netlist) (marks : Marks) (examined : Examined) :
   pub stands : (k p : ℕ) → replyOf (examined .reply) ≡ refused k p → ⊥
   pub finds : (n : Netlist) → value ≡ flatOf n → marks ≡ marksOf n → replyOf (examined .reply) ≡ answered (findings n)
 
--- the record of node i of what was examined, and that of no node
+-- the record of node i of a netlist by value with its marks, that of what was examined, and that of no node
+abbrev pub recordOf : Value.Netlist → Marks → (i : ℕ) → NodeRecord
+recordOf value marks i = record { node = getD (value .nodes) i blank; settled = getD (marks .settled) i 0; glitch = getD (marks .glitch) i 0 }
+
 abbrev pub recordIn : Examined → (i : ℕ) → NodeRecord
-recordIn examined i =
-    record { node = getD (examined .netlist .nodes) i blank; settled = getD (examined .marks .settled) i 0; glitch = getD (examined .marks .glitch) i 0 }
+recordIn examined = recordOf (examined .netlist) (examined .marks)
 
 abbrev pub unwritten : NodeRecord
 unwritten = record { node = blank; settled = 0; glitch = 0 }
+
+-- entries of no node, as many as there may be nodes
+unfoldable pub noEntries : List NodeRecord
+noEntries = replicate most-nodes unwritten
 
 -- the entries `before` once the first k of the records stand at their front
 unfoldable pub stored : (records : ℕ → NodeRecord) (before : List NodeRecord) (k : ℕ) → List NodeRecord

@@ -12,10 +12,12 @@ ghost use Rattle.rules.specs.Demands.{GlitchClear, NothingSuspect, OneProbe};
 ghost use Rattle.rules.specs.Paper.{replyOf};
 ghost use Rattle.netlists.specs.Netlists.{flatOf, Formed, Ready, kept};
 ghost use Rattle.marks.specs.Marks.{marksOf};
-ghost use Rattle.checker.specs.Work.{NothingKept, Examines, Looks, recordIn, stored, unwritten};
+ghost use Rattle.checker.specs.Work.{NothingKept, Examines, Looks, recordIn, stored, unwritten, noEntries};
 use marks::Marks;
 use netlists::Netlist;
 use rules::Answer;
+use rules::MOST_NODES;
+use rules::Node;
 use rules::NodeRecord;
 use rules::QueryOutcome;
 use rules::Refusal;
@@ -109,25 +111,12 @@ pub fn examine(bytes: &[u8], entries: usize, work: &mut [u8]) -> Examined
 
 // ---- the entry point, over the lent slice of node records
 
-// How many node records were examined, one of them, and the reply.
+// How many node records were examined, and the reply.
 fn count_of(examined: Examined) -> usize
     ensures { λ r. ⌜ r ≡ examined .netlist .count ⌝ }
 {
     let netlist = examined.netlist;
     netlist.count
-}
-
-fn record_of(examined: Examined, i: usize) -> NodeRecord
-    requires { ⌜ i < most-nodes ⌝ }
-    ensures { λ r. ⌜ r ≡ recordIn examined i ⌝ }
-{
-    let netlist = examined.netlist;
-    let marks = examined.marks;
-    NodeRecord {
-        node: netlist.nodes[i],
-        settled: marks.settled[i],
-        glitch: marks.glitch[i],
-    }
 }
 
 fn reply_of(examined: Examined) -> Reply
@@ -136,15 +125,53 @@ fn reply_of(examined: Examined) -> Reply
     examined.reply
 }
 
+// Entries of no node.
+pub fn no_entries() -> [NodeRecord; MOST_NODES]
+    ensures { λ r. ⌜ r ≡ noEntries ⌝ }
+{
+    [NodeRecord {
+        node: Node {
+            kind: 0,
+            first: 0,
+            second: 0,
+            set: 0,
+        },
+        settled: 0,
+        glitch: 0,
+    }; MOST_NODES]
+}
+
+// The node records that were examined, by value, before entries of no node.
+fn records_of(examined: Examined) -> [NodeRecord; MOST_NODES]
+    requires { ⌜ examined .netlist .count ≤ most-nodes ⌝ }
+    ensures { λ r. ⌜ r ≡ stored (recordIn examined) noEntries (examined .netlist .count) ⌝ }
+{
+    let netlist = examined.netlist;
+    let marks = examined.marks;
+    let count = netlist.count;
+    let mut records = no_entries();
+    let mut i = 0;
+    while i < count {
+        records[i] = NodeRecord {
+            node: netlist.nodes[i],
+            settled: marks.settled[i],
+            glitch: marks.glitch[i],
+        };
+        i += 1;
+    }
+    records
+}
+
 // Writes the node records that were examined to the front of the slice.
 pub fn store(nodes: &mut [NodeRecord], examined: Examined)
     requires { ⌜ (examined .netlist .count ≤ length (now nodes)) × (examined .netlist .count ≤ most-nodes) ⌝ }
     ensures { λ _. ⌜ now (nodes .exit) ≡ stored (recordIn examined) (now (nodes .entry)) (examined .netlist .count) ⌝ }
 {
     let count = count_of(examined);
+    let records = records_of(examined);
     let mut i = 0;
     while i < count {
-        nodes[i] = record_of(examined, i);
+        nodes[i] = records[i];
         i += 1;
     }
 }

@@ -1,24 +1,29 @@
 -- Clusters whose counts differ, which antt computes, so that what is said of many probes is not empty: one round a gate that is clear for settled
--- signals and not for glitches, and one beyond a gate, in a block where every gate is clear. Assumes nothing.
-use Prim.Native.Nat.{ℕ}
+-- signals and not for glitches, and one beyond a gate, in a block where every gate is clear. And a gate that is clear, with no mark, in a block whose
+-- answer names another. Assumes nothing.
+use Prim.Native.Nat.{ℕ, _*_}
 use mathlib.Core.Path.{_≡_, refl}
 use mathlib.Core.Bool.{false, true, not, xor}
 use mathlib.Core.List.{List, [], _∷_}
 use native.Mathlib.Omega.{arith}
 use lib.Dec.{T}
-use Rattle.rules.specs.Lists.{member, insert, union, count}
+use lib.ListN.{replicate}
+use Rattle.rules.specs.declared.NodeRecord.{NodeRecord}
+use Rattle.rules.specs.Lists.{member, insert, union, count, tabulate}
 use Rattle.rules.specs.Tables.{table}
-use Rattle.rules.specs.Records.{Netlist, most-nodes}
+use Rattle.rules.specs.Records.{secret, input, Netlist, most-nodes}
 use Rattle.rules.specs.Values.{exclusiveOr, valueRule, values, feedingRule, feedings, feeding, same, howMany, settings, next, others, make, matches, giving, CountsAgree}
 use Rattle.rules.specs.Families.{familiesAt, suspect, tested}
+use Rattle.rules.specs.Families as Families
 use Rattle.rules.specs.Checks.{answered, read, most-work}
-use Rattle.rules.specs.Slices.{reply}
+use Rattle.rules.specs.Slices.{entry, markNumber, nodeRecord, nodeRecords, filled, nodesAfter, reply}
 use Rattle.rules.specs.Demands.{GlitchClear}
-use Rattle.rules.specs.Blocks.{P9, P10}
+use Rattle.rules.specs.Blocks.{P9, P10, P13}
 use Rattle.rules.proofs.Members.{all-front, all-single}
 use Rattle.rules.proofs.Blocks.{replyTo}
 use Rattle.rules.proofs.BlockCounts.{all-zero, p9, p9-read, p10, p10-read}
-use Rattle.clusters.specs.Clusters.{feedingOf, Round, ClearGate, ProbesRound, ManyProbesEverywhere, WiresRound, ManyWiresEverywhere}
+use Rattle.rules.proofs.BlockOutputs.{fields}
+use Rattle.clusters.specs.Clusters.{feedingOf, Round, ClearGate, ProbesRound, ManyProbes, ManyProbesEverywhere, WiresRound, ManyWires, ManyWiresEverywhere, recordOf, Unmarked, RoundUnmarked}
 
 -- ---- gates that are clear, and one that is not
 
@@ -139,3 +144,64 @@ b-probes-beyond anywhere = disagree p10 (feedingOf p10 cluster-b) b-points (anyw
 
 pub b-wires-beyond : ¬ ((n : Netlist) → read (P10 .bytes) ≡ answered n → (gate : ℕ) → ClearGate n gate → (cluster : List ℕ) → CountsAgree n cluster)
 b-wires-beyond anywhere = disagree p10 cluster-b b-wires (anywhere p10 p10-read 5 b-gate-clear cluster-b)
+
+-- ---- a clear gate of a block whose answer names another
+
+-- The answer for block A names gate 4, and its gate 3 is clear.
+pub a-answer : reply (P9 .bytes) most-nodes most-work
+    ≡ answered (record { variables = 3; nodes = 5; settled = Families.clear; glitch = Families.suspectAt 4 1 })
+unfolding replyTo
+a-answer = refl
+
+pub a-gate-clear : ClearGate p9 3
+unfolding replyTo familiesAt ClearGate
+a-gate-clear = all-front Clean 0 (3 ∷ 4 ∷ 7 ∷ []) tt (all-front Clean 3 (4 ∷ 7 ∷ []) tt (all-front Clean 4 (7 ∷ []) tt (all-single Clean 7 tt)))
+  where
+    Clean : ℕ → Type 0
+    Clean A = T (not (suspect (p9 .variables) A))
+
+-- What is said of many probes is said round that gate too, of what feeds them and of the wires themselves.
+pub a-probes-clear : ManyProbes (P9 .bytes) → ProbesRound p9 3
+unfolding ManyProbes
+a-probes-clear many = many p9 p9-read 3 a-gate-clear
+
+pub a-wires-clear : ManyWires (P9 .bytes) → WiresRound p9 3
+unfolding ManyWires
+a-wires-clear many = many p9 p9-read 3 a-gate-clear
+
+-- the gate itself and the inputs 2 and 0 lie round it
+abbrev pub card-a : List ℕ
+card-a = 3 ∷ 2 ∷ 0 ∷ []
+
+pub a-card-round : Round p9 3 card-a
+unfolding member insert union table feedingRule feedings feeding Round
+a-card-round =
+    all-front (Within p9 3) 3 (2 ∷ 0 ∷ []) (λ p t. t)
+    (all-front (Within p9 3) 2 (0 ∷ []) (all-single (Feeds p9 3) 2 tt) (all-single (Within p9 3) 0 (all-single (Feeds p9 3) 0 tt)))
+
+-- ---- by their marks
+
+-- the node records that a check of so many nodes leaves
+abbrev pub recordsLeft : List ℕ → (nodes : ℕ) → List NodeRecord
+recordsLeft bytes nodes = nodesAfter bytes (replicate nodes (fields 9 9 9 9 9 9)) (256 * nodes)
+
+-- Gate 3 of block A has no glitch mark, so what is said of such gates says it of this one; gate 4, which is not clear, has one.
+pub a-unmarked : Unmarked 5 (recordsLeft (P9 .bytes) 5) 3
+unfolding replyTo entry markNumber nodeRecord nodeRecords tabulate filled nodesAfter
+a-unmarked = record { there = omega arith; isTested = omega arith; noMark = refl }
+
+pub a-round-unmarked : RoundUnmarked (P9 .bytes) (recordsLeft (P9 .bytes) 5) → ClearGate p9 3 × ProbesRound p9 3 × WiresRound p9 3
+unfolding RoundUnmarked
+a-round-unmarked round = round p9 p9-read 3 a-unmarked
+
+pub a-marked : ¬ Unmarked 5 (recordsLeft (P9 .bytes) 5) 4
+unfolding replyTo entry markNumber nodeRecord nodeRecords tabulate filled nodesAfter
+a-marked unmarked = let no : _≡_ {A = ℕ} 1 0 = unmarked .noMark in omega (arith, no)
+
+-- P13 is a bare secret. As an input it has no mark, though it is not clear: a mark tells nothing of inputs.
+abbrev p13 : Netlist
+p13 = record { variables = secret ∷ []; nodes = input 1 ∷ [] }
+
+pub bare-input : (read (P13 .bytes) ≡ answered p13) × (recordOf (recordsLeft (P13 .bytes) 1) 0 .glitch ≡ 0) × ¬ Unmarked 1 (recordsLeft (P13 .bytes) 1) 0 × ¬ ClearGate p13 0
+unfolding replyTo entry markNumber nodeRecord nodeRecords tabulate filled nodesAfter familiesAt ClearGate
+bare-input = (refl, refl, λ unmarked. omega (arith, unmarked .isTested), λ clear. clear 1 tt)

@@ -1,16 +1,20 @@
 -- Change request A4, "Many probes round one gate", as statements about netlist bytes: what feeds a cluster of nodes, when the cluster lies round a
 -- gate, and what the probes on it see. A gate is given by its number; nothing is asked of its kind, so all of it is said of registers and inputs too.
--- `proofs/ManyProbes` proves the statements. Assumes nothing.
-use Prim.Native.Nat.{ℕ}
+-- Last what follows of a gate by its own mark. `proofs/ManyProbes` and `proofs/Unmarked` prove the statements. Assumes nothing.
+use Prim.Native.Nat.{ℕ, _<_}
 use mathlib.Core.Path.{_≡_}
 use mathlib.Core.Bool.{not}
 use mathlib.Core.List.{List, [], _∷_}
+use mathlib.Core.Option.{none}
 use lib.Dec.{T}
+use lib.ListN.{length, getD}
+use Rattle.rules.specs.declared.NodeRecord.{NodeRecord}
 use Rattle.rules.specs.Lists.{member, union}
-use Rattle.rules.specs.Records.{Netlist}
+use Rattle.rules.specs.Records.{input, Netlist}
 use Rattle.rules.specs.Values.{feeding, CountsAgree}
 use Rattle.rules.specs.Families.{familiesAt, suspect}
 use Rattle.rules.specs.Checks.{answered, read}
+use Rattle.rules.specs.Slices.{nodeRecord}
 use Rattle.rules.specs.Demands.{TestedNode}
 
 -- the feeding points of a cluster, which is any list of nodes: those of all of them together, each named once
@@ -55,3 +59,21 @@ ManyWires bytes = (n : Netlist) → read bytes ≡ answered n → (gate : ℕ) �
 -- and so they are round every gate and register of the block
 unfoldable pub ManyWiresEverywhere : List ℕ → Type 0
 ManyWiresEverywhere bytes = (n : Netlist) → read bytes ≡ answered n → (gate : ℕ) → TestedNode n gate → WiresRound n gate
+
+-- ---- a gate that has no mark
+
+-- the record of a node among these, and beyond them that of an input
+abbrev pub recordOf : List NodeRecord → (node : ℕ) → NodeRecord
+recordOf nodes i = getD nodes i (nodeRecord (input 0) none none)
+
+-- one of so many nodes is a gate or register, of a kind above an input's, and its glitch mark among these node records is none
+pub record Unmarked (count : ℕ) (nodes : List NodeRecord) (gate : ℕ) : Type 0 where
+  pub there : gate < count
+  pub isTested : 2 < recordOf nodes gate .node .kind
+  pub noMark : recordOf nodes gate .glitch ≡ 0
+
+-- Every gate and register of the block that has no glitch mark among these node records is clear, whatever marks others have; so what is said of many
+-- probes holds round it.
+unfoldable pub RoundUnmarked : List ℕ → (nodes : List NodeRecord) → Type 0
+RoundUnmarked bytes nodes = (n : Netlist) → read bytes ≡ answered n → (gate : ℕ) → Unmarked (length (n .nodes)) nodes gate
+    → ClearGate n gate × ProbesRound n gate × WiresRound n gate

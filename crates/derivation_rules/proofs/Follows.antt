@@ -1,21 +1,21 @@
 -- A set's derivation follows from the rules, and a set for which steps follow is in the family: by recursion over the nodes, and over the steps.
 -- Of all steps that follow for the set, none begin with a lower rule than its derivation, which by rule 6 goes on with the first operand's lowest set
 -- that works. Assumes nothing.
-use Prim.Native.Nat.{ℕ, zero, suc, _≤_, _<_}
+use Prim.Native.Nat.{ℕ, zero, suc, _*_, _≤_, _<_}
 use mathlib.Core.Path.{_≡_, refl, sym, ap}
 use mathlib.Core.Logic.{_⊎_, inl, inr, ⊎-elim}
 use mathlib.Core.List.{List, [], _∷_}
 use native.Mathlib.Omega.{arith}
 use lib.Bits.{bitXor}
 use lib.Dec.{T, ltb, lt→ltb}
-use lib.ListN.{length}
+use lib.ListN.{length, length-append}
 use Rattle.rules.specs.Lists.{member}
 use Rattle.rules.specs.Records.{XOR, Netlist, WellFormed}
 use Rattle.rules.specs.Families.{settledRule, glitchRule, familiesRule, families, familiesAt}
 use Rattle.rules.proofs.Lists.{member-head, insert-old, insert-new, product-holds, spread-first, spread-second, spread-both, spread-empty}
 use Rattle.rules.proofs.Tests.{and-both}
 use Rattle.rules.proofs.Reading.{read-well-formed}
-use Rattle.derivation_rules.specs.Derivations.{Layer, settled, glitch, familyIn, Step, step, Is, Spreading, xor-glitch, and-either, or-either, Gate, xor-gate, and-gate, or-gate, Follows, own, inverted, stored, empty-not, empty-gate, first, second, both, Claim, claim, Way, claimed, wayOfBoth, wayOfSpread, chosen, Derivations, derivation, inFamily, Certificate}
+use Rattle.derivation_rules.specs.Derivations.{Layer, settled, glitch, familyIn, Step, step, stepBytes, step-size, stepsOut, Is, Spreading, xor-glitch, and-either, or-either, Gate, xor-gate, and-gate, or-gate, Follows, own, inverted, stored, empty-not, empty-gate, first, second, both, Claim, claim, Way, claimed, wayOfBoth, wayOfSpread, chosen, Derivations, derivation, inFamily, Certificate}
 use Rattle.derivation_rules.proofs.Lowest.{lowest-least}
 use Rattle.derivation_rules.proofs.Derivation.{family-of, own-family, stored-family, spread-family, not-ways, spread-ways, chosenAt, NeedsHeld, StepsFollow, xor-rest, chosen-works, derivation-unfolds}
 
@@ -159,3 +159,9 @@ pub certified : (file : List ℕ) (node layer set count : ℕ) (slice : List ℕ
 unfolding inFamily
 certified file node layer set count slice c =
     and-both (ltb layer 2) _ (lt→ltb layer 2 (c .low)) (follows-in-family (c .netlist) (read-well-formed file (c .netlist) (c .is)) (c .follows))
+
+-- steps are five bytes each
+pub out-length : (steps : List Step) → length (stepsOut steps) ≡ step-size * length steps
+unfolding stepBytes stepsOut
+out-length [] = refl
+out-length (s ∷ steps) = omega (arith, out-length steps, length-append (stepBytes s) (stepsOut steps))

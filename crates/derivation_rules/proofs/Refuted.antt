@@ -1,18 +1,19 @@
 -- Steps that do not follow from the rules, so that what is said of derivations is not empty: none at all for a set that is not in the family, and
--- not those of a derivation by another rule or in another order. Assumes nothing.
+-- not those of a derivation by another rule or in another order. And slices that are no certificate, beside one that is. Assumes nothing.
 use Prim.Native.Nat.{ℕ}
-use mathlib.Core.Path.{_≡_, refl}
+use mathlib.Core.Path.{_≡_, refl, ap, subst, _∙_}
 use mathlib.Core.List.{List, [], _∷_}
 use native.Mathlib.Omega.{arith}
+use lib.ListN.{length, getD}
 use Rattle.rules.specs.Records.{Netlist, WellFormed, writtenOut, variablesOut, nodesOut}
 use Rattle.rules.specs.Families.{familiesAt}
 use Rattle.rules.specs.Blocks.{P9, P10}
 use Rattle.rules.proofs.Reading.{read-well-formed}
 use Rattle.rules.proofs.Blocks.{replyTo}
 use Rattle.rules.proofs.BlockCounts.{p9, p9-read, p10, p10-read}
-use Rattle.derivation_rules.specs.Derivations.{Layer, settled, glitch, familyIn, Step, step, Gate, xor-gate, and-gate, or-gate, Follows, own, inverted, stored, empty-not, empty-gate, first, second, both, wayOfBoth, chosen}
-use Rattle.derivation_rules.proofs.Blocks.{small}
-use Rattle.derivation_rules.proofs.Follows.{firstRule, follows-in-family, first-rule, follows-begins}
+use Rattle.derivation_rules.specs.Derivations.{Layer, settled, glitch, layerNumber, familyIn, Step, step, stepBytes, stepsOut, Gate, xor-gate, and-gate, or-gate, Follows, own, inverted, stored, empty-not, empty-gate, first, second, both, wayOfBoth, chosen, layerOf, Certificate}
+use Rattle.derivation_rules.proofs.Blocks.{a-derivation, small}
+use Rattle.derivation_rules.proofs.Follows.{firstRule, derivation-follows, follows-in-family, first-rule, follows-begins, out-length}
 
 -- ---- no steps
 
@@ -66,3 +67,35 @@ a-first (or-gate is) = cc
 -- The steps of the secret alone in block A do not follow with those of the two operands exchanged.
 pub a-exchanged : ¬ Follows p9 4 glitch 1 (step 4 glitch 6 1 ∷ step 1 glitch 1 2 ∷ step 3 glitch 4 3 ∷ step 0 glitch 1 3 ∷ [])
 a-exchanged f = let (b, gate) = next-step f refl in omega (arith, a-first gate)
+
+-- ---- certificates
+
+-- the steps of the secret alone in block A, as `derive` writes them
+abbrev a-slice : List ℕ
+a-slice = 4 ∷ 1 ∷ 6 ∷ 1 ∷ 0 ∷ 3 ∷ 1 ∷ 4 ∷ 3 ∷ 0 ∷ 0 ∷ 1 ∷ 1 ∷ 3 ∷ 0 ∷ 1 ∷ 1 ∷ 1 ∷ 2 ∷ 0 ∷ []
+
+-- They are a certificate of four steps,
+pub a-certificate : Certificate (P9 .bytes) 4 1 1 4 a-slice
+unfolding replyTo familyIn familiesAt layerOf layerNumber stepBytes stepsOut
+a-certificate = record {
+  netlist = p9;
+  is = p9-read;
+  low = omega arith;
+  steps = step 4 glitch 6 1 ∷ step 3 glitch 4 3 ∷ step 0 glitch 1 3 ∷ step 1 glitch 1 2 ∷ [];
+  many = refl;
+  written = refl;
+  follows =
+      subst (Follows p9 4 glitch 1) a-derivation
+      (derivation-follows p9 (read-well-formed (P9 .bytes) p9 p9-read) 4 (omega arith) glitch 1 tt);
+}
+
+-- and not of twenty, which is how many bytes they are;
+pub a-bytes-counted : ¬ Certificate (P9 .bytes) 4 1 1 20 a-slice
+a-bytes-counted c = omega (arith, c .many, out-length (c .steps), ap {B = ℕ} length (c .written))
+
+-- nor is any other slice that begins with another node.
+pub a-other-node : (slice : List ℕ) → ¬ Certificate (P9 .bytes) 4 1 1 4 (3 ∷ slice)
+unfolding stepBytes stepsOut
+a-other-node slice c =
+    let (rule, below, begins) = follows-begins (c .follows) in
+    omega (arith, ap (λ (l : List ℕ). getD l 0 0) (c .written ∙ ap stepsOut begins))

@@ -3,11 +3,11 @@
 use Prim.Native.Nat.{ℕ, _*_, _/_, _≤_, _<_}
 use mathlib.Core.Path.{_≡_, refl, sym, ap, _∙_}
 use mathlib.Core.Bool.{Bool, true, false, not, cond}
-use mathlib.Core.List.{List, [], _∷_, _++_}
+use mathlib.Core.List.{List, _++_}
 use native.Mathlib.Omega.{arith}
 use borrow.Author.Tests.{leb-false, ltb-true, ltb-false, not-false}
 use lib.Dec.{T, ltb, ltb→lt}
-use lib.ListN.{length, take, drop, length-append}
+use lib.ListN.{length, take, drop}
 use lib.Seq.{take-at}
 use Rattle.rules.specs.Records.{Netlist}
 use Rattle.rules.specs.Checks.{Outcome, answered, refused, andThen, read, nodeCheck, queriedWith}
@@ -17,18 +17,12 @@ use Rattle.rules.specs.declared.Refusal.{Refusal}
 use Rattle.rules.proofs.Tests.{pass, and-left, and-right}
 use Rattle.rules.proofs.Records.{passes, answer}
 use Rattle.rules.proofs.Reading.{read-well-formed}
-use Rattle.derivation_rules.specs.Derivations.{Step, stepBytes, step-size, stepsOut, layerOf, inFamily, derived, setCheck, most-steps, fitting, explainable, derivable, stepsReply, stepsAfter, Certificate}
-use Rattle.derivation_rules.proofs.Follows.{derivation-follows}
+use Rattle.derivation_rules.specs.Derivations.{step-size, stepsOut, layerOf, inFamily, derived, setCheck, most-steps, fitting, explainable, derivable, stepsReply, stepsAfter, Certificate}
+use Rattle.derivation_rules.proofs.Follows.{derivation-follows, out-length}
 use Rattle.derivations.specs.declared.Derived.{Derived}
 use Rattle.derivations.specs.declared.Derived.the-variants.{Refused, Steps}
 use Rattle.derivations.specs.Meaning.{derivedOf}
 use Rattle.derivations.specs.Written.{Told}
-
--- steps are five bytes each
-out-length : (steps : List Step) → length (stepsOut steps) ≡ step-size * length steps
-unfolding stepBytes stepsOut
-out-length [] = refl
-out-length (s ∷ steps) = omega (arith, out-length steps, length-append (stepBytes s) (stepsOut steps))
 
 -- ---- an answer
 

@@ -139,6 +139,7 @@ pub fn derive(bytes: &[u8], node: usize, layer: usize, set: usize, steps: &mut [
     ensures steps { λ _. ⌜ now (steps .exit) ≡ stepsAfter (now (bytes .entry)) node layer set (now (steps .entry)) ⌝ }
     ensures follows { λ r. ⌜ ((count : ℕ) → derivedOf r ≡ answered count →
         Certificate (now (bytes .entry)) node layer set count (now (steps .exit))) ⌝ }
+    ensures most { λ r. ⌜ ((count : ℕ) → derivedOf r ≡ answered count → count ≤ most-steps) ⌝ }
 {
     let mut found = [0u8; MOST_BYTES];
     let claim = Claim { node, layer, set };

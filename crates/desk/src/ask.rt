@@ -1,4 +1,6 @@
 // `list`, and the three queries.
+ghost use Prim.Native.Nat.{_≤_};
+ghost use Rattle.rules.specs.Listing.{most-text};
 use crate::say::say;
 use crate::say::say_first;
 use crate::say::say_refused;
@@ -13,7 +15,9 @@ pub fn list(bytes: &[u8]) {
 }
 
 // The line of a query that is answered with this text, or its refusal.
-fn say_outcome(outcome: QueryOutcome, text: &[u8; ROOM], count: usize) {
+fn say_outcome(outcome: QueryOutcome, text: &[u8; ROOM], count: usize)
+    requires { ⌜ count ≤ most-text ⌝ }
+{
     match outcome {
         QueryOutcome::Refused(refusal) => say_refused(refusal, 0),
         QueryOutcome::Answered => {

@@ -21,7 +21,7 @@ edit, which reads edits there).
 
   why FILE [NODE LAYER SET]
     How a set got into a node's family in layer 0 (settled) or 1 (glitch), a line a step: node, layer, rule, set;
-    without NODE LAYER SET that of the first glitch suspect.
+    without NODE LAYER SET that of the first glitch suspect. Then `steps COUNT`.
       ./telgouin why blocks/a.txt
       ./telgouin why blocks/b.txt 4 1 7
 
@@ -40,8 +40,9 @@ edit, which reads edits there).
   edit FILE
     Opens the block and reads edits from standard input, a line each: `add` and a record in words, `remove NODE`,
     `list`, `write OUT` (in words if OUT ends in .txt), `quit`. After `add` and `remove` the lines `vars`,
-    `settled` and `glitch` of the block as it is now; so too at the end, if nothing else was printed. FILE itself is
-    not changed.
+    `settled` and `glitch` of the block as it is now. At the end, with the number of edits that were made,
+    `edits clear COUNT`, `edits suspect NODE SET COUNT` for the first glitch suspect, or `edits faulty COUNT` where a
+    line was refused, misspelt or could not be obeyed. FILE is not changed, unless `write` names it.
       printf 'remove 4\\nadd reg 3\\nadd xor 4 1\\n' | ./telgouin edit blocks/a.txt
 
   picture FILE
@@ -56,7 +57,21 @@ A set is numbered by the sum of 2 to the power v over its variables v. Fields of
 behind ` # ` stand words for people, with a set as its variables: s0 a secret, m1 a mask, p2 a public.
 A block that breaks the record rules gets `refused NUMBER PLACE` from every command, bad use a line from `expected` on.
 
-exit status 0: clear or answered; 1: a suspect, or not all pairs looked at; 2: refused or bad use
+The exit status goes by the command's own closing line and by how the program ended, together:
+
+  list      0 `glitch clear`, 1 `glitch NODE SET`
+  pairs     0 `pairs clear`, 1 `pairs suspect`, `pairs spent` or `pairs single`
+  edit      0 `edits clear`, 1 `edits suspect`, 2 `edits faulty`, whatever the block then is, at a terminal too
+  why       0 `steps`, whether or not there is a suspect
+  picture   0 `}`, whether or not there is a suspect
+  value     0 `value`
+  feeding   0 `feeding`
+  member    0 `member`
+  help      0 the last line below
+
+exit status 0: clear, or answered
+exit status 1: a suspect, or pairs of which not all were looked at
+exit status 2: everything else: refused, bad use, not read, not written, cut off, or a program that died
 ",
     );
 }

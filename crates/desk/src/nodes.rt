@@ -1,12 +1,19 @@
 // Nodes of a netlist, in words.
+ghost use mathlib.Core.Path.{_≡_};
+ghost use Prim.Native.Nat.{_<_, _≤_};
+ghost use lib.ListN.{length, getD};
+ghost use Rattle.rules.specs.Records.{Cell, kindOf, operands, most-nodes};
+ghost use Rattle.netlists.specs.Netlists.{blank};
 use crate::say::say;
 use crate::say::say_field;
 use netlists::Netlist;
 use rules::MOST_NODES;
 use rules::Node;
 
-// A node of a netlist, where there is one.
-pub fn node_of(netlist: Netlist, i: usize) -> Node {
+// A node of a netlist, where there may be one, and else one of zeros.
+pub fn node_of(netlist: Netlist, i: usize) -> Node
+    ensures { λ r. ⌜ (i < most-nodes → r ≡ getD (netlist .nodes) i blank) × (most-nodes ≤ i → r ≡ blank) ⌝ }
+{
     if i < MOST_NODES {
         return netlist.nodes[i];
     }
@@ -18,8 +25,11 @@ pub fn node_of(netlist: Netlist, i: usize) -> Node {
     }
 }
 
-// How many operands a kind has.
-pub fn operands_of(kind: u8) -> usize {
+// How many operands a kind has; a kind that is no node's has none.
+pub fn operands_of(kind: u8) -> usize
+    ensures { λ r. ⌜ ((cell : Cell) → kind ≡ kindOf cell → r ≡ length (operands cell)) ⌝ }
+    ensures none { λ r. ⌜ (kind < 2 → r ≡ 0) × (7 < kind → r ≡ 0) ⌝ }
+{
     match kind {
         3 | 7 => 1,
         4 | 5 | 6 => 2,

@@ -1,4 +1,6 @@
 // `picture`: the netlist as a graph in the dot language.
+ghost use Prim.Native.Nat.{_≤_};
+ghost use Rattle.derivation_rules.specs.Derivations.{most-steps};
 use crate::nodes::operands_of;
 use crate::nodes::say_kind;
 use crate::say::say;
@@ -37,7 +39,7 @@ fn no_path(number: usize, place: usize) -> Path {
 
 // ---- the path of a derivation
 
-// The path with the operands that a rule goes by at a node.
+// The path with the operands that a rule goes by at a node. A number that is no node's changes nothing.
 fn with_step(path: Path, node: usize, rule: u8) -> Path {
     let mut longer = path;
     if node < MOST_NODES {
@@ -54,7 +56,10 @@ fn with_step(path: Path, node: usize, rule: u8) -> Path {
     longer
 }
 
-fn path_of(steps: &[u8; MOST_BYTES], count: usize) -> Path {
+// The path of so many steps.
+fn path_of(steps: &[u8; MOST_BYTES], count: usize) -> Path
+    requires { ⌜ count ≤ most-steps ⌝ }
+{
     let mut path = no_path(0, 0);
     let mut k = 0;
     while k < count {

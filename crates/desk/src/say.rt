@@ -1,4 +1,6 @@
 // Printing: answers, refusals, sets, and what was expected.
+ghost use Prim.Native.Nat.{_≤_};
+ghost use Rattle.rules.specs.Listing.{most-text};
 use block_words::Fault;
 use desk_lines::ROOM;
 use libc::STDOUT_FILENO;
@@ -24,12 +26,18 @@ pub fn say_field(x: usize) {
     say_number(x);
 }
 
-// The first bytes of a text.
-pub fn say_first(text: &[u8; ROOM], count: usize) {
+// The first bytes of a text, to standard output or standard error.
+pub fn put_first(to: i32, text: &[u8; ROOM], count: usize)
+    requires { ⌜ count ≤ most-text ⌝ }
+{
     let whole: &[u8] = text;
-    if count <= whole.len() {
-        say(&whole[..count]);
-    }
+    io::write_all(to, &whole[..count]);
+}
+
+pub fn say_first(text: &[u8; ROOM], count: usize)
+    requires { ⌜ count ≤ most-text ⌝ }
+{
+    put_first(STDOUT_FILENO, text, count);
 }
 
 // ---- answers and refusals
@@ -55,6 +63,19 @@ pub fn say_answer(answer: Answer, classes: [u8; MOST_VARIABLES]) {
     say_suspect(settled, classes);
     let second = desk_lines::glitch_fields(&mut text, answer);
     say_first(&text, second);
+    let glitch = answer.glitch;
+    say_suspect(glitch, classes);
+}
+
+// How a run of edits ended, of a block whose variables have these classes.
+pub fn say_closing(faulty: bool, answer: Answer, made: usize, classes: [u8; MOST_VARIABLES]) {
+    let mut text = [0u8; ROOM];
+    let count = desk_lines::edits_fields(&mut text, faulty, answer, made);
+    say_first(&text, count);
+    if faulty {
+        say(b" # not every line was obeyed\n");
+        return;
+    }
     let glitch = answer.glitch;
     say_suspect(glitch, classes);
 }

@@ -1,14 +1,10 @@
 // `pairs`: the search over pairs of nodes, which tells how far it is where standard error is a terminal.
 ghost use mathlib.Core.Path.{_≡_};
 ghost use lib.ListN.{length};
-ghost use Rattle.rules.specs.Records as Records;
 ghost use Rattle.rules.specs.Records.{most-nodes};
-ghost use Rattle.rules.specs.Paper.{findingOf};
-ghost use Rattle.netlists.specs.Netlists.{flatOf, Ready};
-ghost use Rattle.pair_search.specs.Pairs.{pairs, searchFrom, unlessSingle, pairsReply};
-ghost use Rattle.pair_search.specs.Meaning.{searchedOf};
-ghost use Rattle.pair_search.specs.Work.{reportIn};
+ghost use Rattle.pair_search.specs.Pairs.{pairsReply};
 ghost use Rattle.pairs.specs.Meaning.{pairsReplyOf};
+use crate::say::put_first;
 use crate::say::say;
 use crate::say::say_answer;
 use crate::say::say_first;
@@ -16,16 +12,13 @@ use crate::say::say_refused;
 use crate::say::say_set;
 use desk_lines::ROOM;
 use libc::STDERR_FILENO;
-use netlists::Netlist;
 use pair_search::Found;
 use pair_search::Search;
-use pairs::PairsAnswer;
 use pairs::PairsReply;
-use rules::Half;
+use pairs::Progress;
 use rules::MOST_NODES;
 use rules::MOST_VARIABLES;
 use rules::MOST_WORK;
-use rules::Reply;
 
 // How many nodes are passed before it first tells how far it is: the pairs of so few take no time.
 const FIRST: usize = 32;
@@ -36,15 +29,13 @@ fn tell(text: &[u8]) {
     io::write_all(STDERR_FILENO, text);
 }
 
-// That the pairs of so many nodes of all were looked at.
-fn tell_progress(shown: bool, passed: usize, nodes: usize, looked: usize) {
-    if shown & (passed >= FIRST) {
-        tell(b"\rpairs looked at: ");
-        io::print_decimal(STDERR_FILENO, looked as u64);
-        tell(b", those of ");
-        io::print_decimal(STDERR_FILENO, passed as u64);
-        tell(b" nodes of ");
-        io::print_decimal(STDERR_FILENO, nodes as u64);
+// How far a search is, in the place of what was told before.
+fn tell_progress(shown: bool, progress: Progress) {
+    if shown & (progress.next >= FIRST) {
+        let mut text = [0u8; ROOM];
+        let count = desk_lines::progress_fields(&mut text, progress);
+        tell(b"\r");
+        put_first(STDERR_FILENO, &text, count);
     }
 }
 
@@ -56,57 +47,18 @@ fn wipe_progress(shown: bool) {
 
 // ---- the search
 
-// `pair_search::search_pairs`, with a line that tells how far it is, if that is to be shown.
-fn watched_search(netlist: Netlist, work: &[u8], limit: usize, shown: bool) -> Search
-    requires { ⌜ Ready netlist (length (now work)) ⌝ }
-    ensures { λ r. ⌜ ((n : Records.Netlist) → netlist ≡ flatOf n →
-        searchedOf r ≡ searchFrom (reportIn (n .variables) (now (work .entry))) limit 0 (pairs n)) ⌝ }
-{
-    let count = netlist.count;
-    let mut so_far = pair_search::no_pair(0);
-    let mut j = 0;
-    while j < count {
-        so_far = pair_search::search_node(netlist, work, j, limit, so_far);
-        if pair_search::is_over(so_far) {
-            break;
-        }
-        j += 1;
-        tell_progress(shown, j, count, so_far.looked);
-    }
-    so_far
-}
-
-// The search of a netlist whose families are in the work bytes, unless a node is suspect by itself.
-fn search_unless(glitch: Half, netlist: Netlist, work: &[u8], limit: usize, shown: bool) -> Search
-    requires { ⌜ Ready netlist (length (now work)) ⌝ }
-    ensures { λ r. ⌜ ((n : Records.Netlist) → netlist ≡ flatOf n → searchedOf r ≡
-        unlessSingle (findingOf glitch) (searchFrom (reportIn (n .variables) (now (work .entry))) limit 0 (pairs n))) ⌝ }
-{
-    match glitch {
-        Half::Suspect(node, set) => Search {
-            found: Found::Single(node, set),
-            looked: 0,
-        },
-        Half::Clear => watched_search(netlist, work, limit, shown),
-    }
-}
-
-// What `pairs::check_pairs` replies, with slices that hold every netlist.
+// What `pairs::check_pairs` replies, with slices that hold every netlist. After each node it tells how far it is, if that is to be shown.
 fn searched(bytes: &[u8], work: &mut [u8], limit: usize, shown: bool) -> PairsReply
     ensures { λ r. ⌜ pairsReplyOf r ≡ pairsReply (now (bytes .entry)) most-nodes (length (now (work .entry))) limit ⌝ }
 {
     let examined = checker::examine(bytes, MOST_NODES, work);
-    let reply = examined.reply;
     let netlist = examined.netlist;
-    match reply {
-        Reply::Refused(refusal) => PairsReply::Refused(refusal),
-        Reply::Answered(answer) => {
-            let glitch = answer.glitch;
-            let search = search_unless(glitch, netlist, work, limit, shown);
-            let answer = PairsAnswer { answer, search };
-            PairsReply::Answered(answer)
-        }
+    let mut progress = pairs::begin_pairs(examined);
+    while !pairs::is_done(progress) {
+        progress = pairs::further(netlist, work, limit, progress);
+        tell_progress(shown, progress);
     }
+    pairs::reply_after(progress)
 }
 
 // ---- what it prints

@@ -1,4 +1,8 @@
 // `why`: a derivation, a line a step.
+ghost use mathlib.Core.Path.{_≡_};
+ghost use Prim.Native.Nat.{_+_, _-_, _≤_, _<_};
+ghost use lib.ListN.{set};
+ghost use Rattle.derivation_rules.specs.Derivations.{most-steps};
 use crate::nodes::node_of;
 use crate::nodes::say_node;
 use crate::say::say;
@@ -9,6 +13,7 @@ use crate::steps::Step;
 use crate::steps::step_at;
 use derivations::Derived;
 use derivations::MOST_BYTES;
+use derivations::MOST_STEPS;
 use desk_lines::ROOM;
 use netlists::Netlist;
 use rules::Answer;
@@ -19,17 +24,18 @@ use rules::Reply;
 use std::num::wrapping_add_usize;
 
 // The most steps that wait to be told: one more than there may be steps.
-const MOST_WAITING: usize = 513;
+const MOST_WAITING: usize = MOST_STEPS + 1;
 
 // ---- how deep a step stands
 
 // The depths of the steps that wait to be told, of which the last is the next one's; an operand's step waits one level below its own.
-fn wait(depths: &mut [usize; MOST_WAITING], waiting: usize, depth: usize) -> usize {
-    if waiting < MOST_WAITING {
-        depths[waiting] = depth;
-        return waiting + 1;
-    }
-    waiting
+fn wait(depths: &mut [usize; MOST_WAITING], waiting: usize, depth: usize) -> usize
+    requires { ⌜ waiting ≤ most-steps ⌝ }
+    ensures { λ r. ⌜ r ≡ waiting + 1 ⌝ }
+    ensures depths { λ _. ⌜ now (depths .exit) ≡ set (now (depths .entry)) waiting depth ⌝ }
+{
+    depths[waiting] = depth;
+    waiting + 1
 }
 
 // The steps that a rule needs: one by rules 2, 4 and 5, two by rule 6.
@@ -38,7 +44,10 @@ fn wait_operands(
     waiting: usize,
     depth: usize,
     rule: u8,
-) -> usize {
+) -> usize
+    requires { ⌜ waiting < most-steps ⌝ }
+    ensures { λ r. ⌜ r ≤ waiting + 2 ⌝ }
+{
     let below = wrapping_add_usize(depth, 1);
     match rule {
         2 | 4 | 5 => wait(depths, waiting, below),
@@ -100,19 +109,23 @@ fn say_step(netlist: Netlist, step: Step, depth: usize) {
     say_rule(step.rule);
 }
 
+// How many steps wait behind the next; of steps that are no derivation's there may be no next.
+fn one_less(waiting: usize) -> usize
+    ensures { λ r. ⌜ r ≡ waiting - 1 ⌝ }
+{
+    if waiting == 0 { 0 } else { waiting - 1 }
+}
+
 // So many steps.
-fn say_steps(netlist: Netlist, steps: &[u8; MOST_BYTES], count: usize) {
+fn say_steps(netlist: Netlist, steps: &[u8; MOST_BYTES], count: usize)
+    requires { ⌜ count ≤ most-steps ⌝ }
+{
     let mut depths = [0usize; MOST_WAITING];
     let mut waiting: usize = 1;
     let mut k = 0;
     while k < count {
-        let mut depth = 0;
-        if 0 < waiting {
-            waiting -= 1;
-        }
-        if waiting < MOST_WAITING {
-            depth = depths[waiting];
-        }
+        waiting = one_less(waiting);
+        let depth = depths[waiting];
         let step = step_at(steps, k);
         say_step(netlist, step, depth);
         waiting = wait_operands(&mut depths, waiting, depth, step.rule);
@@ -120,12 +133,23 @@ fn say_steps(netlist: Netlist, steps: &[u8; MOST_BYTES], count: usize) {
     }
 }
 
+// The closing line: how many steps there were.
+fn say_step_count(count: usize) {
+    let mut text = [0u8; ROOM];
+    let long = desk_lines::steps_fields(&mut text, count);
+    say_first(&text, long);
+    say(b"\n");
+}
+
 // The derivation of a set of a node's family in a layer.
 pub fn why(bytes: &[u8], netlist: Netlist, node: usize, layer: usize, set: usize) {
     let mut steps = [0u8; MOST_BYTES];
     match derivations::derive(bytes, node, layer, set, &mut steps) {
         Derived::Refused(refusal) => say_refused(refusal, 0),
-        Derived::Steps(count) => say_steps(netlist, &steps, count),
+        Derived::Steps(count) => {
+            say_steps(netlist, &steps, count);
+            say_step_count(count);
+        }
     }
 }
 
@@ -135,6 +159,7 @@ fn say_clear(answer: Answer) {
     let count = desk_lines::glitch_fields(&mut text, answer);
     say_first(&text, count);
     say(b" # no node is suspect, so there is nothing to explain\n");
+    say_step_count(0);
 }
 
 // That of the first glitch suspect.

@@ -1,6 +1,6 @@
 -- What commands print, byte for byte: fields parted by one blank, with no line feed, so that words may follow. Assumes nothing.
 use Prim.Native.Nat.{ℕ, zero, suc}
-use mathlib.Core.Bool.{Bool, false, cond}
+use mathlib.Core.Bool.{Bool, true, false, cond}
 use mathlib.Core.List.{List, [], _∷_, _++_, map}
 use lib.ListN.{getD}
 use Rattle.rules.specs.Lists.{digit}
@@ -43,6 +43,13 @@ foundFields spent = word "spent" ∷ []
 unfoldable pub pairsText : Searched → List ℕ
 pairsText s = parted (word "pairs" ∷ foundFields (s .found) ++ (decimal (s .looked) ∷ []))
 
+-- how far a search over pairs is: how many pairs were looked at, those of how many nodes, and how many nodes there are
+unfoldable pub progressText : (looked passed nodes : ℕ) → List ℕ
+progressText looked passed nodes =
+    parted (word "pairs looked at:" ∷ decimal looked ∷ [])
+    ++ parted (word ", those of" ∷ decimal passed ∷ [])
+    ++ parted (word " nodes of" ∷ decimal nodes ∷ [])
+
 -- a step of a derivation, its layer by number
 unfoldable pub stepText : (node layer rule set : ℕ) → List ℕ
 stepText node layer rule set = parted (decimal node ∷ decimal layer ∷ decimal rule ∷ decimal set ∷ [])
@@ -67,3 +74,17 @@ yesNo said = cond said (word "yes") (word "no")
 -- whether a set is in each of a node's families
 unfoldable pub memberText : Memberships → List ℕ
 memberText m = parted (word "member" ∷ word "settled" ∷ yesNo (m .settled) ∷ word "glitch" ∷ yesNo (m .glitch) ∷ [])
+
+-- how many steps a derivation has
+unfoldable pub stepsText : (count : ℕ) → List ℕ
+stepsText count = parted (word "steps" ∷ decimal count ∷ [])
+
+-- How a run of edits ended, and how many were made: where something was at fault no half is told, whatever the block then is, and else the glitch half of the
+-- block as it then is.
+unfoldable pub editsFields : (faulty : Bool) → Finding → List (List ℕ)
+editsFields true glitch = word "faulty" ∷ []
+editsFields false clear = word "clear" ∷ []
+editsFields false (suspectAt node set) = word "suspect" ∷ decimal node ∷ decimal set ∷ []
+
+unfoldable pub editsText : (faulty : Bool) → Finding → (made : ℕ) → List ℕ
+editsText faulty glitch made = parted (word "edits" ∷ editsFields faulty glitch ++ (decimal made ∷ []))

@@ -5,7 +5,7 @@ use mathlib.Core.Path.{_≡_, refl, sym, subst, _∙_}
 use mathlib.Core.List.{List, [], _∷_}
 use native.Mathlib.Omega.{arith}
 use borrow.Author.Tests.{ltb-false}
-use lib.ListN.{length}
+use lib.ListN.{length, length-append}
 use Rattle.rules.specs.declared.NodeRecord.{NodeRecord}
 use Rattle.rules.specs.Records.{Netlist, WellFormed, withNode, writtenOut}
 use Rattle.rules.specs.Families.{families, findings}
@@ -64,6 +64,18 @@ made n (remove i) entries work m formed e =
     let u = through _ (givenUp i) m e in
     let t = through (judged (nodeCheck i n ∷ []) n) (slicesFit entries work) (u .answer) (u .first) in
     removed-made n (t .answer) (u .answer) m i entries work formed (t .first) (t .then) (u .then)
+
+-- slices in which an edit is not refused by the state and the lengths alone have room for the block as it was
+pub fits-room : (n : Netlist) (e : Edit) (entries work : ℕ) (m : Netlist) → fits n e entries work ≡ answered m → Room entries work n
+unfolding fits
+fits-room n (add bytes) entries work m e =
+    let t = through (offered n bytes) _ m e in
+    let room = has-room entries work (withNode n (t .answer)) m (t .then) .1 in
+    let more = length-append (n .nodes) (t .answer ∷ []) in
+    record { enough-entries = omega (arith, room .enough-entries, more); enough-work = omega (arith, room .enough-work, more) }
+fits-room n (remove i) entries work m e =
+    let t = through (judged (nodeCheck i n ∷ []) n) (slicesFit entries work) m e in
+    subst (Room entries work) (sym (answer _ n (t .answer) (t .first))) (has-room entries work (t .answer) m (t .then) .1)
 
 -- ---- a fresh check of what is made
 

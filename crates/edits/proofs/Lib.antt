@@ -1,7 +1,8 @@
--- What is proved of edits: a block that is loaded by value, what an edit keeps, what it promises, and any run of edits.
+-- What is proved of edits: a block that is loaded by value, what an edit keeps, what it promises, and any run of edits; and calls that would not keep it.
 pub mod Loaded
 pub mod Kept
 pub mod Promises
 pub mod Runs
+pub mod Altered
 -- A mutable slice that is lent as a shared one for the length of a call.
 pub mod Shared

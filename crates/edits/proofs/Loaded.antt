@@ -1,92 +1,78 @@
--- A block that is loaded by value with its marks, one node record after the other: once all are in their place it is the block that the contracts
+-- A block that is loaded by value with its marks: its fields one node record after the other, and of records that are copied from a slice, once all are, the block that the contracts
 -- speak of. Its state is the one that was handed in, and of an open block it is the netlist by value, with the netlist's marks. By laws of lists of
 -- any length, so that no array is unfolded. Assumes nothing.
-use Prim.Native.Nat.{ℕ, _+_, _<_, min}
-use mathlib.Core.Path.{_≡_, refl, sym, ap, _∙_}
-use mathlib.Core.List.{List, map}
+use Prim.Native.Nat.{ℕ, zero, suc, _+_, _≤_, _<_, min}
+use mathlib.Core.Path.{_≡_, refl, sym, _∙_}
+use mathlib.Core.List.{List}
 use native.Mathlib.Nat.{min-eq-left}
 use native.Mathlib.Numerals.{add-one}
 use native.Mathlib.Omega.{arith}
-use lib.ListN.{length, getD, take, set, length-take}
-use lib.Seq.{length-take-le, take-all, take-take, take-suc}
+use lib.ListN.{length, getD, take, drop, set, replicate, length-take}
+use lib.Seq.{length-take-le, take-all, take-take, take-suc, take-at}
 use Rattle.rules.specs.declared.NodeRecord.{NodeRecord}
 use Rattle.rules.specs.Records as Records
 use Rattle.rules.specs.Records.{most-nodes}
+use Rattle.rules.specs.Lists.{tabulate}
 use Rattle.rules.specs.Slices.{nodeRecords}
+use Rattle.rules.proofs.Packing.{tabulate-length}
 use Rattle.rules.proofs.Marks.{record-nodes, record-settled, record-glitch}
-use Rattle.netlists.specs.Netlists.{padded, blank, flatOf}
+use Rattle.netlists.specs.Netlists.{flatOf}
 use Rattle.netlists.proofs.Netlists.{padded-none, made-set}
 use Rattle.marks.specs.Marks.{flatMarks, marksIn, marksOf}
-use Rattle.checker.specs.Work.{unwritten}
+use Rattle.checker.specs.Work.{unwritten, noEntries, stored}
+use Rattle.checker.proofs.Stored.{stored-front, stored-length, no-entries-length}
 use Rattle.open_blocks.specs.declared.State.{State}
 use Rattle.open_blocks.specs.Meaning.{stateOf, IsOpen}
 use Rattle.open_blocks.specs.Work.{stateIn}
-use Rattle.changes.specs.declared.Loaded.{Loaded}
-use Rattle.edits.specs.Edited.{column, loadedOf, unloadedOf, withEntry}
+use Rattle.edits.specs.Edited.{column, loadedFrom, loadedOf}
 
 -- ---- a field of the first records
 
 module _ {A : Type 0} (rest : A) (field : NodeRecord → A) (records : List NodeRecord) where
-  -- that of the first i of them
-  abbrev upTo : ℕ → List A
-  upTo i = padded most-nodes rest (map field (take i records))
-
-  up-to-more : (i : ℕ) → i < length records → i < most-nodes → upTo (i + 1) ≡ set (upTo i) i (field (getD records i unwritten))
-  up-to-more i h few =
-      let many = length-take-le i records (omega arith) in
-      rw (add-one i, take-suc records i unwritten h)
-      (sym (made-set field most-nodes rest (take i records) (getD records i unwritten) (omega arith)) ∙ rw many)
-
-  up-to-all : (state : State) → upTo (min (min (state .count) most-nodes) (length records)) ≡ column rest field state records
+  pub column-none : column rest field 0 records ≡ replicate most-nodes rest
   unfolding column
-  up-to-all state =
-      let m = min (state .count) most-nodes in
-      let k = min m (length records) in
-      ap (λ (rs : List NodeRecord). padded most-nodes rest (map field rs))
-      (sym (take-take k m records (omega arith)) ∙ take-all k (take m records) (rw length-take (omega arith)))
+  column-none = padded-none most-nodes rest
 
--- ---- a block that is being loaded
+  pub column-more : (k : ℕ) → k < length records → k < most-nodes → column rest field (k + 1) records ≡ set (column rest field k records) k (field (getD records k unwritten))
+  unfolding column
+  column-more k h few =
+      let many = length-take-le k records (omega arith) in
+      rw (add-one k, take-suc records k unwritten h)
+      (sym (made-set field most-nodes rest (take k records) (getD records k unwritten) (omega arith)) ∙ rw many)
 
--- the block of a state, with the first i records in their place
-unfoldable pub loading : State → List NodeRecord → (i : ℕ) → Loaded
-loading state records i = record {
-  block = record {
-    variables = state .variables;
-    count = state .count;
-    classes = state .classes;
-    nodes = upTo blank (λ r. r .node) records i;
-  };
-  marks = record { settled = upTo 0 (λ r. r .settled) records i; glitch = upTo 0 (λ r. r .glitch) records i };
-}
+-- ---- records that are copied to an array
+
+module _ (records : List NodeRecord) where
+  -- the first k of them
+  abbrev pub copied : (k : ℕ) → List NodeRecord
+  copied = stored (λ i. getD records i unwritten) noEntries
+
+  pub copied-length : (k : ℕ) → length (copied k) ≡ most-nodes
+  copied-length k = stored-length (λ i. getD records i unwritten) noEntries k ∙ no-entries-length
+
+  tabulated : (k : ℕ) → k ≤ length records → tabulate (λ i. getD records i unwritten) k ≡ take k records
+  unfolding tabulate
+  tabulated zero h = refl
+  tabulated (suc k) h = rw (tabulated k (omega arith), take-suc records k unwritten (omega arith))
+
+  copied-front : (k : ℕ) → k ≤ length records → k ≤ most-nodes → take k (copied k) ≡ take k records
+  copied-front k h few =
+      rw (stored-front (λ i. getD records i unwritten) noEntries k (omega (arith, no-entries-length)))
+      (take-at (tabulate (λ i. getD records i unwritten) k) (drop k noEntries) k (tabulate-length (λ i. getD records i unwritten) k) ∙ tabulated k h)
 
 module _ (state : State) (records : List NodeRecord) where
-  pub loading-none : loading state records 0 ≡ unloadedOf state
-  unfolding loading marksIn flatMarks
-  loading-none = rw (padded-none most-nodes blank)
-
-  pub loading-more : (i : ℕ) → i < length records → i < most-nodes
-      → loading state records (i + 1) ≡ withEntry (loading state records i) i (getD records i unwritten)
-  unfolding loading
-  loading-more i h few =
-      rw (
-        up-to-more blank (λ r. r .node) records i h few,
-        up-to-more 0 (λ r. r .settled) records i h few,
-        up-to-more 0 (λ r. r .glitch) records i h few,
-      )
-
-  pub loading-all : loading state records (min (min (state .count) most-nodes) (length records)) ≡ loadedOf state records
-  unfolding loading loadedOf
-  loading-all =
-      rw (
-        up-to-all blank (λ r. r .node) records state,
-        up-to-all 0 (λ r. r .settled) records state,
-        up-to-all 0 (λ r. r .glitch) records state,
-      )
+  -- as many are copied as the block takes of them
+  pub copied-all : loadedFrom state (min (min (state .count) most-nodes) (length records)) (copied records (min (min (state .count) most-nodes) (length records))) ≡ loadedOf state records
+  unfolding loadedFrom column
+  copied-all =
+      let m = min (state .count) most-nodes in
+      let k = min m (length records) in
+      rw (copied-front records k (omega arith) (omega arith), sym (take-take k m records (omega arith)), take-all k (take m records) (rw length-take (omega arith)))
 
   -- ---- a block that is loaded
 
   pub loaded-state : stateIn (loadedOf state records .block) ≡ state
-  unfolding loadedOf
+  unfolding loadedFrom
   loaded-state = refl
 
 -- of an open block
@@ -96,9 +82,9 @@ module _ {n : Records.Netlist} {state : State} {records : List NodeRecord} {work
   front = rw (opened .itsState, min-eq-left (opened .obeys .few-nodes)) (opened .holds .records)
 
   pub loaded-flat : loadedOf state records .block ≡ flatOf n
-  unfolding loadedOf stateOf flatOf column
+  unfolding loadedFrom stateOf flatOf column
   loaded-flat = rw (front, record-nodes n, opened .itsState)
 
   pub loaded-marks : loadedOf state records .marks ≡ marksOf n
-  unfolding loadedOf marksOf marksIn flatMarks column
+  unfolding loadedFrom marksOf marksIn flatMarks column
   loaded-marks = rw (front, record-settled n, record-glitch n)

@@ -1,8 +1,8 @@
 -- A block as it is loaded from a lent slice of node records; what a call gives beside both slices; and what holds of a call whatever it was handed. Cited by the contracts of this crate. Assumes nothing.
 use Prim.Native.Nat.{ℕ, min}
 use mathlib.Core.Path.{_≡_}
-use mathlib.Core.List.{List, [], map}
-use lib.ListN.{length, take, set, replicate}
+use mathlib.Core.List.{List, map}
+use lib.ListN.{length, take}
 use Rattle.rules.specs.declared.NodeRecord.{NodeRecord}
 use Rattle.rules.specs.declared.Reply.{Reply}
 use Rattle.rules.specs.declared.Reply.the-variants.{Refused, Answered}
@@ -10,45 +10,30 @@ use Rattle.rules.specs.Records.{most-nodes}
 use Rattle.rules.specs.Checks as Checks
 use Rattle.rules.specs.Paper.{replyOf}
 use Rattle.netlists.specs.Netlists.{padded, blank}
-use Rattle.marks.specs.Marks.{marksIn}
 use Rattle.checker.specs.declared.Examined.{Examined}
 use Rattle.open_blocks.specs.declared.State.{State}
 use Rattle.open_blocks.specs.Work.{stateIn}
 use Rattle.changes.specs.declared.Loaded.{Loaded}
 use Rattle.edits.specs.declared.Edited.{Edited}
 
--- a field of the node records of a slice, of which no more are taken than the state says and than there may be nodes
-unfoldable pub column : {A : Type 0} → (rest : A) → (NodeRecord → A) → State → List NodeRecord → List A
-column rest field state nodes = padded most-nodes rest (map field (take (min (state .count) most-nodes) nodes))
+-- a field of the first k of some node records, and `rest` beyond them
+unfoldable pub column : {A : Type 0} → (rest : A) → (NodeRecord → A) → (k : ℕ) → List NodeRecord → List A
+column rest field k records = padded most-nodes rest (map field (take k records))
 
--- a block by value with its marks, of a state and a slice of node records; one with no node records yet; and one with a node record in its place
-unfoldable pub loadedOf : State → List NodeRecord → Loaded
-loadedOf state nodes = record {
+-- a block by value with its marks, of a state and the first k of some node records; and of a slice of them, of which no more are taken than the state says and than there may be nodes
+unfoldable pub loadedFrom : State → (k : ℕ) → List NodeRecord → Loaded
+loadedFrom state k records = record {
   block = record {
     variables = state .variables;
     count = state .count;
     classes = state .classes;
-    nodes = column blank (λ r. r .node) state nodes;
+    nodes = column blank (λ r. r .node) k records;
   };
-  marks = record { settled = column 0 (λ r. r .settled) state nodes; glitch = column 0 (λ r. r .glitch) state nodes };
+  marks = record { settled = column 0 (λ r. r .settled) k records; glitch = column 0 (λ r. r .glitch) k records };
 }
 
-abbrev pub unloadedOf : State → Loaded
-unloadedOf state = record {
-  block = record { variables = state .variables; count = state .count; classes = state .classes; nodes = replicate most-nodes blank };
-  marks = marksIn [] [];
-}
-
-abbrev pub withEntry : Loaded → (i : ℕ) → NodeRecord → Loaded
-withEntry to i r = record {
-  block = record {
-    variables = to .block .variables;
-    count = to .block .count;
-    classes = to .block .classes;
-    nodes = set (to .block .nodes) i (r .node);
-  };
-  marks = record { settled = set (to .marks .settled) i (r .settled); glitch = set (to .marks .glitch) i (r .glitch) };
-}
+abbrev pub loadedOf : State → List NodeRecord → Loaded
+loadedOf state nodes = loadedFrom state (min (state .count) most-nodes) nodes
 
 -- the state to hand in next: a refused edit gives the state that it got
 abbrev pub nextState : Reply → (state after : State) → State

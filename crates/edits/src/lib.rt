@@ -2,7 +2,7 @@
 // comes back by value; node records with their marks, and families, stay in the two lent slices. Request A3 is in `open_blocks/specs/`.
 ghost use mathlib.Core.Path.{_≡_};
 ghost use mathlib.Core.Logic.{_↔_};
-ghost use Prim.Native.Nat.{ℕ, _<_, min};
+ghost use Prim.Native.Nat.{ℕ, _≤_, min};
 ghost use lib.ListN.{length};
 ghost use Rattle.rules.specs.Records as Records;
 ghost use Rattle.rules.specs.Records.{WellFormed, writtenOut, most-nodes};
@@ -13,9 +13,10 @@ ghost use Rattle.rules.specs.Paper.{replyOf};
 ghost use Rattle.netlists.specs.Netlists.{kept};
 ghost use Rattle.open_blocks.specs.Edits.{fits, netlistAfter, replyAfter, recordsAfter, bytesAfter, NothingSuspectAfter};
 ghost use Rattle.open_blocks.specs.Meaning.{editOf, stateOf, IsOpen};
-ghost use Rattle.edits.specs.Edited.{loadedOf, unloadedOf, withEntry, editedOf, openedOf, Kept};
+ghost use Rattle.edits.specs.Edited.{loadedFrom, loadedOf, editedOf, openedOf, Kept};
 use changes::Loaded;
 use checker::Examined;
+use marks::Marks;
 use netlists::Netlist;
 use open_blocks::Edit;
 use open_blocks::State;
@@ -32,28 +33,6 @@ pub struct Edited {
 
 // ---- a block by value
 
-// A block of this state, with no node records and no marks yet.
-fn unloaded(state: State) -> Loaded
-    ensures { λ r. ⌜ r ≡ unloadedOf state ⌝ }
-{
-    let classes = state.classes;
-    let block = Netlist {
-        variables: state.variables,
-        count: state.count,
-        classes,
-        nodes: [Node {
-            kind: 0,
-            first: 0,
-            second: 0,
-            set: 0,
-        }; MOST_NODES],
-    };
-    Loaded {
-        block,
-        marks: marks::no_marks(),
-    }
-}
-
 // How many node records are loaded: no more than the state says, than there may be, and than the slice has.
 fn to_load(state: State, entries: usize) -> usize
     ensures { λ r. ⌜ r ≡ min (min (state .count) most-nodes) entries ⌝ }
@@ -69,32 +48,51 @@ fn to_load(state: State, entries: usize) -> usize
     most
 }
 
-// The block with one node record in its place: the node, and its marks.
-fn with_entry(loaded: Loaded, i: usize, taken: NodeRecord) -> Loaded
-    requires { ⌜ i < most-nodes ⌝ }
-    ensures { λ r. ⌜ r ≡ withEntry loaded i taken ⌝ }
+// The block of a state, by value with its marks, from the first of some node records.
+fn loaded_of(state: State, records: [NodeRecord; MOST_NODES], count: usize) -> Loaded
+    requires { ⌜ count ≤ most-nodes ⌝ }
+    ensures { λ r. ⌜ r ≡ loadedFrom state count records ⌝ }
 {
-    let node = taken.node;
-    let mut block = loaded.block;
-    let mut marks = loaded.marks;
-    block.nodes[i] = node;
-    marks.settled[i] = taken.settled;
-    marks.glitch[i] = taken.glitch;
+    let classes = state.classes;
+    let mut nodes = [Node {
+        kind: 0,
+        first: 0,
+        second: 0,
+        set: 0,
+    }; MOST_NODES];
+    let mut settled = [0u16; MOST_NODES];
+    let mut glitch = [0u16; MOST_NODES];
+    let mut i = 0;
+    while i < count {
+        let taken = records[i];
+        let node = taken.node;
+        nodes[i] = node;
+        settled[i] = taken.settled;
+        glitch[i] = taken.glitch;
+        i += 1;
+    }
+    let block = Netlist {
+        variables: state.variables,
+        count: state.count,
+        classes,
+        nodes,
+    };
+    let marks = Marks { settled, glitch };
     Loaded { block, marks }
 }
 
-// The block of a state, by value with its marks, from the node records at the front of the slice.
+// The same, from the node records at the front of the slice.
 fn load(state: State, nodes: &[NodeRecord]) -> Loaded
     ensures { λ r. ⌜ r ≡ loadedOf state (now (nodes .entry)) ⌝ }
 {
     let count = to_load(state, nodes.len());
-    let mut loaded = unloaded(state);
+    let mut records = checker::no_entries();
     let mut i = 0;
     while i < count {
-        loaded = with_entry(loaded, i, checker::node_at(nodes, i));
+        records[i] = checker::node_at(nodes, i);
         i += 1;
     }
-    loaded
+    loaded_of(state, records, count)
 }
 
 // ---- what a call gives

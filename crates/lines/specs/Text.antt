@@ -2,7 +2,7 @@
 use Prim.Native.Nat.{ℕ, _+_, _≤_, _<_}
 use mathlib.Core.Path.{_≡_}
 use mathlib.Core.List.{List, [], _∷_, _++_}
-use lib.ListN.{length, take}
+use lib.ListN.{length, take, drop}
 use Rattle.rules.specs.declared.Half.{Half}
 use Rattle.rules.specs.declared.Half.the-variants.{Clear, Suspect}
 use Rattle.rules.specs.Records.{most-nodes, most-sets}
@@ -13,10 +13,11 @@ use Rattle.rules.specs.Listing.{word, decimal, line}
 abbrev pub Room : (slice : List ℕ) (at most : ℕ) → Type 0
 Room slice at most = at + most ≤ length slice
 
--- a text goes behind the first `at` bytes of a slice: they are as they were, and the next text's place is `next`
+-- a text goes behind the first `at` bytes of a slice: they and the bytes beyond the text are as they were, and the next text's place is `next`
 pub record Appended (before after : List ℕ) (at next : ℕ) (text : List ℕ) : Type 0 where
   pub place : next ≡ at + length text
   pub bytes : take next after ≡ take at before ++ text
+  pub beyond : drop next after ≡ drop next before
   pub long : length after ≡ length before
 
 -- a half names a node and a set of a netlist that obeys the record rules

@@ -65,7 +65,12 @@ masked cells = record { variables = secret ∷ mask ∷ mask ∷ []; nodes = cel
 abbrev shared : List Cell → Netlist
 shared cells = record { variables = secret ∷ mask ∷ []; nodes = cells }
 
--- Additions: each refusal of a record, in their order, and then those of the slices; each place is the number that the node would have.
+-- so many copies of one input
+abbrev inputs : ℕ → Netlist
+inputs count = shared (replicate count (input 3))
+
+-- Additions: each refusal of a record, in their order, and then those of the slices; each place is the number that the node would have. No record
+-- offers a variable, so refusal 3 is that of the 201st node.
 abbrev pub additions : List Case
 additions =
     roomy before-a (add (4 ∷ 3 ∷ 1 ∷ [])) (answered p9)
@@ -75,6 +80,10 @@ additions =
     ∷ roomy p9 (add (1 ∷ 0 ∷ [])) (refused 1 5)
     ∷ roomy p9 (add (1 ∷ 9 ∷ 0 ∷ 0 ∷ [])) (refused 1 5)
     ∷ roomy p9 (add (8 ∷ 0 ∷ 0 ∷ 0 ∷ 0 ∷ [])) (refused 1 5)
+    ∷ roomy (inputs 199) (add (2 ∷ 3 ∷ 0 ∷ [])) (answered (inputs 200))
+    ∷ roomy (inputs 200) (add (2 ∷ 3 ∷ 0 ∷ [])) (refused 3 200)
+    ∷ roomy (inputs 200) (add (4 ∷ 0 ∷ [])) (refused 3 200)
+    ∷ roomy (inputs 200) (add (1 ∷ 0 ∷ [])) (refused 1 200)
     ∷ roomy p9 (add (4 ∷ 9 ∷ [])) (refused 4 5)
     ∷ roomy p9 (add (2 ∷ 8 ∷ 0 ∷ 0 ∷ [])) (refused 6 5)
     ∷ roomy p9 (add (3 ∷ 5 ∷ 0 ∷ [])) (refused 7 5)
@@ -104,7 +113,9 @@ removals =
 
 pub additions-right : Each Right additions
 unfolding editedTo
-additions-right = refl and refl and refl and refl and refl and refl and refl and refl and refl and refl and refl and refl and refl and refl and tt
+additions-right =
+    refl and refl and refl and refl and refl and refl and refl and refl and refl
+    and refl and refl and refl and refl and refl and refl and refl and refl and refl and tt
 
 pub removals-right : Each Right removals
 unfolding editedTo

@@ -5,3 +5,5 @@ pub mod Named
 pub mod Removing
 -- What antt computes: edits of two blocks, one whose counts differ, and a node that is named.
 pub mod Blocks
+-- and a run of edits in slices of many lengths
+pub mod LentRuns

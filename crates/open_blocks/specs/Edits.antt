@@ -4,14 +4,14 @@
 use Prim.Native.Nat.{ℕ, suc, _*_, _-_}
 use mathlib.Core.Path.{_≡_}
 use mathlib.Core.Bool.{Bool, cond, _||_}
-use mathlib.Core.List.{List, [], _∷_, map}
+use mathlib.Core.List.{List, [], _∷_, _++_, map}
 use lib.Dec.{leb, ltb}
-use lib.ListN.{length, getD, take}
+use lib.ListN.{length, getD, take, drop}
 use Rattle.rules.specs.declared.NodeRecord.{NodeRecord}
 use Rattle.rules.specs.Lists.{member, without}
-use Rattle.rules.specs.Records.{Cell, input, NOT, XOR, AND, OR, register, Record, end, variable, node, Netlist, WellFormed, withNode, last-kind, said, size, operands, writtenOut}
+use Rattle.rules.specs.Records.{Cell, input, NOT, XOR, AND, OR, register, Record, end, variable, node, Netlist, empty, WellFormed, withNode, last-kind, said, size, operands, writtenOut}
 use Rattle.rules.specs.Families.{families, Findings, findings}
-use Rattle.rules.specs.Checks.{Outcome, answered, refused, andThen, check, judged, overLimit, undeclaredSet, badOperand, slicesFit, nodeCheck}
+use Rattle.rules.specs.Checks.{Outcome, answered, refused, andThen, check, judged, overLimit, undeclaredSet, badOperand, slicesFit, admitted, nodeCheck}
 use Rattle.rules.specs.Slices.{nodeRecords, workBytes, filled, reply, nodesAfter, workAfter}
 use Rattle.rules.specs.Demands.{NoSuspect}
 
@@ -126,26 +126,60 @@ pub record NothingSuspectAfter (n : Netlist) (e : Edit) (entries work : ℕ) : T
 
 -- ---- any run of edits
 
--- an open block: its netlist, and what both slices hold
+-- an open block: its netlist, and what the two arrays hold of which each call is lent the front
 pub record Block : Type 0 where
   pub netlist : Netlist
   pub nodes : List NodeRecord
   pub work : List ℕ
 
--- after one edit, and after a run of them, refused ones among them
-unfoldable pub afterEdit : Block → Edit → Block
-afterEdit b e = record {
-  netlist = netlistAfter (b .netlist) e (length (b .nodes)) (length (b .work));
-  nodes = recordsAfter (b .netlist) e (b .nodes) (length (b .work));
-  work = bytesAfter (b .netlist) e (length (b .nodes)) (b .work);
+-- how much a call is lent of them: so many entries and so many work bytes, or all where there are not so many
+pub record Lent : Type 0 where
+  pub entries : ℕ
+  pub bytes : ℕ
+
+-- the block in the slices that are lent of its arrays
+unfoldable pub lentOf : Block → Lent → Block
+lentOf b lent = record { netlist = b .netlist; nodes = take (lent .entries) (b .nodes); work = take (lent .bytes) (b .work) }
+
+-- and in its arrays again, once a call left this in the slices: behind them stands what stood there
+unfoldable pub givenBack : Block → Lent → (left : Block) → Block
+givenBack b lent left = record {
+  netlist = left .netlist;
+  nodes = left .nodes ++ drop (lent .entries) (b .nodes);
+  work = left .work ++ drop (lent .bytes) (b .work);
 }
 
-unfoldable pub afterEdits : Block → List Edit → Block
-afterEdits b [] = b
-afterEdits b (e ∷ edits) = afterEdits (afterEdit b e) edits
+-- After opening, in any arrays: where it is refused the block has no variables and no nodes, as its state then says.
+unfoldable pub afterOpening : Block → (bytes : List ℕ) → Lent → Block
+afterOpening b bytes lent =
+    let slices = lentOf b lent in
+    givenBack b lent record {
+      netlist = otherwise empty (admitted bytes (length (slices .nodes)) (length (slices .work)));
+      nodes = nodesAfter bytes (slices .nodes) (length (slices .work));
+      work = workAfter bytes (length (slices .nodes)) (slices .work);
+    }
 
--- A block is as a check of its written-out netlist leaves it: the netlist obeys the record rules, the check refuses nothing in slices of
--- these lengths and answers for that netlist, and both slices hold what it would write.
+-- a call: an edit, and how much it is lent
+pub record Call : Type 0 where
+  pub edit : Edit
+  pub lent : Lent
+
+-- after one call, and after a run of them, refused ones among them, each in slices of its own lengths
+unfoldable pub afterCall : Block → Call → Block
+afterCall b c =
+    let slices = lentOf b (c .lent) in
+    givenBack b (c .lent) record {
+      netlist = netlistAfter (b .netlist) (c .edit) (length (slices .nodes)) (length (slices .work));
+      nodes = recordsAfter (b .netlist) (c .edit) (slices .nodes) (length (slices .work));
+      work = bytesAfter (b .netlist) (c .edit) (length (slices .nodes)) (slices .work);
+    }
+
+unfoldable pub afterCalls : Block → List Call → Block
+afterCalls b [] = b
+afterCalls b (c ∷ calls) = afterCalls (afterCall b c) calls
+
+-- A block is as a check of its written-out netlist leaves it: the netlist obeys the record rules, the check refuses nothing where it is lent all
+-- of both arrays and answers for that netlist, and they hold what it would write.
 pub record AsChecked (b : Block) : Type 0 where
   pub obeys : WellFormed (b .netlist)
   pub answers : reply (writtenOut (b .netlist)) (length (b .nodes)) (length (b .work)) ≡ answered (findings (b .netlist))

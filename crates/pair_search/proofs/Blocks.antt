@@ -11,7 +11,7 @@ use Rattle.rules.specs.Records.{secret, mask, input, register, Netlist, most-no
 use Rattle.rules.specs.Values.{exclusiveOr, valueRule, values, feedingRule, feedings, feeding, same, howMany, settings, next, others, make, matches, giving, CountsAgree}
 use Rattle.rules.specs.Families.{tested, familiesAt, clear, suspectAt, Finding}
 use Rattle.rules.specs.Checks.{Outcome, answered, refused, read, most-work}
-use Rattle.rules.specs.Blocks.{P1, P2, P10, P13, P13-NOT}
+use Rattle.rules.specs.Blocks.{P1, P2, P9, P10, P13, P13-NOT}
 use Rattle.rules.proofs.Each.{Each}
 use Rattle.rules.proofs.Blocks.{replyTo, _and_}
 use Rattle.rules.proofs.BlockCounts.{all-zero}
@@ -66,8 +66,8 @@ three-sets =
     ∷ 0x00 ∷ []
 
 -- Under each limit that matters: where there is a pair, below its position and at it; where there is none, below the number of pairs and at it;
--- no pair to look at; a single suspect; a refusal. Block B, which one probe does not break, falls to two. Of a pair's suspect sets the one with
--- fewest variables is reported.
+-- no pair to look at; a single suspect, for settled and glitching signals and, in block A, for glitching ones alone; a refusal. Block B, which one
+-- probe does not break, falls to two. Of a pair's suspect sets the one with fewest variables is reported.
 abbrev pub cases : List Case
 cases =
     record { bytes = shares; limit = 0; expected = finds clear clear 2 4 spent 0 }
@@ -82,12 +82,13 @@ cases =
     ∷ record { bytes = P2 .bytes; limit = 0; expected = finds clear clear 0 0 noPair 0 }
     ∷ record { bytes = P13 .bytes; limit = 5; expected = finds clear clear 1 1 noPair 0 }
     ∷ record { bytes = P13-NOT .bytes; limit = 5; expected = finds (suspectAt 1 1) (suspectAt 1 1) 1 2 (single 1 1) 0 }
+    ∷ record { bytes = P9 .bytes; limit = 5; expected = finds clear (suspectAt 4 1) 3 5 (single 4 1) 0 }
     ∷ record { bytes = P1 .bytes; limit = 5; expected = refused 8 0 }
     ∷ []
 
 pub replies : Each Right cases
 unfolding pairsReplyTo
-replies = refl and refl and refl and refl and refl and refl and refl and refl and refl and refl and refl and refl and refl and tt
+replies = refl and refl and refl and refl and refl and refl and refl and refl and refl and refl and refl and refl and refl and refl and tt
 
 -- ---- counts that differ
 

@@ -10,7 +10,7 @@ ghost use Rattle.rules.specs.Records.{Class};
 ghost use Rattle.netlists.specs.Netlists.{flatOf, Ready};
 ghost use Rattle.families.specs.Parts.{HasPart, familyAt, withFamily};
 ghost use Rattle.suspects.specs.Suspects.{reportOf};
-ghost use Rattle.pair_search.specs.Pairs.{row, pairsBelow, pairs, noPair, searchFrom};
+ghost use Rattle.pair_search.specs.Pairs.{row, noPair, searchFrom};
 ghost use Rattle.pair_search.specs.Meaning.{searchedOf};
 ghost use Rattle.pair_search.specs.Work.{ByClass, reportIn, over};
 use families::PART;
@@ -145,40 +145,16 @@ fn search_row(netlist: Netlist, work: &[u8], j: usize, terms: Terms, looked: usi
     so_far
 }
 
-// The search over the pairs of the nodes below `j` goes on with those of node `j`, unless it is over.
-pub fn search_node(netlist: Netlist, work: &[u8], j: usize, limit: usize, so_far: Search) -> Search
+// The same for a caller that has the limit alone.
+pub fn search_node(netlist: Netlist, work: &[u8], j: usize, limit: usize, looked: usize) -> Search
     requires { ⌜ Ready netlist (length (now work)) × (j < netlist .count) ⌝ }
     ensures { λ r. ⌜ ((n : Records.Netlist) → netlist ≡ flatOf n →
-        searchedOf «so_far» ≡ searchFrom (reportIn (n .variables) (now (work .entry))) limit 0 (pairsBelow n j) →
-        searchedOf r ≡ searchFrom (reportIn (n .variables) (now (work .entry))) limit 0 (pairsBelow n (j + 1))) ⌝ }
+        searchedOf r ≡ searchFrom (reportIn (n .variables) (now (work .entry))) limit looked (row n j j)) ⌝ }
 {
-    if is_over(so_far) {
-        return so_far;
-    }
     let terms = Terms {
         secrets: suspects::variables_of(netlist, 0),
         masks: suspects::variables_of(netlist, 1),
         limit,
     };
-    search_row(netlist, work, j, terms, so_far.looked)
-}
-
-// The search over all pairs of a netlist whose families are in the work bytes, at most `limit` of them: what it finds, and how many it
-// looked at.
-pub fn search_pairs(netlist: Netlist, work: &[u8], limit: usize) -> Search
-    requires { ⌜ Ready netlist (length (now work)) ⌝ }
-    ensures { λ r. ⌜ ((n : Records.Netlist) → netlist ≡ flatOf n →
-        searchedOf r ≡ searchFrom (reportIn (n .variables) (now (work .entry))) limit 0 (pairs n)) ⌝ }
-{
-    let count = netlist.count;
-    let mut so_far = no_pair(0);
-    let mut j = 0;
-    while j < count {
-        so_far = search_node(netlist, work, j, limit, so_far);
-        if is_over(so_far) {
-            break;
-        }
-        j += 1;
-    }
-    so_far
+    search_row(netlist, work, j, terms, looked)
 }

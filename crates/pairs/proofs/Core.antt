@@ -6,12 +6,12 @@ use mathlib.Core.Logic.{_↔_}
 use mathlib.Core.List.{List}
 use native.Mathlib.Omega.{arith}
 use lib.ListN.{length, drop}
-use Rattle.rules.specs.Records.{Netlist}
+use Rattle.rules.specs.Records.{Netlist, empty, WellFormed}
 use Rattle.rules.specs.Families.{families, half, Findings, findings}
 use Rattle.rules.specs.Slices.{workBytes, filled, workAfter, reply}
 use Rattle.rules.specs.Checks.{Outcome, answered, refused, andThen, admitted}
 use Rattle.rules.specs.Demands.{GlitchClear, NothingSuspect, OneProbe}
-use Rattle.rules.specs.Paper.{findingOf, findingsOf}
+use Rattle.rules.specs.Paper.{findingsOf}
 use Rattle.rules.specs.declared.Answer.{Answer}
 use Rattle.rules.proofs.Reading.{read-well-formed}
 use Rattle.rules.proofs.Room.{admitted-says}
@@ -33,6 +33,15 @@ use Rattle.pairs.specs.declared.PairsReply.the-variants.{Answered}
 use Rattle.pairs.specs.Meaning.{pairsReplyOf}
 use Rattle.pairs.proofs.TwoProbes.{one-probe-reply, no-pair-exactly, two-probes}
 
+-- the empty netlist obeys the record rules
+empty-obeys : WellFormed empty
+empty-obeys = record {
+  few-variables = omega arith;
+  few-nodes = omega arith;
+  lower = λ i h. absurd (omega arith);
+  declared = λ i h. absurd (omega arith);
+}
+
 module _ (bytes : List ℕ) (entries : ℕ) where
   -- an answer of the checker is that of a netlist
   pub record Answers (work : ℕ) (f : Findings) : Type 0 where
@@ -48,21 +57,28 @@ module _ (bytes : List ℕ) (entries : ℕ) where
       go (answered n) e same = record { netlist = n; admits = e; says = cc }
       go (refused l q) e same = let z : _≡_ {A = ℕ} 0 1 = cc in absurd (omega arith)
 
-  module _ (before : List ℕ) {f : Findings} (a : Answers (length before) f) {value : Value.Netlist}
-      (kept-is : value ≡ flatOf (kept (admitted bytes entries (length before)))) where
-    -- whose value is what `examine` kept, ready for the search
-    pub value-is : value ≡ flatOf (a .netlist)
+  module _ (before : List ℕ) {value : Value.Netlist} (kept-is : value ≡ flatOf (kept (admitted bytes entries (length before)))) where
+    -- whose value is what `examine` kept
+    pub value-is : {n : Netlist} → admitted bytes entries (length before) ≡ answered n → value ≡ flatOf n
     unfolding kept
-    value-is = rw (a .admits) at kept-is
+    value-is admits = rw admits at kept-is
 
+    -- what it kept is ready for the search, on a refusal too
     pub ready : {after : List ℕ} → after ≡ workAfter bytes entries before → Ready value (length after)
-    ready w =
-        let says = admitted-says bytes entries (length before) (a .netlist) (a .admits) in
-        let long = ap length w ∙ work-after-length bytes entries before in
-        record {
-          formed = record { netlist = a .netlist; is = value-is; obeys = read-well-formed bytes (a .netlist) (says .is-read) };
-          room = omega (arith, value-count (a .netlist) value-is, says .room .enough-work);
-        }
+    unfolding kept
+    ready {after} w = go (admitted bytes entries (length before)) refl
+      where
+        go : (o : Outcome Netlist) → admitted bytes entries (length before) ≡ o → Ready value (length after)
+        go (answered n) e =
+            let says = admitted-says bytes entries (length before) n e in
+            let long = ap length w ∙ work-after-length bytes entries before in
+            record {
+              formed = record { netlist = n; is = value-is e; obeys = read-well-formed bytes n (says .is-read) };
+              room = omega (arith, value-count n (value-is e), says .room .enough-work);
+            }
+        go (refused k p) e =
+            let is : value ≡ flatOf empty = rw e at kept-is in
+            record { formed = record { netlist = empty; is = is; obeys = empty-obeys }; room = omega (arith, value-count empty is) }
 
 module _ (bytes : List ℕ) (entries limit : ℕ) where
   -- a refusal of the checker is one of the reply with pairs
@@ -77,7 +93,7 @@ module _ (bytes : List ℕ) (entries limit : ℕ) where
   -- the search over the work bytes that the checker leaves, and so the whole reply
   pub searches : (answer : Answer) (looked : Search) (before : List ℕ) {after : List ℕ} (a : Answers bytes entries (length before) (findingsOf answer))
       → after ≡ workAfter bytes entries before
-      → searchedOf looked ≡ unlessSingle (findingOf (answer .glitch)) (searchFrom (reportIn (a .netlist .variables) after) limit 0 (pairs (a .netlist)))
+      → searchedOf looked ≡ unlessSingle (half (λ F. F .glitch) (a .netlist)) (searchFrom (reportIn (a .netlist .variables) after) limit 0 (pairs (a .netlist)))
       → pairsReplyOf (Answered (record { answer = answer; search = looked })) ≡ pairsReply bytes entries (length before) limit
   unfolding pairsReply andThen pairFindings searched findings workAfter filled
   searches answer looked before a w found =
@@ -85,9 +101,8 @@ module _ (bytes : List ℕ) (entries limit : ℕ) where
       let says = admitted-says bytes entries (length before) n (a .admits) in
       let there = search-there n (read-well-formed bytes n (says .is-read)) (drop (length (workBytes (families n))) before) limit in
       let held = ap (λ (after : List ℕ). searchFrom (reportIn (n .variables) after) limit 0 (pairs n)) (rw (a .admits) at w) ∙ there in
-      let glitch : findingOf (answer .glitch) ≡ half (λ F. F .glitch) n = ap (λ (f : Findings). f .glitch) (a .says) in
       rw (a .admits)
-      (ap₂ {C = Outcome PairFindings} (λ f s. answered (record { answer = f; searched = s })) (a .says) (found ∙ ap₂ unlessSingle glitch held))
+      (ap₂ {C = Outcome PairFindings} (λ f s. answered (record { answer = f; searched = s })) (a .says) (found ∙ ap (unlessSingle (half (λ F. F .glitch) n)) held))
 
   -- the promises of `examine_pairs`, in their order
   pub promises : (r : PairsReply) (examined : Examined) (before after : List ℕ) → pairsReplyOf r ≡ pairsReply bytes entries (length before) limit

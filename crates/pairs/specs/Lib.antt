@@ -1,2 +1,3 @@
--- What the reply of this crate means.
+-- What the reply of this crate means, and a search that is under way.
 pub mod Meaning
+pub mod Underway

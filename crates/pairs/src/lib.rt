@@ -1,19 +1,23 @@
 // The checker with two probes: `check_pairs` over netlist bytes, both lent slices and a limit on pairs. `examine_pairs` is the
-// same over flat forms: it takes the number of entries, and answers the netlist and its marks by value.
+// same over flat forms: it takes the number of entries, and answers the netlist and its marks by value. Its search goes node by node, by
+// functions that a caller may take who wants to tell how far it is.
 ghost use mathlib.Core.Path.{_≡_};
+ghost use mathlib.Core.Bool.{true, false};
 ghost use mathlib.Core.Logic.{_↔_};
+ghost use mathlib.Core.List.{List};
+ghost use Prim.Native.Nat.{ℕ, _+_, _≤_};
 ghost use lib.ListN.{length};
-ghost use Rattle.rules.specs.Records as Records;
-ghost use Rattle.rules.specs.Slices.{nodesAfter, workAfter};
-ghost use Rattle.rules.specs.Checks.{admitted};
+ghost use Rattle.rules.specs.Families.{Findings};
+ghost use Rattle.rules.specs.Slices.{nodesAfter, workAfter, reply};
+ghost use Rattle.rules.specs.Checks.{answered, andThen, admitted};
 ghost use Rattle.rules.specs.Demands.{GlitchClear, NothingSuspect, OneProbe};
-ghost use Rattle.rules.specs.Paper.{findingOf};
+ghost use Rattle.rules.specs.Paper.{replyOf};
 ghost use Rattle.netlists.specs.Netlists.{flatOf, Ready, kept};
 ghost use Rattle.marks.specs.Marks.{marksOf};
-ghost use Rattle.pair_search.specs.Pairs.{pairs, searchFrom, unlessSingle, pairsReply, oneProbeReply, NoPair, NothingSuspectInPairs, TwoProbes};
+ghost use Rattle.pair_search.specs.Pairs.{noPair, unlessSingle, pairsReply, oneProbeReply, NoPair, NothingSuspectInPairs, TwoProbes};
 ghost use Rattle.pair_search.specs.Meaning.{searchedOf};
-ghost use Rattle.pair_search.specs.Work.{reportIn};
 ghost use Rattle.pairs.specs.Meaning.{pairsReplyOf};
+ghost use Rattle.pairs.specs.Underway.{isDone, Underway};
 use checker::Examined;
 use netlists::Netlist;
 use pair_search::Found;
@@ -42,18 +46,98 @@ pub struct ExaminedPairs {
     pub examined: Examined,
 }
 
-// The search of a netlist whose families are in the work bytes, unless a node is suspect by itself.
-fn search_unless(glitch: Half, netlist: Netlist, work: &[u8], limit: usize) -> Search
-    requires { ⌜ Ready netlist (length (now work)) ⌝ }
-    ensures { λ r. ⌜ ((n : Records.Netlist) → netlist ≡ flatOf n → searchedOf r ≡
-        unlessSingle (findingOf glitch) (searchFrom (reportIn (n .variables) (now (work .entry))) limit 0 (pairs n))) ⌝ }
+// ---- the search, node by node
+
+// How far a search over pairs is: the reply of one probe, and what was found in the pairs of the nodes below `next`, of so many nodes.
+pub struct Progress {
+    pub reply: Reply,
+    pub search: Search,
+    pub next: usize,
+    pub nodes: usize,
+}
+
+// What is found before any pair is looked at: a node that is suspect by itself, or nothing.
+fn single_or_none(reply: Reply) -> Search
+    ensures { λ r. ⌜ ((f : Findings) → replyOf reply ≡ answered f →
+        searchedOf r ≡ unlessSingle (f .glitch) (record { found = noPair; looked = 0 })) ⌝ }
 {
-    match glitch {
-        Half::Suspect(node, set) => Search {
-            found: Found::Single(node, set),
-            looked: 0,
-        },
-        Half::Clear => pair_search::search_pairs(netlist, work, limit),
+    match reply {
+        Reply::Refused(_) => pair_search::no_pair(0),
+        Reply::Answered(answer) => {
+            let glitch = answer.glitch;
+            match glitch {
+                Half::Clear => pair_search::no_pair(0),
+                Half::Suspect(node, set) => Search {
+                    found: Found::Single(node, set),
+                    looked: 0,
+                },
+            }
+        }
+    }
+}
+
+// Before any pair is looked at, of what `examine` examined. A node that is suspect by itself ends the search; on a refusal there are no
+// nodes.
+pub fn begin_pairs(examined: Examined) -> Progress
+    ensures { λ r. ⌜ ((bytes : List ℕ) (entries limit : ℕ) (before work : List ℕ) →
+        replyOf (examined .reply) ≡ reply bytes entries (length before) →
+        examined .netlist ≡ flatOf (kept (admitted bytes entries (length before))) → work ≡ workAfter bytes entries before →
+        Underway bytes entries limit before (examined .netlist) work r) ⌝ }
+{
+    let reply = examined.reply;
+    let netlist = examined.netlist;
+    Progress {
+        reply,
+        search: single_or_none(reply),
+        next: 0,
+        nodes: netlist.count,
+    }
+}
+
+// Whether no node is left, or the search ends with what it found.
+pub fn is_done(progress: Progress) -> bool
+    ensures { λ r. ⌜ r ≡ isDone progress ⌝ }
+{
+    let search = progress.search;
+    (progress.nodes <= progress.next) | pair_search::is_over(search)
+}
+
+// The search goes on with the pairs of the next node. It takes the netlist and the work bytes that `examine` left.
+pub fn further(netlist: Netlist, work: &[u8], limit: usize, progress: Progress) -> Progress
+    requires { ⌜ Ready netlist (length (now work)) × (progress .nodes ≡ netlist .count) × (isDone progress ≡ false) ⌝ }
+    ensures { λ r. ⌜ ((bytes : List ℕ) (entries : ℕ) (before : List ℕ) →
+        Underway bytes entries limit before netlist (now (work .entry)) progress →
+        Underway bytes entries limit before netlist (now (work .entry)) r) ⌝ }
+    ensures next { λ r. ⌜ (r .next ≡ progress .next + 1) × (r .next ≤ r .nodes) × (r .nodes ≡ progress .nodes) ⌝ }
+{
+    let reply = progress.reply;
+    let so_far = progress.search;
+    let j = progress.next;
+    let search = pair_search::search_node(netlist, work, j, limit, so_far.looked);
+    Progress {
+        reply,
+        search,
+        next: j + 1,
+        nodes: progress.nodes,
+    }
+}
+
+// The reply of one probe beside what was found. Once the search is done it is that of `check_pairs`.
+pub fn reply_after(progress: Progress) -> PairsReply
+    ensures beside { λ r. ⌜ pairsReplyOf r ≡
+        andThen (replyOf (progress .reply)) (λ f. answered (record { answer = f; searched = searchedOf (progress .search) })) ⌝ }
+    ensures done { λ r. ⌜ ((bytes : List ℕ) (entries limit : ℕ) (before : List ℕ) (netlist : Netlist) (work : List ℕ) →
+        Underway bytes entries limit before netlist work progress → isDone progress ≡ true →
+        pairsReplyOf r ≡ pairsReply bytes entries (length before) limit) ⌝ }
+{
+    let reply = progress.reply;
+    match reply {
+        Reply::Refused(refusal) => PairsReply::Refused(refusal),
+        Reply::Answered(answer) => {
+            let search = progress.search;
+            let both = PairsAnswer { answer, search };
+            PairsReply::Answered(both)
+        }
     }
 }
 
@@ -71,23 +155,13 @@ pub fn examine_pairs(bytes: &[u8], entries: usize, work: &mut [u8], limit: usize
     ensures probes { λ r. ⌜ (NoPair (pairsReplyOf (r .reply)) → TwoProbes (now (bytes .entry))) ⌝ }
 {
     let examined = checker::examine(bytes, entries, work);
-    let reply = examined.reply;
     let netlist = examined.netlist;
-    match reply {
-        Reply::Refused(refusal) => ExaminedPairs {
-            reply: PairsReply::Refused(refusal),
-            examined,
-        },
-        Reply::Answered(answer) => {
-            let glitch = answer.glitch;
-            let search = search_unless(glitch, netlist, work, limit);
-            let answer = PairsAnswer { answer, search };
-            ExaminedPairs {
-                reply: PairsReply::Answered(answer),
-                examined,
-            }
-        }
+    let mut progress = begin_pairs(examined);
+    while !is_done(progress) {
+        progress = further(netlist, work, limit, progress);
     }
+    let reply = reply_after(progress);
+    ExaminedPairs { reply, examined }
 }
 
 // ---- the entry point, over the lent slice of node records

@@ -1,13 +1,15 @@
--- Counts of mask settings that antt computes: a block whose counts differ, so that the statement of demand 3 is not empty, and one that the
--- families refuse though its settled value gives nothing away; and what feeds a gate of each kind. Assumes nothing.
+-- Counts of mask settings that antt computes: a block whose counts differ, so that the statement of demand 3 is not empty, one whose counts differ
+-- only where a public is 1, and one that the families refuse though its settled value gives nothing away; and what feeds a gate of each kind.
+-- Assumes nothing.
+use Prim.Native.Nat.{ℕ}
 use mathlib.Core.Path.{_≡_, refl, sym, _∙_}
-use mathlib.Core.Bool.{Bool, true, false, xor, _&&_, Bool·beq}
+use mathlib.Core.Bool.{Bool, true, false, not, xor, _&&_, Bool·beq}
 use mathlib.Core.List.{List, [], _∷_}
 use native.Mathlib.Omega.{arith}
 use lib.ListN.{getD}
-use Rattle.rules.specs.Lists.{member, insert, union, count}
+use Rattle.rules.specs.Lists.{digit, member, insert, union, count}
 use Rattle.rules.specs.Tables.{table}
-use Rattle.rules.specs.Records.{secret, mask, input, NOT, XOR, AND, OR, register, Netlist}
+use Rattle.rules.specs.Records.{secret, mask, public, input, NOT, XOR, AND, OR, register, Netlist}
 use Rattle.rules.specs.Values.{exclusiveOr, valueRule, values, feedingRule, feedings, feeding, same, howMany, settings, next, others, make, Pattern, matches, giving, CountsAgree}
 use Rattle.rules.specs.Families.{tested}
 use Rattle.rules.specs.Checks.{answered, read}
@@ -69,6 +71,59 @@ p14-leaks agree =
 pub p14-probe : ¬ OneProbe (P14-without .bytes)
 unfolding tested OneProbe
 p14-probe probe = p14-leaks (probe p14-without p14-without-read 10 (record { there = omega arith; isTested = tt }))
+
+-- ---- counts that differ only where a public is 1
+
+-- variables secret, mask, public; inputs 3, 2 and 4; 3 AND(1,2), 4 register 3, 5 XOR(0,4): the register holds the mask only where the public is 1
+abbrev pub gated : List ℕ
+gated =
+    0x01 ∷ 0x00 ∷ 0x01 ∷ 0x01 ∷ 0x01 ∷ 0x02
+    ∷ 0x02 ∷ 0x03 ∷ 0x00 ∷ 0x02 ∷ 0x02 ∷ 0x00 ∷ 0x02 ∷ 0x04 ∷ 0x00
+    ∷ 0x05 ∷ 0x01 ∷ 0x02 ∷ 0x07 ∷ 0x03 ∷ 0x04 ∷ 0x00 ∷ 0x04
+    ∷ 0x00 ∷ []
+
+abbrev pub gated-netlist : Netlist
+gated-netlist = record { variables = secret ∷ mask ∷ public ∷ []; nodes = input 3 ∷ input 2 ∷ input 4 ∷ AND 1 2 ∷ register 3 ∷ XOR 0 4 ∷ [] }
+
+pub gated-read : read gated ≡ answered gated-netlist
+unfolding replyTo
+gated-read = refl
+
+-- Node 5 is fed by input 0 and the register. Where the public is 0, the counts there are the same whatever the secret is.
+pub gated-shut : (z : Pattern) (s : List Bool) → giving gated-netlist (feeding gated-netlist 5) z (false ∷ []) s ≡ digit (not (z 4))
+unfolding member insert union count table xor exclusiveOr valueRule values feedingRule feedings feeding same howMany settings next others make matches giving
+gated-shut z s = go (next s) (z 0) (z 4)
+  where
+    go : (b c d : Bool)
+        → count (λ (m : List Bool). Bool·beq (getD (values gated-netlist (b ∷ next m ∷ false ∷ [])) 0 false) c
+        && (Bool·beq (getD (values gated-netlist (b ∷ next m ∷ false ∷ [])) 4 false) d && true)) (settings 1)
+        ≡ digit (not d)
+    go true true true = refl
+    go true true false = refl
+    go true false true = refl
+    go true false false = refl
+    go false true true = refl
+    go false true false = refl
+    go false false true = refl
+    go false false false = refl
+
+-- Where it is 1, beside secret 0 one mask setting gives the pattern of zeros, and beside secret 1 none does.
+pub gated-open : (giving gated-netlist (feeding gated-netlist 5) all-zero (true ∷ []) (false ∷ []) ≡ 1)
+    × (giving gated-netlist (feeding gated-netlist 5) all-zero (true ∷ []) (true ∷ []) ≡ 0)
+unfolding member insert union count table xor exclusiveOr valueRule values feedingRule feedings feeding same howMany settings next others make matches giving
+gated-open = (refl, refl)
+
+-- so the counts do not agree, and one probe learns of the secret
+pub gated-leaks : ¬ CountsAgree gated-netlist (feeding gated-netlist 5)
+unfolding CountsAgree
+gated-leaks agree =
+    let (one, none) = gated-open in
+    let same-count = agree (true ∷ []) (false ∷ []) (true ∷ []) all-zero in
+    omega arith
+
+pub gated-probe : ¬ OneProbe gated
+unfolding tested OneProbe
+gated-probe probe = gated-leaks (probe gated-netlist gated-read 5 (record { there = omega arith; isTested = tt }))
 
 -- ---- a refused block whose settled value gives nothing away
 

@@ -12,7 +12,7 @@ use Rattle.rules.specs.Records.{most-nodes, bits}
 use Rattle.rules.specs.Values.{exclusiveOr, valueRule, values, feedingRule, feedings, feeding}
 use Rattle.rules.specs.Families.{familiesAt, lowest, Finding, clear, suspectAt, Findings}
 use Rattle.rules.specs.Checks.{answered, refused, nodeCheck, numberCheck, queried, queriedWith}
-use Rattle.rules.specs.Slices.{entry, markNumber, markOf, nodeRecord, nodeRecords, filled, nodesAfter, lowestMarked, FromMarks}
+use Rattle.rules.specs.Slices.{entry, markNumber, markOf, nodeRecord, nodeRecords, filled, nodesAfter, reply, lowestMarked, FromMarks}
 use Rattle.rules.specs.Listing.{word, digits, decimal, line, kindName, nodeLines, halfLine, netlistText, textOf, listing}
 use Rattle.rules.specs.Queries.{Given, given, valueQuery, feedingQuery, membershipQuery}
 use Rattle.rules.specs.Blocks.{P3, P9, P10}
@@ -52,6 +52,11 @@ pub records : (nodesAfter each-kind (replicate 9 stays) 1792
     × (nodesAfter each-kind (replicate 9 stays) 1791 ≡ replicate 9 stays)
 unfolding replyTo entry markNumber nodeRecord nodeRecords tabulate filled nodesAfter
 records = (refl, refl)
+
+-- slices that are too short for its seven nodes: the entries are checked first, also where the work bytes are too few as well
+pub too-short : (reply each-kind 6 1791 ≡ refused 10 7) × (reply each-kind 6 1792 ≡ refused 10 7) × (reply each-kind 7 1791 ≡ refused 11 1792)
+unfolding replyTo
+too-short = (refl, refl, refl)
 
 -- Several suspects in each layer: a secret and a mask; input 0 is the bare secret and has no mark, input 1 both; 2 XOR(0,1), the mask, is marked
 -- for glitches alone; 3 NOT 0 and 4 register 3 are marked in both layers; 5 XOR(2,1), the secret again, is too; 6 XOR(1,1), nothing, in neither,

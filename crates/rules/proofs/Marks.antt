@@ -2,14 +2,15 @@
 -- a layer are what its nodes report; and each half of the answer is the lowest marked node of its layer with its mark. Assumes nothing.
 use Prim.Native.Nat.{ℕ, zero, suc}
 use mathlib.Core.Path.{_≡_, refl, sym, ap, _∙_}
-use mathlib.Core.Bool.{Bool, true, false, cond}
-use mathlib.Core.List.{List, [], _∷_, _++_, map}
+use mathlib.Core.Bool.{Bool, true, false, not, cond}
+use mathlib.Core.List.{List, [], _∷_, map}
 use mathlib.Core.Option.{Option, none, some}
 use native.Mathlib.Omega.{arith}
+use lib.Dec.{eqb}
 use lib.ListN.{length, getD, take, drop, length-map, List·getD-map}
 use lib.Seq.{take-append-seam, ext-getD}
 use Rattle.rules.specs.declared.NodeRecord.{NodeRecord}
-use Rattle.rules.specs.Records.{Class, secret, Cell, input, Netlist}
+use Rattle.rules.specs.Records.{Class, secret, Cell, input, NOT, XOR, AND, OR, register, Netlist, kindOf}
 use Rattle.rules.specs.Families.{Family, Families, families, familiesAt, holds, suspect, tested, reported, mark, marks, layerMarks, lowest, half, findings}
 use Rattle.rules.specs.Checks.{answered, admitted}
 use Rattle.rules.specs.Slices.{entry, markNumber, markOf, nodeRecord, nodeRecords, filled, nodesAfter, lowestMarked, FromMarks}
@@ -54,6 +55,16 @@ mark-told variables cell F = go (tested cell)
     go true = reported-told variables F (reported variables F) refl
     go false = unfold markOf markNumber in refl
 
+-- kind 2 is not tested, and every other is
+pub tested-kind : (cell : Cell) → eqb (kindOf cell) 2 ≡ not (tested cell)
+unfolding kindOf tested
+tested-kind (input s) = refl
+tested-kind (NOT a) = refl
+tested-kind (XOR a b) = refl
+tested-kind (AND a b) = refl
+tested-kind (OR a b) = refl
+tested-kind (register a) = refl
+
 -- ---- the marks of a layer
 
 pub marks-length : (variables : List Class) (cells : List Cell) (Fs : List Family) → length cells ≡ length Fs → length (marks variables cells Fs) ≡ length cells
@@ -90,6 +101,13 @@ pub record-glitch : (n : Netlist) → map (λ r. r .glitch) (nodeRecords n) ≡ 
 unfolding nodeRecords nodeRecord
 record-glitch n = tabulate-made (λ r. r .glitch) _ markNumber (layerMarks (λ F. F .glitch) n) none (layer-marks-length (λ F. F .glitch) n) (λ i. refl)
 
+-- the slice that a check leaves, where it refuses nothing, has them at its front
+pub checked-records : (bytes : List ℕ) (before : List NodeRecord) (work : ℕ) (n : Netlist) → admitted bytes (length before) work ≡ answered n
+    → take (length (n .nodes)) (nodesAfter bytes before work) ≡ nodeRecords n
+unfolding nodesAfter filled
+checked-records bytes before work n e =
+    rw (e, ← records-length n) (take-append-seam (nodeRecords n) (drop (length (nodeRecords n)) before))
+
 -- ---- each half is the lowest marked node of its layer with its mark
 
 -- where a slice holds the node records of a netlist at its front
@@ -103,8 +121,4 @@ from-marks n nodes e = record {
 -- as the slice of a check does that refuses nothing
 pub checked-marks : (bytes : List ℕ) (before : List NodeRecord) (work : ℕ) (n : Netlist) → admitted bytes (length before) work ≡ answered n
     → FromMarks (findings n) (nodesAfter bytes before work)
-unfolding nodesAfter filled
-checked-marks bytes before work n e =
-    rw e
-    (from-marks n (nodeRecords n ++ drop (length (nodeRecords n)) before)
-    (rw (← records-length n) (take-append-seam (nodeRecords n) (drop (length (nodeRecords n)) before))))
+checked-marks bytes before work n e = from-marks n (nodesAfter bytes before work) (checked-records bytes before work n e)

@@ -3,17 +3,17 @@
 use Prim.Native.Nat.{ℕ, zero, suc, _+_, _*_, _-_, _<_, _≤_}
 use mathlib.Core.Path.{_≡_, refl, sym, ap₂, _∙_}
 use mathlib.Core.Logic.{⊎-elim}
-use mathlib.Core.Bool.{Bool, true, false, not, _&&_, cond}
+use mathlib.Core.Bool.{Bool, true, false, _&&_, cond}
 use mathlib.Core.List.{List, [], _∷_, _++_, map}
 use mathlib.Core.Option.{Option, none, some}
 use native.Mathlib.Nat.{suc-add, add-suc, add-zero, lt-of-lt-of-le}
 use native.Mathlib.Omega.{arith}
 use borrow.Author.Count.{below-more}
-use lib.Dec.{T, eqb}
+use lib.Dec.{T}
 use lib.ListN.{length, getD, drop, length-map, List·getD-map, List·getD-eq-default}
 use lib.Seq.{getD-drop}
 use Rattle.rules.specs.Lists.{member, tabulate}
-use Rattle.rules.specs.Records.{Class, Cell, input, NOT, XOR, AND, OR, register, kindOf, Netlist, WellFormed, most-sets}
+use Rattle.rules.specs.Records.{Class, Cell, input, Netlist, WellFormed, most-sets}
 use Rattle.rules.specs.Families.{Family, Families, constant, families, familiesAt, suspect, tested, reported, clear, suspectAt, mark, marks, layerMarks, lowest}
 use Rattle.rules.specs.Slices.{workBytes}
 use Rattle.rules.proofs.Tests.{pass, lt-or-le}
@@ -60,16 +60,6 @@ suspectIn n layer bytes i A = suspect (n .variables) A && member A (familyAt byt
 pub record Searched (n : Netlist) (layer : ℕ) (bytes : List ℕ) (i place : ℕ) : Type 0 where
   pub isTested : place < most-sets → T (tested (getD (n .nodes) i (input 0)))
   pub before : (k : ℕ) → k < place → T (tested (getD (n .nodes) i (input 0))) → suspectIn n layer bytes i (setAt k) ≡ false
-
--- kind 2 is not tested, and every other is
-pub tested-kind : (cell : Cell) → eqb (kindOf cell) 2 ≡ not (tested cell)
-unfolding kindOf tested
-tested-kind (input s) = refl
-tested-kind (NOT a) = refl
-tested-kind (XOR a b) = refl
-tested-kind (AND a b) = refl
-tested-kind (OR a b) = refl
-tested-kind (register a) = refl
 
 module _ (n : Netlist) (layer : ℕ) (bytes : List ℕ) (i : ℕ) where
   cell : Cell

@@ -1,2 +1,3 @@
--- What is proved of an open block that is held by value.
-pub mod OpenBlock
+-- What this program's proofs share.
+pub mod Blocks
+pub mod Samples

@@ -1,2 +1,3 @@
--- What the contracts of this program say of an open block that is held by value.
+-- What the contracts of this program say: of arguments and files, and of a run of edits.
 pub mod Editing
+pub mod Files

@@ -1,22 +1,33 @@
 // `edit`: edits of an open block, a line each.
 ghost use mathlib.Core.Path.{_≡_};
-ghost use Prim.Native.Nat.{_≤_};
-ghost use lib.ListN.{length};
-ghost use Rattle.telgouin.specs.Editing.{StaysOpen};
+ghost use mathlib.Core.Bool.{true};
+ghost use mathlib.Core.List.{List};
+ghost use Prim.Native.Nat.{ℕ, _+_, _≤_, _<_};
+ghost use lib.ListN.{length, take};
+ghost use Rattle.rules.specs.Records as Records;
+ghost use Rattle.rules.specs.Records.{most-nodes, most-bytes};
+ghost use Rattle.rules.specs.Checks.{answered, admitted, most-work};
+ghost use Rattle.rules.specs.Slices.{reply};
+ghost use Rattle.rules.specs.Paper.{replyOf};
+ghost use Rattle.worded_blocks.specs.Worded.{most-words};
+ghost use Rattle.edit_turns.specs.Turns.{Standing, failed};
+ghost use Rattle.edit_turns.specs.Meaning.{Stands};
+ghost use Rattle.telgouin.specs.Editing.{Fits, Wrote, Obeyed, Stepped, Ran, Edited};
 use crate::files::has_words;
-use block_words::Number;
-use block_words::Worded;
+use block_words::Fault;
 use desk::ask::list;
 use desk::say::say;
 use desk::say::say_answer;
+use desk::say::say_closing;
 use desk::say::say_fault_found;
 use desk::say::say_found;
 use desk::say::say_no_number;
 use desk::say::say_refused;
 use desk::say::say_refused_node;
-use edit_trial::Held;
+use edit_lines::Asked;
+use edit_turns::Told;
+use edit_turns::Turn;
 use libc::STDIN_FILENO;
-use open_blocks::Edit;
 use rules::MOST_VARIABLES;
 use rules::MOST_WORK;
 use rules::Refusal;
@@ -27,277 +38,36 @@ use written_blocks::MOST_WRITTEN;
 // The most bytes of an edit's line, its line feed among them.
 const MOST_LINE: usize = 4097;
 
-// Between two lines: the open block, whether a line has been printed, and whether more edits are read.
-struct Turn {
-    held: Held,
-    spoken: bool,
+// The most turns. That an input ends is not known, so they are counted down from a number that nobody uses up.
+const MOST_TURNS: u64 = u64::MAX;
+
+// Between two lines: the open block, how many turns are left, and whether more edits are read.
+struct Run {
+    turn: Turn,
+    left: u64,
     more: bool,
 }
 
-// The same block, after something has been printed, and at the end of the edits.
-fn spoken(turn: Turn) -> Turn
-    ensures { λ r. ⌜ r .held ≡ turn .held ⌝ }
-{
-    let mut next = turn;
-    next.spoken = true;
-    next
+// After a line: the open block, and whether more edits are read.
+struct Taken {
+    turn: Turn,
+    more: bool,
 }
 
-fn closed(turn: Turn) -> Turn
-    ensures { λ r. ⌜ r .held ≡ turn .held ⌝ }
-{
-    let mut next = turn;
-    next.more = false;
-    next
-}
+// ---- what is printed of a line
 
-// ---- edits
-
-fn say_refused_edit(edit: Edit, refusal: Refusal) {
-    match edit {
-        Edit::Add => say_refused_node(refusal),
-        Edit::Remove(_) => say_refused(refusal, 0),
+fn say_refused_edit(asked: Asked, refusal: Refusal) {
+    match asked {
+        Asked::Add(_, _, _, _) => say_refused_node(refusal),
+        _ => say_refused(refusal, 0),
     }
 }
 
 // The answer for a block whose variables have these classes, or the refusal of an edit.
-fn say_reply(edit: Edit, reply: Reply, classes: [u8; MOST_VARIABLES]) {
+fn say_reply(asked: Asked, reply: Reply, classes: [u8; MOST_VARIABLES]) {
     match reply {
-        Reply::Refused(refusal) => say_refused_edit(edit, refusal),
+        Reply::Refused(refusal) => say_refused_edit(asked, refusal),
         Reply::Answered(answer) => say_answer(answer, classes),
-    }
-}
-
-// Makes an edit, with so many bytes of a record, and prints the answer for the block as it now is, or the refusal.
-fn change(
-    turn: Turn,
-    edit: Edit,
-    record: &[u8; 3],
-    count: usize,
-    work: &mut [u8; MOST_WORK],
-) -> Turn
-    ensures { λ r. ⌜ StaysOpen (turn .held) (now (work .entry)) (r .held) (now (work .exit)) ⌝ }
-{
-    let held = turn.held;
-    let whole: &[u8] = record;
-    if count > whole.len() {
-        return turn;
-    }
-    let changed = edit_trial::edit_held(held, edit, &whole[..count], work);
-    let reply = changed.reply;
-    let held = changed.held;
-    let state = held.state;
-    let classes = state.classes;
-    say_reply(edit, reply, classes);
-    Turn {
-        held,
-        spoken: true,
-        more: true,
-    }
-}
-
-// An edit that is none.
-fn no_edit(turn: Turn, line: &[u8]) -> Turn
-    ensures { λ r. ⌜ r .held ≡ turn .held ⌝ }
-{
-    say(b"expected add RECORD, remove NODE, list, write OUT or quit, found: ");
-    say_found(line);
-    spoken(turn)
-}
-
-// A new node, by a record in words.
-fn add(turn: Turn, line: &[u8], words: &[u8], work: &mut [u8; MOST_WORK]) -> Turn
-    ensures { λ r. ⌜ StaysOpen (turn .held) (now (work .entry)) (r .held) (now (work .exit)) ⌝ }
-{
-    let mut record = [0u8; 3];
-    match block_words::record_of(words, &mut record) {
-        Worded::Nothing => no_edit(turn, line),
-        Worded::Wrong(fault) => {
-            say_fault_found(fault, words);
-            spoken(turn)
-        }
-        Worded::Bytes(count) => change(turn, Edit::Add, &record, count, work),
-    }
-}
-
-// A node to give up.
-fn remove(turn: Turn, word: &[u8], work: &mut [u8; MOST_WORK]) -> Turn
-    ensures { λ r. ⌜ StaysOpen (turn .held) (now (work .entry)) (r .held) (now (work .exit)) ⌝ }
-{
-    match block_words::number_of(word) {
-        Number::Is(node) => {
-            let none = [0u8; 3];
-            change(turn, Edit::Remove(node), &none, 0, work)
-        }
-        Number::None => {
-            say_no_number(word);
-            spoken(turn)
-        }
-    }
-}
-
-// ---- the block as it is now
-
-// The listing of so many bytes.
-fn list_first(bytes: &[u8; MOST_WRITTEN], count: usize) {
-    let whole: &[u8] = bytes;
-    if count <= whole.len() {
-        list(&whole[..count]);
-    }
-}
-
-fn list_block(turn: Turn) -> Turn
-    ensures { λ r. ⌜ r .held ≡ turn .held ⌝ }
-{
-    let mut bytes = [0u8; MOST_WRITTEN];
-    let held = turn.held;
-    let state = held.state;
-    let nodes = held.nodes;
-    let count = written_blocks::write_out(state, nodes, &mut bytes);
-    list_first(&bytes, count);
-    spoken(turn)
-}
-
-// Puts a block's bytes, or its words, into a file: whether it could.
-fn put_file(name: &[u8], text: &[u8]) -> bool {
-    let fd = os::open_overwrite(name);
-    if fd < 0 {
-        return false;
-    }
-    let is_written = io::write_all(fd, text);
-    let is_closed = libc::close(fd) == 0;
-    is_written & is_closed
-}
-
-// So many bytes of a block's words, and of the block.
-fn put_words(name: &[u8], text: &[u8; MOST_WORDS], count: usize) -> bool {
-    let whole: &[u8] = text;
-    if count > whole.len() {
-        return false;
-    }
-    put_file(name, &whole[..count])
-}
-
-fn put_bytes(name: &[u8], bytes: &[u8; MOST_WRITTEN], count: usize) -> bool {
-    let whole: &[u8] = bytes;
-    if count > whole.len() {
-        return false;
-    }
-    put_file(name, &whole[..count])
-}
-
-// The block, in words where the file's name says so.
-fn put_block(name: &[u8], turn: Turn) -> bool {
-    let held = turn.held;
-    let state = held.state;
-    let nodes = held.nodes;
-    if has_words(name) {
-        let mut text = [0u8; MOST_WORDS];
-        let count = worded_blocks::write_words(state, nodes, &mut text);
-        return put_words(name, &text, count);
-    }
-    let mut bytes = [0u8; MOST_WRITTEN];
-    let count = written_blocks::write_out(state, nodes, &mut bytes);
-    put_bytes(name, &bytes, count)
-}
-
-fn write(turn: Turn, name: &[u8]) -> Turn
-    ensures { λ r. ⌜ r .held ≡ turn .held ⌝ }
-{
-    if put_block(name, turn) {
-        return turn;
-    }
-    say(b"expected a file that can be written, found: ");
-    say_found(name);
-    spoken(turn)
-}
-
-// ---- lines
-
-// What a line asks for, from its first word to the end of its last.
-fn obey(turn: Turn, line: &[u8], work: &mut [u8; MOST_WORK]) -> Turn
-    ensures { λ r. ⌜ StaysOpen (turn .held) (now (work .entry)) (r .held) (now (work .exit)) ⌝ }
-{
-    let command = block_words::word_at(line, 0);
-    let from = command.from;
-    let to = command.to;
-    let operand = block_words::word_at(line, 1);
-    let first = operand.from;
-    let last = operand.to;
-    let third = block_words::word_at(line, 2);
-    let word = &line[from..to];
-    let one = (first < last) & (third.from == third.to);
-    if block_words::is_word(word, b"add") & (first < last) {
-        return add(turn, line, &line[first..], work);
-    }
-    if block_words::is_word(word, b"remove") & one {
-        return remove(turn, &line[first..last], work);
-    }
-    if block_words::is_word(word, b"write") & one {
-        return write(turn, &line[first..last]);
-    }
-    if first < last {
-        return no_edit(turn, line);
-    }
-    if block_words::is_word(word, b"list") {
-        return list_block(turn);
-    }
-    if block_words::is_word(word, b"quit") {
-        return closed(turn);
-    }
-    no_edit(turn, line)
-}
-
-// A line of standard input, without its line feed: so many bytes; or more than a line may have, or none, since the input has ended.
-enum Line {
-    Of(usize),
-    Long,
-    End,
-}
-
-fn wide(byte: u8) -> usize {
-    byte as usize
-}
-
-// The next byte of standard input, or 256 at its end.
-fn next_byte() -> usize {
-    let mut one = [0u8; 1];
-    if libc::read(STDIN_FILENO, &mut one) == 1 {
-        return wide(one[0]);
-    }
-    256
-}
-
-// The next line, at the front of `line`.
-fn read_line(line: &mut [u8; MOST_LINE]) -> Line {
-    let mut count = 0;
-    while count < MOST_LINE {
-        let byte = next_byte();
-        if byte == 10 {
-            return Line::Of(count);
-        }
-        if byte > 255 {
-            if count == 0 {
-                return Line::End;
-            }
-            return Line::Of(count);
-        }
-        line[count] = byte as u8;
-        count += 1;
-    }
-    skip_line();
-    Line::Long
-}
-
-// Reads to the end of a line.
-fn skip_line() {
-    let mut turns = u64::MAX;
-    while turns > 0 {
-        let byte = next_byte();
-        if (byte == 10) | (byte > 255) {
-            break;
-        }
-        turns -= 1;
     }
 }
 
@@ -328,95 +98,357 @@ fn starts_comment(line: &[u8], at: usize) -> bool {
     false
 }
 
-// A line with its comment and the blanks round its words. Where a comment is stuck to the last word nothing is written: its `#` may be meant for
-// the file's name.
-fn read_words(turn: Turn, line: &[u8], work: &mut [u8; MOST_WORK]) -> Turn
-    ensures { λ r. ⌜ StaysOpen (turn .held) (now (work .entry)) (r .held) (now (work .exit)) ⌝ }
+// Where what is shown of a line ends: with its last word, and with the line where a comment is stuck to that, since its `#` may be meant for the word.
+fn shown_end(line: &[u8]) -> usize
+    ensures { λ r. ⌜ r ≤ length (now (line .entry)) ⌝ }
 {
     let end = words_end(line);
-    let words = &line[..end];
-    let first = block_words::word_at(words, 0);
-    let from = first.from;
-    let to = first.to;
-    if from == to {
-        return turn;
+    if starts_comment(line, end) {
+        return line.len();
     }
-    let writes = block_words::is_word(&words[from..to], b"write");
-    if writes & starts_comment(line, end) {
-        return no_edit(turn, line);
-    }
-    obey(turn, &words[from..], work)
+    end
 }
 
-// So many bytes of a line.
-fn take_line(turn: Turn, line: &[u8; MOST_LINE], count: usize, work: &mut [u8; MOST_WORK]) -> Turn
-    ensures { λ r. ⌜ StaysOpen (turn .held) (now (work .entry)) (r .held) (now (work .exit)) ⌝ }
+// A line that is no edit, without its comment and the blanks round it.
+fn say_no_edit(line: &[u8]) {
+    let end = shown_end(line);
+    let words = &line[..end];
+    let word = block_words::word_at(words, 0);
+    let from = word.from;
+    say(b"expected add RECORD, remove NODE, list, write OUT or quit, found: ");
+    say_found(&words[from..]);
+}
+
+// What stands behind `add` and is no record.
+fn say_no_record(line: &[u8], fault: Fault) {
+    let end = words_end(line);
+    let words = &line[..end];
+    let word = block_words::word_at(words, 1);
+    let from = word.from;
+    say_fault_found(fault, &words[from..]);
+}
+
+// The word behind `remove`, which is no number.
+fn say_no_node(line: &[u8]) {
+    let word = block_words::word_at(line, 1);
+    let from = word.from;
+    let to = word.to;
+    say_no_number(&line[from..to]);
+}
+
+// What is printed of an edit, and of a line that is none.
+fn say_told(asked: Asked, line: &[u8], reply: Reply, classes: [u8; MOST_VARIABLES]) {
+    match asked {
+        Asked::Add(_, _, _, _) => say_reply(asked, reply, classes),
+        Asked::Remove(_) => say_reply(asked, reply, classes),
+        Asked::NoRecord(fault) => say_no_record(line, fault),
+        Asked::NoNumber => say_no_node(line),
+        Asked::NoEdit => say_no_edit(line),
+        _ => {}
+    }
+}
+
+// ---- the block as it is now
+
+// The listing of the block that the first so many bytes are.
+fn list_first(bytes: &[u8; MOST_WRITTEN], count: usize)
+    requires { ⌜ count ≤ most-bytes ⌝ }
 {
-    let whole: &[u8] = line;
-    if count > whole.len() {
+    let whole: &[u8] = bytes;
+    list(&whole[..count]);
+}
+
+// The listing of the block.
+fn list_block(turn: Turn) {
+    let mut bytes = [0u8; MOST_WRITTEN];
+    let held = turn.held;
+    let state = held.state;
+    let nodes = held.nodes;
+    let count = written_blocks::write_out(state, nodes, &mut bytes);
+    list_first(&bytes, count);
+}
+
+// Writes the first so many bytes to a file: whether it could.
+fn write_first(name: &[u8], bytes: &[u8; MOST_WRITTEN], count: usize) -> bool
+    requires { ⌜ count ≤ most-bytes ⌝ }
+{
+    let whole: &[u8] = bytes;
+    file_writes::write_file(name, &whole[..count])
+}
+
+// The same of a text.
+fn write_text(name: &[u8], text: &[u8; MOST_WORDS], count: usize) -> bool
+    requires { ⌜ count ≤ most-words ⌝ }
+{
+    let whole: &[u8] = text;
+    file_writes::write_file(name, &whole[..count])
+}
+
+// Writes the block to a file, in words where the file's name says so: whether it could.
+fn write_block(name: &[u8], turn: Turn) -> bool {
+    let held = turn.held;
+    let state = held.state;
+    let nodes = held.nodes;
+    if has_words(name) {
+        let mut text = [0u8; MOST_WORDS];
+        let count = worded_blocks::write_words(state, nodes, &mut text);
+        return write_text(name, &text, count);
+    }
+    let mut bytes = [0u8; MOST_WRITTEN];
+    let count = written_blocks::write_out(state, nodes, &mut bytes);
+    write_first(name, &bytes, count)
+}
+
+// The same; one that could not is at fault.
+fn write(turn: Turn, name: &[u8]) -> Turn
+    ensures { λ r. ⌜ Wrote turn r ⌝ }
+{
+    if write_block(name, turn) {
         return turn;
     }
-    read_words(turn, &whole[..count], work)
+    say(b"expected a file that can be written, found: ");
+    say_found(name);
+    edit_turns::at_fault(turn)
+}
+
+// ---- lines
+
+// Obeys a line, without its line feed.
+fn obey(turn: Turn, line: &[u8], work: &mut [u8; MOST_WORK]) -> Taken
+    ensures { λ r. ⌜ Obeyed (now (line .entry)) turn (r .turn) (now (work .entry)) (now (work .exit)) ⌝ }
+{
+    let obeyed = edit_turns::obey(turn, line, work);
+    let asked = obeyed.asked;
+    let told = obeyed.told;
+    let next = told.turn;
+    let reply = told.reply;
+    match asked {
+        Asked::Write(from, to) => {
+            let written = write(next, &line[from..to]);
+            Taken {
+                turn: written,
+                more: true,
+            }
+        }
+        Asked::List => {
+            list_block(next);
+            Taken {
+                turn: next,
+                more: true,
+            }
+        }
+        Asked::Quit => Taken {
+            turn: next,
+            more: false,
+        },
+        _ => {
+            let held = next.held;
+            let state = held.state;
+            let classes = state.classes;
+            say_told(asked, line, reply, classes);
+            Taken {
+                turn: next,
+                more: true,
+            }
+        }
+    }
+}
+
+// A line of standard input, without its line feed: so many bytes; or more than a line may have; or none, since the input has ended, or cannot be read.
+enum Line {
+    Of(usize),
+    Long,
+    End,
+    Failed,
+}
+
+fn wide(byte: u8) -> usize {
+    byte as usize
+}
+
+// The next byte of standard input, 256 at its end, and 257 where a read failed.
+fn next_byte() -> usize {
+    let mut one = [0u8; 1];
+    let got = libc::read(STDIN_FILENO, &mut one);
+    if got == 1 {
+        return wide(one[0]);
+    }
+    if got == 0 {
+        return 256;
+    }
+    257
+}
+
+// The next line, at the front of `line`. What was read of a line before a read failed is no line.
+fn read_line(line: &mut [u8; MOST_LINE]) -> Line
+    ensures { λ r. ⌜ Fits r ⌝ }
+{
+    let mut count = 0;
+    while count < MOST_LINE {
+        let byte = next_byte();
+        if byte == 10 {
+            return Line::Of(count);
+        }
+        if byte > 256 {
+            return Line::Failed;
+        }
+        if byte == 256 {
+            if count == 0 {
+                return Line::End;
+            }
+            return Line::Of(count);
+        }
+        line[count] = byte as u8;
+        count += 1;
+    }
+    skip_line()
+}
+
+// Reads to the end of a line that is too long.
+fn skip_line() -> Line
+    ensures { λ r. ⌜ Fits r ⌝ }
+{
+    let mut turns = MOST_TURNS;
+    while turns > 0 {
+        let byte = next_byte();
+        if (byte == 10) | (byte == 256) {
+            return Line::Long;
+        }
+        if byte > 256 {
+            return Line::Failed;
+        }
+        turns -= 1;
+    }
+    Line::Failed
+}
+
+// Edits that cannot be read to their end.
+fn unreadable(turn: Turn) -> Taken
+    ensures { λ r. ⌜ ((s : Standing) (work : List ℕ) → Stands s turn work → Stands (failed s) (r .turn) work) ⌝ }
+{
+    say(b"expected edits that can be read, found: a read that failed\n");
+    let next = edit_turns::at_fault(turn);
+    Taken {
+        turn: next,
+        more: false,
+    }
 }
 
 // A line that is too long for an edit.
-fn long_line(turn: Turn, line: &[u8; MOST_LINE]) -> Turn
-    ensures { λ r. ⌜ r .held ≡ turn .held ⌝ }
+fn long_line(turn: Turn, line: &[u8; MOST_LINE]) -> Taken
+    ensures { λ r. ⌜ ((s : Standing) (work : List ℕ) → Stands s turn work → Stands (failed s) (r .turn) work) ⌝ }
 {
     let whole: &[u8] = line;
-    no_edit(turn, whole)
-}
-
-// The next line.
-fn step(turn: Turn, work: &mut [u8; MOST_WORK]) -> Turn
-    ensures { λ r. ⌜ StaysOpen (turn .held) (now (work .entry)) (r .held) (now (work .exit)) ⌝ }
-{
-    let mut line = [0u8; MOST_LINE];
-    match read_line(&mut line) {
-        Line::End => closed(turn),
-        Line::Long => long_line(turn, &line),
-        Line::Of(count) => take_line(turn, &line, count, work),
+    say(b"expected add RECORD, remove NODE, list, write OUT or quit, found: ");
+    say_found(whole);
+    let next = edit_turns::at_fault(turn);
+    Taken {
+        turn: next,
+        more: true,
     }
 }
 
-// Line by line until the edits end. That an input ends is not known, so the turns are counted down from a number that nobody uses up.
-fn run(turn: Turn, work: &mut [u8; MOST_WORK]) -> Turn
-    ensures { λ r. ⌜ StaysOpen (turn .held) (now (work .entry)) (r .held) (now (work .exit)) ⌝ }
+// Obeys the line that the first so many bytes are.
+fn obey_first(turn: Turn, line: &[u8; MOST_LINE], count: usize, work: &mut [u8; MOST_WORK]) -> Taken
+    requires { ⌜ count ≤ 4097 ⌝ }
+    ensures { λ r. ⌜ Obeyed (take count (now (line .entry))) turn (r .turn) (now (work .entry)) (now (work .exit)) ⌝ }
 {
-    let mut last = turn;
-    let mut turns = u64::MAX;
-    while turns > 0 {
-        if !last.more {
-            break;
-        }
+    let whole: &[u8] = line;
+    obey(turn, &whole[..count], work)
+}
+
+// The next line, obeyed.
+fn take_line(turn: Turn, work: &mut [u8; MOST_WORK]) -> Taken
+    ensures { λ r. ⌜ Stepped turn (r .turn) (now (work .entry)) (now (work .exit)) ⌝ }
+{
+    let mut line = [0u8; MOST_LINE];
+    match read_line(&mut line) {
+        Line::End => Taken { turn, more: false },
+        Line::Failed => unreadable(turn),
+        Line::Long => long_line(turn, &line),
+        Line::Of(count) => obey_first(turn, &line, count, work),
+    }
+}
+
+// One turn. At the last one the input has not ended, and goes unread.
+fn step(run: Run, work: &mut [u8; MOST_WORK]) -> Run
+    requires { ⌜ 0 < run .left ⌝ }
+    ensures taken { λ r. ⌜ Stepped (run .turn) (r .turn) (now (work .entry)) (now (work .exit)) ⌝ }
+    ensures left { λ r. ⌜ r .left + 1 ≡ run .left ⌝ }
+    ensures more { λ r. ⌜ (r .more ≡ true → 0 < r .left) ⌝ }
+{
+    let turn = run.turn;
+    let left = run.left - 1;
+    if left == 0 {
+        let taken = unreadable(turn);
+        let turn = taken.turn;
+        return Run {
+            turn,
+            left,
+            more: false,
+        };
+    }
+    let taken = take_line(turn, work);
+    let turn = taken.turn;
+    Run {
+        turn,
+        left,
+        more: taken.more,
+    }
+}
+
+// Line by line until the edits end.
+fn run_lines(run: Run, work: &mut [u8; MOST_WORK]) -> Run
+    requires { ⌜ 0 < run .left ⌝ }
+    ensures { λ r. ⌜ Ran (run .turn) (r .turn) (run .left) (r .left) (now (work .entry)) (now (work .exit)) ⌝ }
+{
+    let mut last = run;
+    while last.more {
         last = step(last, work);
-        turns -= 1;
     }
     last
 }
 
 // ---- the whole
 
-// Edits of the block that these bytes are. Where they print nothing, the answer for the block is printed at the end.
+// All edits of the block that these bytes are: the reply to opening it, and the block in the end.
+fn edit_block(bytes: &[u8], work: &mut [u8; MOST_WORK]) -> Told
+    ensures reply { λ r. ⌜ replyOf (r .reply) ≡ reply (now (bytes .entry)) most-nodes most-work ⌝ }
+    ensures edited { λ r. ⌜ ((n : Records.Netlist) → admitted (now (bytes .entry)) most-nodes most-work ≡ answered n →
+        Edited n (r .turn) (now (work .exit))) ⌝ }
+{
+    let opened = edit_turns::begin(bytes, work);
+    let reply = opened.reply;
+    let turn = opened.turn;
+    let run = Run {
+        turn,
+        left: MOST_TURNS,
+        more: true,
+    };
+    match reply {
+        Reply::Refused(_) => opened,
+        Reply::Answered(_) => {
+            let last = run_lines(run, work);
+            let turn = last.turn;
+            Told { turn, reply }
+        }
+    }
+}
+
+// Edits of the block that these bytes are; the last line says how they ended.
 pub fn edit(bytes: &[u8]) {
     let mut work = [0u8; MOST_WORK];
-    let opened = edit_trial::open_held(bytes, &mut work);
-    let reply = opened.reply;
-    let held = opened.held;
-    let state = held.state;
-    let classes = state.classes;
+    let told = edit_block(bytes, &mut work);
+    let reply = told.reply;
+    let turn = told.turn;
     match reply {
         Reply::Refused(refusal) => say_refused(refusal, 0),
-        Reply::Answered(answer) => {
-            let turn = Turn {
-                held,
-                spoken: false,
-                more: true,
-            };
-            let last = run(turn, &mut work);
-            if !last.spoken {
-                say_answer(answer, classes);
-            }
+        Reply::Answered(_) => {
+            let held = turn.held;
+            let state = held.state;
+            let classes = state.classes;
+            let answer = turn.answer;
+            say_closing(turn.faulty, answer, turn.made, classes);
         }
     }
 }

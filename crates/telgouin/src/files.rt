@@ -1,4 +1,9 @@
 // The arguments, and the file that holds the block.
+ghost use mathlib.Core.Path.{_≡_};
+ghost use Prim.Native.Nat.{_+_, _<_};
+ghost use Rattle.rules.specs.Paper.{numberOf, placeOf};
+ghost use Rattle.telgouin.specs.declared.files.Block.the-variants.{None};
+ghost use Rattle.telgouin.specs.Files.{SameBehind, FrontRead, FromFile, AsBytes, hasWords, lineIn};
 use block_words::BlockWords;
 use block_words::MOST_BLOCK;
 use block_words::MOST_TEXT;
@@ -8,6 +13,7 @@ use desk::say::say_fault;
 use desk::say::say_found;
 use desk::say::say_no_number;
 use desk::say::say_number;
+use input_bytes::Input;
 use libc::STDIN_FILENO;
 use rules::Refusal;
 
@@ -22,14 +28,15 @@ pub const MOST_NUMBERS: usize = 3;
 // ---- numbers
 
 // Argument `i` as number `k`; says what was expected where it is none.
-fn take_number(i: usize, into: &mut [usize; MOST_NUMBERS], k: usize) -> bool {
+fn take_number(i: usize, into: &mut [usize; MOST_NUMBERS], k: usize) -> bool
+    requires { ⌜ k < 3 ⌝ }
+    ensures { λ _. ⌜ SameBehind (k + 1) (now (into .entry)) (now (into .exit)) ⌝ }
+{
     let mut word = io::buffer();
     let length = os::arg(i, &mut word);
     match block_words::number_of(&word[..length]) {
         Number::Is(x) => {
-            if k < MOST_NUMBERS {
-                into[k] = x;
-            }
+            into[k] = x;
             true
         }
         Number::None => {
@@ -39,8 +46,11 @@ fn take_number(i: usize, into: &mut [usize; MOST_NUMBERS], k: usize) -> bool {
     }
 }
 
-// So many numbers, from left to right; says what was expected at the first that is none.
-pub fn take_numbers(into: &mut [usize; MOST_NUMBERS], count: usize) -> bool {
+// So many numbers, at most three, from left to right: whether they are numbers; says what was expected at the first that is none. Which numbers the
+// arguments are no contract can say; those behind them stay as they were.
+pub fn take_numbers(into: &mut [usize; MOST_NUMBERS], count: usize) -> bool
+    ensures { λ _. ⌜ SameBehind count (now (into .entry)) (now (into .exit)) ⌝ }
+{
     let mut k = 0;
     while k < MOST_NUMBERS {
         if k >= count {
@@ -64,17 +74,26 @@ enum Read {
 }
 
 // Reads until the slice is full or the input ends.
-fn read_from(fd: i32, into: &mut [u8]) -> Read {
-    let count = io::read_full(fd, into);
-    let mut more = [0u8; 1];
-    let behind = libc::read(fd, &mut more);
-    if behind < 0 {
-        return Read::Failed;
+fn read_from(fd: i32, into: &mut [u8]) -> Read
+    ensures { λ r. ⌜ FrontRead r (now (into .exit)) ⌝ }
+{
+    match input_bytes::read_input(fd, into) {
+        Input::Failed => Read::Failed,
+        Input::Bytes(count) => {
+            if count < into.len() {
+                return Read::All(count);
+            }
+            let mut more = [0u8; 1];
+            let behind = libc::read(fd, &mut more);
+            if behind < 0 {
+                return Read::Failed;
+            }
+            if behind > 0 {
+                return Read::First(count);
+            }
+            Read::All(count)
+        }
     }
-    if behind > 0 {
-        return Read::First(count);
-    }
-    Read::All(count)
 }
 
 // A block: so many bytes of it, and how many lines its text in words has, or 0 for one that is given as bytes; or none, and what was expected
@@ -85,14 +104,18 @@ pub enum Block {
 }
 
 // A file that cannot be read.
-fn unreadable(name: &[u8]) -> Block {
+fn unreadable(name: &[u8]) -> Block
+    ensures { λ r. ⌜ r ≡ None ⌝ }
+{
     say(b"expected a file that can be read, found: ");
     say_found(name);
     Block::None
 }
 
 // A block in words.
-fn translated(text: &[u8], bytes: &mut [u8; MOST_BLOCK], lines: &mut [usize; MOST_BLOCK]) -> Block {
+fn translated(text: &[u8], bytes: &mut [u8; MOST_BLOCK], lines: &mut [usize; MOST_BLOCK]) -> Block
+    ensures { λ r. ⌜ FromFile r (now (bytes .entry)) (now (lines .entry)) (now (bytes .exit)) (now (lines .exit)) ⌝ }
+{
     match block_words::block_of(text, bytes, lines) {
         BlockWords::Bytes(count, last) => Block::Bytes(count, last),
         BlockWords::Wrong(fault, line) => {
@@ -103,7 +126,9 @@ fn translated(text: &[u8], bytes: &mut [u8; MOST_BLOCK], lines: &mut [usize; MOS
 }
 
 // Too long a text in words.
-fn too_long() -> Block {
+fn too_long() -> Block
+    ensures { λ r. ⌜ r ≡ None ⌝ }
+{
     say(b"expected at most ");
     say_number(MOST_TEXT);
     say(b" bytes of words, found more\n");
@@ -117,20 +142,20 @@ fn read_words(
     text: &mut [u8],
     bytes: &mut [u8; MOST_BLOCK],
     lines: &mut [usize; MOST_BLOCK],
-) -> Block {
+) -> Block
+    ensures { λ r. ⌜ FromFile r (now (bytes .entry)) (now (lines .entry)) (now (bytes .exit)) (now (lines .exit)) ⌝ }
+{
     match read_from(fd, text) {
         Read::Failed => unreadable(name),
         Read::First(_) => too_long(),
-        Read::All(count) => {
-            if count > text.len() {
-                return too_long();
-            }
-            translated(&text[..count], bytes, lines)
-        }
+        Read::All(count) => translated(&text[..count], bytes, lines),
     }
 }
 
-fn read_bytes(fd: i32, name: &[u8], bytes: &mut [u8; MOST_BLOCK]) -> Block {
+// A block that is given as bytes.
+fn read_bytes(fd: i32, name: &[u8], bytes: &mut [u8; MOST_BLOCK]) -> Block
+    ensures { λ r. ⌜ AsBytes r ⌝ }
+{
     match read_from(fd, bytes) {
         Read::Failed => unreadable(name),
         Read::First(count) => Block::Bytes(count, 0),
@@ -139,15 +164,19 @@ fn read_bytes(fd: i32, name: &[u8], bytes: &mut [u8; MOST_BLOCK]) -> Block {
 }
 
 // Whether a file has a block in words: its name ends in `.txt`.
-pub fn has_words(name: &[u8]) -> bool {
-    if name.len() < 4 {
-        return false;
+pub fn has_words(name: &[u8]) -> bool
+    ensures { λ r. ⌜ r ≡ hasWords (now (name .entry)) ⌝ }
+{
+    let mut from = 0;
+    if name.len() > 4 {
+        from = name.len() - 4;
     }
-    let from = name.len() - 4;
     block_words::is_word(&name[from..], b".txt")
 }
 
-fn read_named(name: &[u8], bytes: &mut [u8; MOST_BLOCK], lines: &mut [usize; MOST_BLOCK]) -> Block {
+fn read_named(name: &[u8], bytes: &mut [u8; MOST_BLOCK], lines: &mut [usize; MOST_BLOCK]) -> Block
+    ensures { λ r. ⌜ FromFile r (now (bytes .entry)) (now (lines .entry)) (now (bytes .exit)) (now (lines .exit)) ⌝ }
+{
     let fd = os::open_read(name);
     if fd < 0 {
         return unreadable(name);
@@ -168,7 +197,9 @@ pub fn read_block(
     edits: bool,
     bytes: &mut [u8; MOST_BLOCK],
     lines: &mut [usize; MOST_BLOCK],
-) -> Block {
+) -> Block
+    ensures { λ r. ⌜ FromFile r (now (bytes .entry)) (now (lines .entry)) (now (bytes .exit)) (now (lines .exit)) ⌝ }
+{
     let mut path = io::buffer();
     let length = os::arg(FILE, &mut path);
     if !block_words::is_word(&path[..length], b"-") {
@@ -183,16 +214,19 @@ pub fn read_block(
 
 // The line of a text in words that a refused record stands on, where the text has so many lines; 0 for a block that is given as bytes. With no
 // end record it is the last line.
-pub fn line_of(refusal: Refusal, lines: &[usize; MOST_BLOCK], last: usize) -> usize {
+pub fn line_of(refusal: Refusal, lines: &[usize; MOST_BLOCK], last: usize) -> usize
+    ensures { λ r. ⌜ r ≡ lineIn (numberOf refusal) (placeOf refusal) (now (lines .entry)) last ⌝ }
+{
     if last == 0 {
         return 0;
     }
     if refusals::number_of(refusal) == 8 {
         return last;
     }
+    let all: &[usize] = lines;
     let place = refusals::place_of(refusal);
-    if place < MOST_BLOCK {
-        return lines[place];
+    if place < all.len() {
+        return all[place];
     }
     last
 }

@@ -2,6 +2,8 @@
 mod editing;
 mod files;
 
+ghost use Prim.Native.Nat.{_≤_};
+ghost use Rattle.rules.specs.Listing.{most-input};
 use block_words::MOST_BLOCK;
 use block_words::is_word;
 use desk::ask;
@@ -147,11 +149,10 @@ fn run_block(
     last: usize,
     numbers: [usize; MOST_NUMBERS],
     count: usize,
-) {
+)
+    requires { ⌜ length ≤ most-input ⌝ }
+{
     let whole: &[u8] = block;
-    if length > whole.len() {
-        return;
-    }
     let bytes = &whole[..length];
     let file = netlists::read(bytes);
     let outcome = file.outcome;

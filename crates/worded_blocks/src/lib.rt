@@ -2,9 +2,9 @@
 // block (`words-again` of `proofs/ReadAgain`). Each function but the last puts lines behind the first `at` bytes of a text, or at its
 // front, and answers where the next ones go; its caller shows that there is room.
 ghost use mathlib.Core.Path.{_≡_};
-ghost use mathlib.Core.List.{List, [], _∷_, map};
+ghost use mathlib.Core.List.{List, [], _∷_, _++_, map};
 ghost use Prim.Native.Nat.{ℕ, _+_, _*_, _≤_};
-ghost use lib.ListN.{length, take};
+ghost use lib.ListN.{length, take, drop};
 ghost use Rattle.rules.specs.Records as Records;
 ghost use Rattle.rules.specs.Records.{Class, Cell, classByte, most-variables, most-nodes};
 ghost use Rattle.rules.specs.Listing.{word, decimal, line};
@@ -140,8 +140,8 @@ fn put_nodes(text: &mut [u8], at: usize, count: usize, nodes: [NodeRecord; MOST_
 
 // ---- the block
 
-// Writes an open block in words to the front of `text`, and answers how many bytes they are. Of a state and node records that are no
-// open block's, the words are left open: the call returns, and answers no more than `text` has.
+// Writes an open block in words to the front of `text`, and answers how many bytes they are; beyond them `text` is as it was. Of a state
+// and node records that are no open block's, the words are left open: the call returns, and answers no more than `text` has.
 pub fn write_words(
     state: State,
     nodes: [NodeRecord; MOST_NODES],
@@ -149,7 +149,7 @@ pub fn write_words(
 ) -> usize
     ensures long { λ r. ⌜ ((n : Records.Netlist) (work : List ℕ) → IsOpen n state nodes work → r ≡ length (wordedOut n)) ⌝ }
     ensures words { λ r. ⌜ ((n : Records.Netlist) (work : List ℕ) → IsOpen n state nodes work →
-        take r (now (text .exit)) ≡ wordedOut n) ⌝ }
+        now (text .exit) ≡ wordedOut n ++ drop r (now (text .entry))) ⌝ }
     ensures most { λ r. ⌜ r ≤ most-words ⌝ }
 {
     if state.variables > MOST_VARIABLES {

@@ -1,3 +1,3 @@
 -- What is proved of bytes that are stored one behind the other, and of an open block's records.
-pub mod Stored
+pub mod Bytes
 pub mod Records

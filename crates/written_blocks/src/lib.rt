@@ -8,8 +8,8 @@ ghost use lib.ListN.{length, drop};
 ghost use Rattle.rules.specs.Records as Records;
 ghost use Rattle.rules.specs.Records.{Cell, WellFormed, recordBytes, variablesOut, nodesOut, writtenOut, most-variables, most-nodes, most-record, most-bytes};
 ghost use Rattle.rules.specs.Slices.{entry};
+ghost use Rattle.lines.specs.Text.{Appended};
 ghost use Rattle.open_blocks.specs.Meaning.{stateOf, IsOpen};
-ghost use Rattle.written_blocks.specs.Stored.{Stored};
 use open_blocks::State;
 use rules::MOST_NODES;
 use rules::MOST_VARIABLES;
@@ -34,7 +34,7 @@ fn lower(a: usize, b: usize) -> usize
 // A record of two bytes, and one of three.
 fn put_two(out: &mut [u8], at: usize, kind: u8, first: u8) -> usize
     requires { ⌜ at + 2 ≤ length (now out) ⌝ }
-    ensures { λ r. ⌜ Stored (now (out .entry)) (now (out .exit)) at r (kind ∷ first ∷ []) ⌝ }
+    ensures { λ r. ⌜ Appended (now (out .entry)) (now (out .exit)) at r (kind ∷ first ∷ []) ⌝ }
 {
     out[at] = kind;
     out[at + 1] = first;
@@ -43,7 +43,7 @@ fn put_two(out: &mut [u8], at: usize, kind: u8, first: u8) -> usize
 
 fn put_three(out: &mut [u8], at: usize, kind: u8, first: u8, second: u8) -> usize
     requires { ⌜ at + 3 ≤ length (now out) ⌝ }
-    ensures { λ r. ⌜ Stored (now (out .entry)) (now (out .exit)) at r (kind ∷ first ∷ second ∷ []) ⌝ }
+    ensures { λ r. ⌜ Appended (now (out .entry)) (now (out .exit)) at r (kind ∷ first ∷ second ∷ []) ⌝ }
 {
     out[at] = kind;
     out[at + 1] = first;
@@ -55,7 +55,7 @@ fn put_three(out: &mut [u8], at: usize, kind: u8, first: u8, second: u8) -> usiz
 fn put_node(out: &mut [u8], at: usize, node: Node) -> usize
     requires { ⌜ at + most-record ≤ length (now out) ⌝ }
     ensures { λ r. ⌜ ((cell : Cell) → node ≡ entry cell →
-        Stored (now (out .entry)) (now (out .exit)) at r (recordBytes (Records.node cell))) ⌝ }
+        Appended (now (out .entry)) (now (out .exit)) at r (recordBytes (Records.node cell))) ⌝ }
     ensures few { λ r. ⌜ r ≤ at + most-record ⌝ }
 {
     let kind = node.kind;
@@ -75,7 +75,7 @@ fn put_node(out: &mut [u8], at: usize, node: Node) -> usize
 fn put_variables(out: &mut [u8], state: State) -> usize
     requires { ⌜ most-bytes ≤ length (now out) ⌝ }
     ensures { λ r. ⌜ ((n : Records.Netlist) → WellFormed n → state ≡ stateOf n →
-        Stored (now (out .entry)) (now (out .exit)) 0 r (variablesOut (n .variables))) ⌝ }
+        Appended (now (out .entry)) (now (out .exit)) 0 r (variablesOut (n .variables))) ⌝ }
     ensures few { λ r. ⌜ r ≤ 2 * most-variables ⌝ }
 {
     let few = lower(state.variables, MOST_VARIABLES);
@@ -93,7 +93,7 @@ fn put_variables(out: &mut [u8], state: State) -> usize
 fn put_nodes(out: &mut [u8], at: usize, state: State, nodes: [NodeRecord; MOST_NODES]) -> usize
     requires { ⌜ (most-bytes ≤ length (now out)) × (at ≤ 2 * most-variables) ⌝ }
     ensures { λ r. ⌜ ((n : Records.Netlist) (work : List ℕ) → IsOpen n state nodes work →
-        Stored (now (out .entry)) (now (out .exit)) at r (nodesOut (n .nodes))) ⌝ }
+        Appended (now (out .entry)) (now (out .exit)) at r (nodesOut (n .nodes))) ⌝ }
     ensures few { λ r. ⌜ r ≤ at + most-record * most-nodes ⌝ }
 {
     let few = lower(state.count, MOST_NODES);

@@ -14,7 +14,7 @@ use Rattle.block_words.proofs.block_of.Statement.{statement}
 use Rattle.block_words.proofs.block_of.Tie as tie
 
 abbrev Inv-loop : tie.InvT-loop
-Inv-loop text bytes₀ lines₀ count₀ line₀ at₀ bytes lines count line at = (at ≤ length text) × (line ≤ at) × Reached text lines₀ bytes lines count line at
+Inv-loop text bytes₀ lines₀ count₀ line₀ at₀ bytes lines count line at = (at ≤ length text) × (line ≤ at) × Reached text bytes₀ lines₀ bytes lines count line at
 
 abbrev μ-loop : tie.MeasureT-loop
 μ-loop text bytes₀ lines₀ count₀ line₀ at₀ bytes lines count line at = length text - at
@@ -68,7 +68,8 @@ enum-known-fault c = search needs
 returns : tie.Need-returns Inv-loop μ-loop
 returns c =
     let told = c .before .before .before in
-    reached-wrong (told .before .before .before .before .before .loop .inv .2) _ _ _ (found told) (rw (c .before .fault .given .1) at (told .record-of .ensures))
+    reached-wrong (told .before .before .before .before .before .loop .inv .2) _ _ _ (found told)
+    ((rw (c .before .fault .given .1) at (told .record-of .ensures)) .0)
 
 add-lower : tie.Need-add-lower Inv-loop μ-loop
 add-lower c = search needs
@@ -87,7 +88,7 @@ loop-again c =
       search needs,
       rw (c .lower .ensures)
           (elim (c .before .match .came) [
-            | inl w ↦ rw (w .2, w .3, w .4) (reached-nothing reached _ _ (found told) (rw (w .1 .given .1) at (told .record-of .ensures)))
+            | inl w ↦ rw (w .2, w .3, w .4) (reached-nothing reached _ _ (found told) ((rw (w .1 .given .1) at (told .record-of .ensures)) .0))
             | inr w ↦
                 rw (w .7, w .8, w .9, w .6 .ensures .0, w .6 .ensures .1, w .4 .ensures)
                 (reached-record reached _ _ (found told) _ _ (rw (w .1 .given .1) at (told .record-of .ensures)) (search needs) (search needs))

@@ -1,5 +1,5 @@
 -- `block_words::record_of` meets its contract: the first word, and what stands behind it. Assumes nothing.
-use mathlib.Core.Path.{_≡_, sym, ap, _∙_}
+use mathlib.Core.Path.{_≡_, refl, sym, ap, _∙_}
 use denote.Ref.{now}
 use borrow.Author.Needs.{needs}
 use Rattle.block_words.specs.Words.{words, recordIn}
@@ -20,7 +20,7 @@ next-word-requires c κs = search needs
 
 returns : tie.Need-returns
 unfolding recordIn
-returns c = ap recordIn (none-left (c .before .next-word .ensures) (c .if1 .taken))
+returns c = (ap recordIn (none-left (c .before .next-word .ensures) (c .if1 .taken)), refl)
 
 sub-record-with : tie.Need-sub-record-with
 sub-record-with c = search needs
@@ -53,10 +53,10 @@ enum-known-size : tie.Need-enum-known-size
 enum-known-size c = search needs
 
 returns-2 : tie.Need-returns-2
-returns-2 c = tells-nothing _ (sym (c .enum-told .given .1) ∙ says (c .before .before))
+returns-2 c = (tells-nothing _ (sym (c .enum-told .given .1) ∙ says (c .before .before)), refl)
 
 returns-3 : tie.Need-returns-3
-returns-3 c = tells-wrong _ _ (sym (c .before .fault .given .1) ∙ says (c .before .before .before))
+returns-3 c = (tells-wrong _ _ (sym (c .before .fault .given .1) ∙ says (c .before .before .before)), refl)
 
 returns-4 : tie.Need-returns-4
 returns-4 c = tells-record _ _ _ _ _ (sym (c .before .before .size .given .1) ∙ says (c .before .before .before .before))

@@ -1,7 +1,7 @@
 -- `derive` meets its contract: the steps stand at the front of an array that has room for as many as there may be, and are copied to the slice where they
 -- fit. Assumes nothing.
 use Prim.Native.Nat.{ℕ, _*_, _≤_}
-use mathlib.Core.Path.{_≡_, sym}
+use mathlib.Core.Path.{_≡_, sym, ap, _∙_}
 use native.Mathlib.Omega.{arith}
 use borrow.Author.Needs.{needs}
 use lib.ListN.{length}
@@ -67,15 +67,25 @@ returns c =
     let t = told (c .before .before .before .before .before .before .before .before .before) in
     let is = c .before .before .before .before .before .before .reply .given .1 in
     let whole = few (c .before .before .before .before .before .before .before .before .before) _ is .1 in
-    let copied = rw (take-length, length-take-le _ _ whole) at (c .before .before .copy .ensures .1) in
-    (rw is at (reply-told _ _ _ _ slice _ _ t), (slice-written _ _ _ _ slice _ _ t _ is _ copied, slice-certificate _ _ _ _ slice _ _ t _ is _ copied))
+    let copied = rw (take-length, length-take-le _ _ whole) at (c .before .before .copy .ensures .1) in (
+      rw is at (reply-told _ _ _ _ slice _ _ t),
+      (
+        slice-written _ _ _ _ slice _ _ t _ is _ copied,
+        (slice-certificate _ _ _ _ slice _ _ t _ is _ copied, λ count e. omega (arith, fitting-few (length slice), count-few _ _ _ _ slice _ _ t count (is ∙ ap Steps (cc)))),
+      ),
+    )
 
 returns-2 : tie.Need-returns-2
 returns-2 c =
     let slice = c .before .before .before .before .before .before .before .before .args .steps .now in
     let t = told (c .before .before .before) in
-    let is = c .enum-told .given .1 in
-    (reply-told _ _ _ _ slice _ _ t, (slice-kept _ _ _ _ slice _ _ t _ is, λ count e. absurd (no-answer _ _ _ _ slice _ _ t _ is count e)))
+    let is = c .enum-told .given .1 in (
+      reply-told _ _ _ _ slice _ _ t,
+      (
+        slice-kept _ _ _ _ slice _ _ t _ is,
+        (λ count e. absurd (no-answer _ _ _ _ slice _ _ t _ is count e), λ count e. absurd (no-answer _ _ _ _ slice _ _ t _ is count e)),
+      ),
+    )
 
 pub derive-spec : {M : Type 1} → statement M
 derive-spec =

@@ -27,7 +27,8 @@ put-fields-requires-2 c κs = search needs
 
 returns : tie.Need-returns
 unfolding word behind parted countsText
-returns c = appended-as (simp append-nil) (appended-more (c .before .before .before .before .put-fields .ensures .0) (c .put-fields2 .ensures .0))
+returns c =
+    (appended-as (simp append-nil) (appended-more (c .before .before .before .before .put-fields .ensures .0) (c .put-fields2 .ensures .0)), search needs)
 
 pub counts-fields-spec : {M : Type 1} → statement M
 counts-fields-spec =

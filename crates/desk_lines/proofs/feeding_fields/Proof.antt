@@ -66,7 +66,7 @@ unfolding word parted feedingText
 returns c =
     let loop = c .before .loop in
     let all : loop .i ≡ most-nodes = omega arith in
-    rw (← all) (appended-more (c .before .before .put-word .ensures) (loop .inv .2))
+    (rw (← all) (appended-more (c .before .before .put-word .ensures) (loop .inv .2)), search needs)
 
 pub feeding-fields-spec : {M : Type 1} → statement M
 feeding-fields-spec =

@@ -30,11 +30,13 @@ unfolding word behind parted memberText
 returns c =
     let glitch = c .before .before in
     let settled = glitch .before .before .before in
-    let member = settled .before .before in
-    appended-as (simp append-nil)
-    (appended-more (member .put-word .ensures)
-    (appended-more (settled .put-membership .ensures .0)
-    (appended-more (glitch .put-word2 .ensures) (c .put-membership2 .ensures .0))))
+    let member = settled .before .before in (
+      appended-as (simp append-nil)
+          (appended-more (member .put-word .ensures)
+          (appended-more (settled .put-membership .ensures .0)
+          (appended-more (glitch .put-word2 .ensures) (c .put-membership2 .ensures .0)))),
+      search needs,
+    )
 
 pub member-fields-spec : {M : Type 1} → statement M
 member-fields-spec =

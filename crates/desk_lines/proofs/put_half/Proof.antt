@@ -31,11 +31,11 @@ returns : tie.Need-returns
 unfolding word behind parted halfText
 returns c =
     let name = c .before .before .before in
-    rw (name .before .before .enum-told .given .1) (appended-more (name .put-word .ensures) (c .put-word2 .ensures))
+    (rw (name .before .before .enum-told .given .1) (appended-more (name .put-word .ensures) (c .put-word2 .ensures)), search needs)
 
 returns-2 : tie.Need-returns-2
 unfolding parted halfText
-returns-2 c = rw (c .before .before .before .before .half .given .1) (c .put-fields .ensures .0)
+returns-2 c = (rw (c .before .before .before .before .half .given .1) (c .put-fields .ensures .0), search needs)
 
 pub put-half-spec : {M : Type 1} → statement M
 put-half-spec =

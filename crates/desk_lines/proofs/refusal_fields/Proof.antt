@@ -24,7 +24,7 @@ returns : tie.Need-returns
 unfolding word parted refusalText
 returns c =
     let place = c .before .before .before .before in
-    rw (← place .before .number-of .ensures, ← place .place-of .ensures) (c .put-fields .ensures .0)
+    (rw (← place .before .number-of .ensures, ← place .place-of .ensures) (c .put-fields .ensures .0), search needs)
 
 pub refusal-fields-spec : {M : Type 1} → statement M
 refusal-fields-spec =

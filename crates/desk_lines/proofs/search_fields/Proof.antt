@@ -17,7 +17,7 @@ put-numbers-requires c κs = search needs
 
 returns : tie.Need-returns
 unfolding pairsText
-returns c = appended-as (parted-more _ _ _) (appended-more (c .before .before .before .put-found .ensures .0) (c .put-numbers .ensures .0))
+returns c = (appended-as (parted-more _ _ _) (appended-more (c .before .before .before .put-found .ensures .0) (c .put-numbers .ensures .0)), search needs)
 
 pub search-fields-spec : {M : Type 1} → statement M
 search-fields-spec =

@@ -24,7 +24,10 @@ put-numbers-requires c κs = omega (arith, decimal-short 3 (c .before .before .b
 
 returns : tie.Need-returns
 unfolding parted stepText
-returns c = appended-more (c .before .before .before .put-decimal .ensures) (c .put-numbers .ensures .0)
+returns c = (
+  appended-more (c .before .before .before .put-decimal .ensures) (c .put-numbers .ensures .0),
+  omega (arith, decimal-short 3 (c .before .before .before .before .before .args .node) (omega arith) (omega arith)),
+)
 
 pub step-fields-spec : {M : Type 1} → statement M
 step-fields-spec =

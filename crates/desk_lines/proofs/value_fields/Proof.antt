@@ -19,11 +19,11 @@ put-word-requires-2 c κs = search needs
 
 returns : tie.Need-returns
 unfolding word digits decimal behind parted valueText
-returns c = rw (c .before .before .before .if1 .taken) (c .put-word .ensures)
+returns c = (rw (c .before .before .before .if1 .taken) (c .put-word .ensures), search needs)
 
 returns-2 : tie.Need-returns-2
 unfolding word digits decimal behind parted valueText
-returns-2 c = rw (c .before .before .before .if1 .left) (c .put-word2 .ensures)
+returns-2 c = (rw (c .before .before .before .if1 .left) (c .put-word2 .ensures), search needs)
 
 pub value-fields-spec : {M : Type 1} → statement M
 value-fields-spec =

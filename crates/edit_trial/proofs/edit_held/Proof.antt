@@ -5,7 +5,7 @@ use lib.ListN.{length, take, length-map}
 use lib.Seq.{length-take-le}
 use borrow.Author.Needs.{needs}
 use Rattle.rules.specs.Records.{most-nodes}
-use Rattle.edit_trial.proofs.StillOpen.{lent-open, edited-open}
+use Rattle.edit_trial.proofs.StillOpen.{most-open, edited-open}
 use Rattle.edit_trial.proofs.edit_held.Statement.{statement}
 use Rattle.edit_trial.proofs.edit_held.Tie as tie
 
@@ -22,10 +22,10 @@ returns c =
     let nodes = start .args .held .nodes in
     let long : length nodes ≡ most-nodes = rw length-map at (start .good .0 .1 .1 .1 .0 .1 .0 .1) in
     let lent : length (take most-nodes nodes) ≡ most-nodes = length-take-le most-nodes nodes (omega (arith, long)) in (
-      λ n is. edited .0 n (lent-open is),
+      λ n is. edited .0 n (most-open is),
       λ n is.
-          let open-is = lent-open is in
-          rw (edited .1 .0 n open-is, edited .1 .1 .0 n open-is, edited .1 .1 .1 n open-is) (edited-open nodes _ most-nodes lent _ open-is),
+          let open-is = most-open is in
+          rw (edited .1 .0 n open-is, edited .1 .1 .0 n open-is, edited .1 .1 .1 n open-is) (edited-open nodes _ most-nodes lent _ is),
     )
 
 pub edit-held-spec : {M : Type 1} → statement M

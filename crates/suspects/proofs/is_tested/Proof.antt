@@ -2,7 +2,7 @@
 use mathlib.Core.Path.{ap, _∙_}
 use mathlib.Core.Bool.{not, Bool·not-not}
 use Rattle.rules.specs.Families.{tested}
-use Rattle.suspects.proofs.Search.{tested-kind}
+use Rattle.rules.proofs.Marks.{tested-kind}
 use Rattle.suspects.proofs.is_tested.Statement.{statement}
 use Rattle.suspects.proofs.is_tested.Tie as tie
 

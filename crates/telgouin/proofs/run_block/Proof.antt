@@ -1,16 +1,13 @@
--- `telgouin::run_block` is safe and ends. Assumes nothing.
-use mathlib.Core.Path.{sym}
+-- `telgouin::run_block` meets its contract: a block of at most 1,024 bytes lies within the array. Assumes nothing.
 use native.Mathlib.Omega.{arith}
+use mathlib.Core.Path.{sym}
 use lib.Seq.{length-take-le}
 use borrow.Author.Needs.{needs}
 use Rattle.telgouin.proofs.run_block.Statement.{statement}
 use Rattle.telgouin.proofs.run_block.Tie as tie
 
-returns : tie.Need-returns
-returns c = search needs
-
 slice-aggregate-bytes : tie.Need-slice-aggregate-bytes
-slice-aggregate-bytes c = sym (length-take-le _ _ (omega arith))
+slice-aggregate-bytes c = sym (length-take-le _ _ (omega (arith, c .before .before .pre)))
 
 read-requires : tie.Need-read-requires
 read-requires c κs = search needs
@@ -30,17 +27,16 @@ enum-told c = search needs
 obey-requires : tie.Need-obey-requires
 obey-requires c κs = search needs
 
+returns : tie.Need-returns
+returns c = search needs
+
 returns-2 : tie.Need-returns-2
 returns-2 c = search needs
-
-returns-3 : tie.Need-returns-3
-returns-3 c = search needs
 
 pub run-block-spec : {M : Type 1} → statement M
 run-block-spec =
     tie.close
     (tie.spec
-    returns
     slice-aggregate-bytes
     read-requires
     enum-known-outcome
@@ -48,5 +44,5 @@ run-block-spec =
     say-refused-requires
     enum-told
     obey-requires
-    returns-2
-    returns-3)
+    returns
+    returns-2)

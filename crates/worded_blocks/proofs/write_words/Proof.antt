@@ -9,7 +9,7 @@ use Rattle.rules.specs.Records.{Netlist}
 use Rattle.rules.specs.Listing.{word, line}
 use Rattle.open_blocks.specs.Meaning.{IsOpen}
 use Rattle.lines.specs.Text.{Appended}
-use Rattle.lines.proofs.Text.{appended-more}
+use Rattle.lines.proofs.Text.{appended-more, appended-size, appended-whole}
 use Rattle.written_blocks.proofs.Records.{state-variables, state-count}
 use Rattle.worded_blocks.specs.Worded.{recordWords, recordLine, wordedOut}
 use Rattle.worded_blocks.proofs.write_words.Statement.{statement}
@@ -41,7 +41,7 @@ put-word-requires c κs = search needs
 
 returns-3 : tie.Need-returns-3
 unfolding word line recordWords recordLine wordedOut
-returns-3 c = (λ n work opened. omega (arith, wholly n work opened .place), (λ n work opened. wholly n work opened .bytes, omega arith))
+returns-3 c = (λ n work opened. appended-size (wholly n work opened), (λ n work opened. appended-whole (wholly n work opened), omega arith))
   where
     start : tie.Start
     start = c .before .before .before .before .before .before .before .before .before .before .before

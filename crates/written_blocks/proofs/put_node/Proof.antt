@@ -12,7 +12,7 @@ use lib.Dec.{eqb}
 use Rattle.rules.specs.declared.Node.{Node}
 use Rattle.rules.specs.Records.{Cell, input, NOT, XOR, AND, OR, register, node, kindOf, operands, setOf, body, recordBytes}
 use Rattle.rules.specs.Slices.{entry}
-use Rattle.written_blocks.proofs.Stored.{stored-as}
+use Rattle.lines.proofs.Text.{appended-as}
 use Rattle.written_blocks.proofs.put_node.Statement.{statement}
 use Rattle.written_blocks.proofs.put_node.Tie as tie
 
@@ -68,19 +68,19 @@ same-length : tie.Need-same-length
 same-length c = search needs
 
 returns : tie.Need-returns
-returns c = (λ cell e. stored-as (of-input cell e (c .before .before .before .before .match .keys1)) (c .before .before .put-three .ensures), omega (arith, c .before .before .put-three .ensures .place))
+returns c = (λ cell e. appended-as (of-input cell e (c .before .before .before .before .match .keys1)) (c .before .before .put-three .ensures), omega (arith, c .before .before .put-three .ensures .place))
 
 same-length-2 : tie.Need-same-length-2
 same-length-2 c = search needs
 
 returns-2 : tie.Need-returns-2
-returns-2 c = (λ cell e. stored-as (of-one cell e (c .before .before .before .before .match .keys2)) (c .before .before .put-two .ensures), omega (arith, c .before .before .put-two .ensures .place))
+returns-2 c = (λ cell e. appended-as (of-one cell e (c .before .before .before .before .match .keys2)) (c .before .before .put-two .ensures), omega (arith, c .before .before .put-two .ensures .place))
 
 same-length-3 : tie.Need-same-length-3
 same-length-3 c = search needs
 
 returns-3 : tie.Need-returns-3
-returns-3 c = (λ cell e. stored-as (of-two cell e (c .before .before .before .before .match .rest)) (c .before .before .put-three2 .ensures), omega (arith, c .before .before .put-three2 .ensures .place))
+returns-3 c = (λ cell e. appended-as (of-two cell e (c .before .before .before .before .match .rest)) (c .before .before .put-three2 .ensures), omega (arith, c .before .before .put-three2 .ensures .place))
 
 pub put-node-spec : {M : Type 1} → statement M
 put-node-spec =

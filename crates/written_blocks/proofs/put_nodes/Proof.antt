@@ -8,8 +8,8 @@ use lib.ListN.{length, take}
 use lib.Seq.{take-all}
 use Rattle.rules.specs.Records.{Netlist, nodesOut, most-variables, most-nodes, most-record}
 use Rattle.rules.specs.Slices.{nodeRecords}
-use Rattle.written_blocks.specs.Stored.{Stored}
-use Rattle.written_blocks.proofs.Stored.{stored-none, stored-more, stored-as}
+use Rattle.lines.specs.Text.{Appended}
+use Rattle.lines.proofs.Text.{appended-none, appended-more, appended-as}
 use Rattle.written_blocks.proofs.Records.{nodes-more, node-at, state-count}
 use Rattle.written_blocks.proofs.put_nodes.Statement.{statement}
 use Rattle.written_blocks.proofs.put_nodes.Tie as tie
@@ -17,7 +17,7 @@ use Rattle.written_blocks.proofs.put_nodes.Tie as tie
 abbrev Inv-loop : tie.InvT-loop
 Inv-loop out₀ at nodes few next₀ i₀ out next i =
     (i ≤ few) × (few ≤ most-nodes) × (at ≤ 2 * most-variables) × (next ≤ at + most-record * i) × (length out ≡ length out₀)
-    × ((n : Netlist) → few ≡ length (n .nodes) → take (length (n .nodes)) nodes ≡ nodeRecords n → Stored out₀ out at next (nodesOut (take i (n .nodes))))
+    × ((n : Netlist) → few ≡ length (n .nodes) → take (length (n .nodes)) nodes ≡ nodeRecords n → Appended out₀ out at next (nodesOut (take i (n .nodes))))
 
 abbrev μ-loop : tie.MeasureT-loop
 μ-loop out₀ at nodes few next₀ i₀ out next i = few - i
@@ -27,7 +27,7 @@ lower-requires c κs = search needs
 
 loop-holds : tie.Need-loop-holds Inv-loop μ-loop
 unfolding nodesOut
-loop-holds c = (omega arith, omega arith, omega arith, omega arith, refl, λ n e f. stored-none _ _)
+loop-holds c = (omega arith, omega arith, omega arith, omega arith, refl, λ n e f. appended-none _ _)
 
 mul-taken : tie.Need-mul-taken Inv-loop μ-loop
 mul-taken c = omega arith
@@ -55,7 +55,7 @@ loop-again c =
       omega arith,
       λ n e f.
           let h : i < length (n .nodes) = omega arith in
-          stored-as (nodes-more n i h) (stored-more (turn .loop .inv .5 n e f) (c .before .before .put-node .ensures .0 _ (node-at n _ f i _ h))),
+          appended-as (nodes-more n i h) (appended-more (turn .loop .inv .5 n e f) (c .before .before .put-node .ensures .0 _ (node-at n _ f i _ h))),
     )
 
 same-length : tie.Need-same-length Inv-loop μ-loop
@@ -66,7 +66,7 @@ returns c = (
   λ n work opened.
       let h = state-count n (opened .itsState) in
       let few : c .before .before .lower .result ≡ length (n .nodes) = omega (arith, opened .obeys .few-nodes) in
-      stored-as (ap nodesOut (take-all (c .before .loop .i) (n .nodes) (omega arith))) (c .before .loop .inv .5 n few (opened .holds .records)),
+      appended-as (ap nodesOut (take-all (c .before .loop .i) (n .nodes) (omega arith))) (c .before .loop .inv .5 n few (opened .holds .records)),
   omega arith,
 )
 

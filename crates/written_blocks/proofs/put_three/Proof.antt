@@ -2,7 +2,7 @@
 use borrow.Author.Needs.{needs}
 use native.Mathlib.Omega.{arith}
 use lib.ListN.{length-set}
-use Rattle.written_blocks.proofs.Stored.{stored-three}
+use Rattle.written_blocks.proofs.Bytes.{three-bytes}
 use Rattle.written_blocks.proofs.put_three.Statement.{statement}
 use Rattle.written_blocks.proofs.put_three.Tie as tie
 
@@ -28,7 +28,7 @@ same-length : tie.Need-same-length
 same-length c = search needs
 
 returns : tie.Need-returns
-returns c = stored-three _ _ _ _ _ (c .pre)
+returns c = three-bytes _ _ _ _ _ (c .pre)
 
 pub put-three-spec : {M : Type 1} → statement M
 put-three-spec = tie.close (tie.spec slice-write-out add-out slice-write-out-2 add-out-2 slice-write-out-3 add-result same-length returns)

@@ -2,7 +2,7 @@
 use borrow.Author.Needs.{needs}
 use native.Mathlib.Omega.{arith}
 use lib.ListN.{length-set}
-use Rattle.written_blocks.proofs.Stored.{stored-two}
+use Rattle.written_blocks.proofs.Bytes.{two-bytes}
 use Rattle.written_blocks.proofs.put_two.Statement.{statement}
 use Rattle.written_blocks.proofs.put_two.Tie as tie
 
@@ -22,7 +22,7 @@ same-length : tie.Need-same-length
 same-length c = search needs
 
 returns : tie.Need-returns
-returns c = stored-two _ _ _ _ (c .pre)
+returns c = two-bytes _ _ _ _ (c .pre)
 
 pub put-two-spec : {M : Type 1} → statement M
 put-two-spec = tie.close (tie.spec slice-write-out add-out slice-write-out-2 add-result same-length returns)

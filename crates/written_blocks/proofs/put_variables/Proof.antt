@@ -9,8 +9,8 @@ use lib.Seq.{take-all}
 use Rattle.rules.specs.Records.{Netlist, recordBytes, variablesOut, most-variables}
 use Rattle.open_blocks.specs.declared.State.{State}
 use Rattle.open_blocks.specs.Meaning.{stateOf}
-use Rattle.written_blocks.specs.Stored.{Stored}
-use Rattle.written_blocks.proofs.Stored.{stored-none, stored-more, stored-as}
+use Rattle.lines.specs.Text.{Appended}
+use Rattle.lines.proofs.Text.{appended-none, appended-more, appended-as}
 use Rattle.written_blocks.proofs.Records.{variables-more, class-at, state-variables}
 use Rattle.written_blocks.proofs.put_variables.Statement.{statement}
 use Rattle.written_blocks.proofs.put_variables.Tie as tie
@@ -18,7 +18,7 @@ use Rattle.written_blocks.proofs.put_variables.Tie as tie
 abbrev Inv-loop : tie.InvT-loop
 Inv-loop out₀ few classes at₀ i₀ out at i =
     (i ≤ few) × (few ≤ most-variables) × (at ≤ 2 * i) × (length out ≡ length out₀)
-    × ((n : Netlist) → few ≡ length (n .variables) → classes ≡ stateOf n .classes → Stored out₀ out 0 at (variablesOut (take i (n .variables))))
+    × ((n : Netlist) → few ≡ length (n .variables) → classes ≡ stateOf n .classes → Appended out₀ out 0 at (variablesOut (take i (n .variables))))
 
 abbrev μ-loop : tie.MeasureT-loop
 μ-loop out₀ few classes at₀ i₀ out at i = few - i
@@ -28,7 +28,7 @@ lower-requires c κs = search needs
 
 loop-holds : tie.Need-loop-holds Inv-loop μ-loop
 unfolding variablesOut
-loop-holds c = (omega arith, omega arith, omega arith, refl, λ n e f. stored-none _ 0)
+loop-holds c = (omega arith, omega arith, omega arith, refl, λ n e f. appended-none _ 0)
 
 array-read-put-two : tie.Need-array-read-put-two Inv-loop μ-loop
 array-read-put-two c = omega arith
@@ -54,7 +54,7 @@ loop-again c =
       omega arith,
       λ n e f.
           let h : i < length (n .variables) = omega arith in
-          stored-as (rw (class-at n f i h) (variables-more n i h)) (stored-more (turn .loop .inv .4 n e f) stored),
+          appended-as (rw (class-at n f i h) (variables-more n i h)) (appended-more (turn .loop .inv .4 n e f) stored),
     )
 
 same-length : tie.Need-same-length Inv-loop μ-loop
@@ -65,7 +65,7 @@ returns c = (
   λ n formed e.
       let h = state-variables n e in
       let few : c .before .before .before .lower .result ≡ length (n .variables) = omega (arith, formed .few-variables) in
-      stored-as (ap variablesOut (take-all (c .before .loop .i) (n .variables) (omega arith))) (c .before .loop .inv .4 n few (ap (λ (s : State). s .classes) e)),
+      appended-as (ap variablesOut (take-all (c .before .loop .i) (n .variables) (omega arith))) (c .before .loop .inv .4 n few (ap (λ (s : State). s .classes) e)),
   omega arith,
 )
 

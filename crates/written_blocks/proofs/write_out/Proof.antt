@@ -9,8 +9,8 @@ use lib.ListN.{set}
 use denote.Ref.{now}
 use Rattle.rules.specs.Records.{Netlist, recordBytes, writtenOut}
 use Rattle.open_blocks.specs.Meaning.{IsOpen}
-use Rattle.written_blocks.specs.Stored.{Stored}
-use Rattle.written_blocks.proofs.Stored.{stored-byte, stored-more, stored-long, stored-whole}
+use Rattle.lines.specs.Text.{Appended}
+use Rattle.lines.proofs.Text.{appended-byte, appended-more, appended-size, appended-whole}
 use Rattle.written_blocks.proofs.write_out.Statement.{statement}
 use Rattle.written_blocks.proofs.write_out.Tie as tie
 
@@ -28,16 +28,16 @@ add-result c = search needs
 
 returns : tie.Need-returns
 unfolding writtenOut recordBytes
-returns c = (λ n work opened. stored-long (wholly n work opened), (λ n work opened. stored-whole (wholly n work opened), omega arith))
+returns c = (λ n work opened. appended-size (wholly n work opened), (λ n work opened. appended-whole (wholly n work opened), omega arith))
   where
     before : List ℕ
     before = now (c .before .before .before .before .args .out)
 
     wholly : (n : Netlist) (work : List ℕ) → IsOpen n (c .before .before .before .before .args .state) (c .before .before .before .before .args .nodes) work
-        → Stored before (set (c .put-nodes .last .0) (c .put-nodes .result) 0) 0 (c .put-nodes .result + 1) (writtenOut n)
+        → Appended before (set (c .put-nodes .last .0) (c .put-nodes .result) 0) 0 (c .put-nodes .result + 1) (writtenOut n)
     wholly n work opened =
-        stored-more (stored-more (c .before .before .put-variables .ensures .0 n (opened .obeys) (opened .itsState)) (c .put-nodes .ensures .0 n work opened))
-        (stored-byte _ _ _ 0 (omega arith) refl)
+        appended-more (appended-more (c .before .before .put-variables .ensures .0 n (opened .obeys) (opened .itsState)) (c .put-nodes .ensures .0 n work opened))
+        (appended-byte _ _ 0 (omega arith))
 
 pub write-out-spec : {M : Type 1} → statement M
 write-out-spec = tie.close (tie.spec put-variables-requires put-nodes-requires element-write-out add-result returns)

@@ -1,11 +1,12 @@
--- `desk::why::say_steps` is safe and ends. Assumes nothing.
-use Prim.Native.Nat.{_-_, _≤_}
+-- `desk::why::say_steps` is safe and ends. The loop's invariant: after k steps no more wait than k and one. The measure is how many are left. Assumes nothing.
+use Prim.Native.Nat.{_+_, _-_, _≤_}
 use borrow.Author.Needs.{needs}
+use Rattle.derivation_rules.specs.Derivations.{most-steps}
 use Rattle.desk.proofs.why.say_steps.Statement.{statement}
 use Rattle.desk.proofs.why.say_steps.Tie as tie
 
 abbrev Inv-loop : tie.InvT-loop
-Inv-loop netlist steps count depths₀ waiting₀ k₀ depths waiting k = k ≤ count
+Inv-loop netlist steps count depths₀ waiting₀ k₀ depths waiting k = (k ≤ count) × (count ≤ most-steps) × (waiting ≤ k + 1)
 
 abbrev μ-loop : tie.MeasureT-loop
 μ-loop netlist steps count depths₀ waiting₀ k₀ depths waiting k = count - k
@@ -13,8 +14,8 @@ abbrev μ-loop : tie.MeasureT-loop
 loop-holds : tie.Need-loop-holds Inv-loop μ-loop
 loop-holds c = search needs
 
-sub-waiting : tie.Need-sub-waiting Inv-loop μ-loop
-sub-waiting c = search needs
+one-less-requires : tie.Need-one-less-requires Inv-loop μ-loop
+one-less-requires c κs = search needs
 
 mul-depth : tie.Need-mul-depth Inv-loop μ-loop
 mul-depth c = search needs
@@ -50,7 +51,7 @@ say-steps-spec =
     Inv-loop
     μ-loop
     loop-holds
-    sub-waiting
+    one-less-requires
     mul-depth
     array-read-depth
     step-at-requires

@@ -1,4 +1,4 @@
--- `telgouin::editing::list_first` is safe and ends. Assumes nothing.
+-- `telgouin::editing::list_first` is safe: so many bytes are there. Assumes nothing.
 use mathlib.Core.Path.{sym}
 use native.Mathlib.Omega.{arith}
 use lib.Seq.{length-take-le}
@@ -15,8 +15,5 @@ list-requires c κs = search needs
 returns : tie.Need-returns
 returns c = search needs
 
-returns-2 : tie.Need-returns-2
-returns-2 c = search needs
-
 pub list-first-spec : {M : Type 1} → statement M
-list-first-spec = tie.close (tie.spec slice-aggregate-list list-requires returns returns-2)
+list-first-spec = tie.close (tie.spec slice-aggregate-list list-requires returns)

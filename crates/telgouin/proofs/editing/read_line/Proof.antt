@@ -1,4 +1,4 @@
--- `telgouin::editing::read_line` is safe and ends. Assumes nothing.
+-- `telgouin::editing::read_line` meets its contract, and ends: a line that was read is within its bytes. Assumes nothing.
 use Prim.Native.Nat.{_-_, _≤_}
 use borrow.Author.Needs.{needs}
 use Rattle.telgouin.proofs.editing.read_line.Statement.{statement}
@@ -25,6 +25,9 @@ returns-2 c = search needs
 returns-3 : tie.Need-returns-3 Inv-loop μ-loop
 returns-3 c = search needs
 
+returns-4 : tie.Need-returns-4 Inv-loop μ-loop
+returns-4 c = search needs
+
 cast-line : tie.Need-cast-line Inv-loop μ-loop
 cast-line c = search needs
 
@@ -43,8 +46,8 @@ loop-again c = search needs
 skip-line-requires : tie.Need-skip-line-requires Inv-loop μ-loop
 skip-line-requires c κs = search needs
 
-returns-4 : tie.Need-returns-4 Inv-loop μ-loop
-returns-4 c = search needs
+returns-5 : tie.Need-returns-5 Inv-loop μ-loop
+returns-5 c = search needs
 
 pub read-line-spec : {M : Type 1} → statement M
 read-line-spec =
@@ -57,10 +60,11 @@ read-line-spec =
     returns
     returns-2
     returns-3
+    returns-4
     cast-line
     element-write-line
     add-count
     loop-less
     loop-again
     skip-line-requires
-    returns-4)
+    returns-5)

@@ -1,4 +1,4 @@
--- `telgouin::editing::skip_line` is safe and ends. Assumes nothing.
+-- `telgouin::editing::skip_line` meets its contract, and ends: each turn leaves fewer. Assumes nothing.
 use borrow.Author.Needs.{needs}
 use Rattle.telgouin.proofs.editing.skip_line.Statement.{statement}
 use Rattle.telgouin.proofs.editing.skip_line.Tie as tie
@@ -15,6 +15,12 @@ loop-holds c = search needs
 next-byte-requires : tie.Need-next-byte-requires Inv-loop μ-loop
 next-byte-requires c κs = search needs
 
+returns : tie.Need-returns Inv-loop μ-loop
+returns c = search needs
+
+returns-2 : tie.Need-returns-2 Inv-loop μ-loop
+returns-2 c = search needs
+
 sub-turns : tie.Need-sub-turns Inv-loop μ-loop
 sub-turns c = search needs
 
@@ -24,11 +30,8 @@ loop-less c = search needs
 loop-again : tie.Need-loop-again Inv-loop μ-loop
 loop-again c = search needs
 
-returns : tie.Need-returns Inv-loop μ-loop
-returns c = search needs
-
-returns-2 : tie.Need-returns-2 Inv-loop μ-loop
-returns-2 c = search needs
+returns-3 : tie.Need-returns-3 Inv-loop μ-loop
+returns-3 c = search needs
 
 pub skip-line-spec : {M : Type 1} → statement M
 skip-line-spec =
@@ -38,8 +41,9 @@ skip-line-spec =
     μ-loop
     loop-holds
     next-byte-requires
+    returns
+    returns-2
     sub-turns
     loop-less
     loop-again
-    returns
-    returns-2)
+    returns-3)

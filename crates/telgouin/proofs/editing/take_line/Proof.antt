@@ -1,23 +1,62 @@
--- `telgouin::editing::take_line` is safe and ends. Assumes nothing.
-use mathlib.Core.Path.{sym}
-use native.Mathlib.Omega.{arith}
-use lib.Seq.{length-take-le}
+-- `telgouin::editing::take_line` meets its contract: a line that was read is obeyed, one that is too long or cannot be read is at fault, and the end
+-- of the input leaves the block as it is. Assumes nothing.
 use borrow.Author.Needs.{needs}
+use Rattle.edit_turns.specs.Turns.{line, unread, ended, afterEvent}
 use Rattle.telgouin.proofs.editing.take_line.Statement.{statement}
 use Rattle.telgouin.proofs.editing.take_line.Tie as tie
 
+read-line-requires : tie.Need-read-line-requires
+read-line-requires c κs = search needs
+
+enum-told : tie.Need-enum-told
+enum-told c = search needs
+
+enum-told-2 : tie.Need-enum-told-2
+enum-told-2 c = search needs
+
+unreadable-requires : tie.Need-unreadable-requires
+unreadable-requires c κs = search needs
+
+enum-told-3 : tie.Need-enum-told-3
+enum-told-3 c = search needs
+
+long-line-requires : tie.Need-long-line-requires
+long-line-requires c κs = search needs
+
+enum-known-count : tie.Need-enum-known-count
+enum-known-count c = search needs
+
+obey-first-requires : tie.Need-obey-first-requires
+obey-first-requires c κs = rw (c .before .before .before .count .given .1) at (c .before .before .before .before .before .read-line .ensures)
+
 returns : tie.Need-returns
-returns c = search needs
-
-slice-aggregate-read-words : tie.Need-slice-aggregate-read-words
-slice-aggregate-read-words c = sym (length-take-le _ _ (omega arith))
-
-read-words-requires : tie.Need-read-words-requires
-read-words-requires c κs = search needs
+unfolding afterEvent
+returns c = record { event = ended; stands = λ s stands. stands }
 
 returns-2 : tie.Need-returns-2
-returns-2 c = search needs
+unfolding afterEvent
+returns-2 c = record { event = unread; stands = λ s stands. c .unreadable .ensures s _ stands }
+
+returns-3 : tie.Need-returns-3
+unfolding afterEvent
+returns-3 c = record { event = unread; stands = λ s stands. c .long-line .ensures s _ stands }
+
+returns-4 : tie.Need-returns-4
+returns-4 c = let obeyed = c .obey-first .ensures in record { event = line _ (obeyed .isWritten); stands = obeyed .stands }
 
 pub take-line-spec : {M : Type 1} → statement M
 take-line-spec =
-    tie.close (tie.spec returns slice-aggregate-read-words read-words-requires returns-2)
+    tie.close
+    (tie.spec
+    read-line-requires
+    enum-told
+    enum-told-2
+    unreadable-requires
+    enum-told-3
+    long-line-requires
+    enum-known-count
+    obey-first-requires
+    returns
+    returns-2
+    returns-3
+    returns-4)

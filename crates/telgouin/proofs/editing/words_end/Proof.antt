@@ -1,4 +1,4 @@
--- `telgouin::editing::words_end` is safe and ends. Assumes nothing.
+-- `telgouin::editing::words_end` meets its contract, and ends. Assumes nothing.
 use Prim.Native.Nat.{_-_, _≤_}
 use lib.ListN.{length}
 use borrow.Author.Needs.{needs}

@@ -1,0 +1,3 @@
+-- What this crate's proofs share.
+pub mod Asks
+pub mod Samples

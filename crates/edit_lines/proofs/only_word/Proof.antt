@@ -1,0 +1,38 @@
+-- `edit_lines::only_word` meets its contract: the next word, if none is behind it. Assumes nothing.
+use native.Mathlib.Omega.{arith}
+use native.Mathlib.Nat.{sub-self}
+use borrow.Author.Needs.{needs}
+use Rattle.block_words.proofs.Words.{none-left, one-more}
+use Rattle.edit_lines.specs.Asks.{only}
+use Rattle.edit_lines.proofs.only_word.Statement.{statement}
+use Rattle.edit_lines.proofs.only_word.Tie as tie
+
+next-word-requires : tie.Need-next-word-requires
+next-word-requires c κs = search needs
+
+returns : tie.Need-returns
+unfolding only
+returns c =
+    let one = c .before .before .next-word .ensures in
+    (one .ordered, one .within, rw (none-left one (c .if1 .taken), c .if1 .taken, sub-self))
+
+next-word-requires-2 : tie.Need-next-word-requires-2
+next-word-requires-2 c κs = search needs
+
+returns-2 : tie.Need-returns-2
+unfolding only
+returns-2 c =
+    let first = c .before .before .before in
+    let one = first .before .before .next-word .ensures in
+    (one .ordered, one .within, rw (one-more one (first .if1 .left), none-left (c .before .before .next-word2 .ensures) (c .if2 .taken)))
+
+returns-3 : tie.Need-returns-3
+unfolding only
+returns-3 c =
+    let first = c .before .before .before in
+    let one = first .before .before .next-word .ensures in
+    (omega arith, search needs, rw (one-more one (first .if1 .left), one-more (c .before .before .next-word2 .ensures) (c .if2 .left), sub-self))
+
+pub only-word-spec : {M : Type 1} → statement M
+only-word-spec =
+    tie.close (tie.spec next-word-requires returns next-word-requires-2 returns-2 returns-3)

@@ -1,0 +1,186 @@
+// A line of edits: what it asks for. Only its form is looked at; whether the edit can be made is for the open block to say.
+ghost use mathlib.Core.Path.{_≡_};
+ghost use mathlib.Core.Bool.{true, false};
+ghost use mathlib.Core.List.{List};
+ghost use Prim.Native.Nat.{ℕ, _≤_};
+ghost use lib.ListN.{length, drop};
+ghost use Rattle.block_words.specs.Numbers.{numberIn};
+ghost use Rattle.block_words.specs.Scans.{part};
+ghost use Rattle.block_words.specs.Words.{words};
+ghost use Rattle.edit_lines.specs.Asks.{addition, only, givenUp, written, alone, asked, stuck, unlessStuck, asksIn};
+ghost use Rattle.edit_lines.specs.Meaning.{asksOf, Within};
+use block_words::Fault;
+use block_words::Number;
+use block_words::Place;
+use block_words::Worded;
+use block_words::is_blank;
+use block_words::is_word;
+use block_words::next_word;
+
+// What a line asks for: nothing; a new node, by the first so many of three bytes; a node to give up; the listing; the block written to the file
+// that a part of the line names; the end of the edits. Or it is no edit: no record of a known form behind `add`, no number behind `remove`, or
+// nothing of that sort at all.
+pub enum Asked {
+    Nothing,
+    Add(usize, u8, u8, u8),
+    Remove(usize),
+    List,
+    Write(usize, usize),
+    Quit,
+    NoRecord(Fault),
+    NoNumber,
+    NoEdit,
+}
+
+// ---- what stands behind the first word, from `at` on
+
+// The only word there; it starts where it ends if there is none, or another.
+fn only_word(line: &[u8], at: usize) -> Place
+    requires { ⌜ at ≤ length (now line) ⌝ }
+    ensures { λ r. ⌜ (r .from ≤ r .to) × (r .to ≤ length (now (line .entry))) ×
+        (part (r .from) (r .to) (now (line .entry)) ≡ only (words (drop at (now (line .entry))))) ⌝ }
+{
+    let one = next_word(line, at);
+    if one.from == one.to {
+        return one;
+    }
+    let other = next_word(line, one.to);
+    if other.from == other.to {
+        return one;
+    }
+    Place { from: at, to: at }
+}
+
+// A record in words.
+fn added(line: &[u8], at: usize) -> Asked
+    requires { ⌜ at ≤ length (now line) ⌝ }
+    ensures { λ r. ⌜ asksOf r (now (line .entry)) ≡ addition (words (drop at (now (line .entry)))) ⌝ }
+    ensures within { λ r. ⌜ Within r (length (now (line .entry))) ⌝ }
+{
+    let mut record = [0u8; 3];
+    match block_words::record_of(&line[at..], &mut record) {
+        Worded::Nothing => Asked::NoEdit,
+        Worded::Wrong(fault) => Asked::NoRecord(fault),
+        Worded::Bytes(count) => Asked::Add(count, record[0], record[1], record[2]),
+    }
+}
+
+// A node to give up.
+fn removed(line: &[u8], at: usize) -> Asked
+    requires { ⌜ at ≤ length (now line) ⌝ }
+    ensures { λ r. ⌜ asksOf r (now (line .entry)) ≡ givenUp (numberIn (only (words (drop at (now (line .entry)))))) ⌝ }
+    ensures within { λ r. ⌜ Within r (length (now (line .entry))) ⌝ }
+{
+    let word = only_word(line, at);
+    let from = word.from;
+    let to = word.to;
+    match block_words::number_of(&line[from..to]) {
+        Number::Is(node) => Asked::Remove(node),
+        Number::None => {
+            if from == to {
+                return Asked::NoEdit;
+            }
+            Asked::NoNumber
+        }
+    }
+}
+
+// A file's name.
+fn named(line: &[u8], at: usize) -> Asked
+    requires { ⌜ at ≤ length (now line) ⌝ }
+    ensures { λ r. ⌜ asksOf r (now (line .entry)) ≡ written (only (words (drop at (now (line .entry))))) ⌝ }
+    ensures within { λ r. ⌜ Within r (length (now (line .entry))) ⌝ }
+{
+    let word = only_word(line, at);
+    let from = word.from;
+    let to = word.to;
+    if from == to {
+        return Asked::NoEdit;
+    }
+    Asked::Write(from, to)
+}
+
+// Nothing: then it is what the first word asks for.
+fn unless_more(line: &[u8], at: usize, first: Asked) -> Asked
+    requires { ⌜ at ≤ length (now line) ⌝ }
+    ensures { λ r. ⌜ asksOf r (now (line .entry)) ≡ alone (asksOf first (now (line .entry))) (words (drop at (now (line .entry)))) ⌝ }
+    ensures within { λ r. ⌜ (Within first (length (now (line .entry))) → Within r (length (now (line .entry)))) ⌝ }
+{
+    let more = next_word(line, at);
+    if more.from == more.to {
+        return first;
+    }
+    Asked::NoEdit
+}
+
+// ---- a line
+
+// What its words ask for.
+fn by_words(line: &[u8]) -> Asked
+    ensures { λ r. ⌜ asksOf r (now (line .entry)) ≡ asked (words (now (line .entry))) ⌝ }
+    ensures within { λ r. ⌜ Within r (length (now (line .entry))) ⌝ }
+{
+    let name = next_word(line, 0);
+    let from = name.from;
+    let to = name.to;
+    if from == to {
+        return Asked::Nothing;
+    }
+    let word = &line[from..to];
+    if is_word(word, b"add") {
+        return added(line, to);
+    }
+    if is_word(word, b"remove") {
+        return removed(line, to);
+    }
+    if is_word(word, b"write") {
+        return named(line, to);
+    }
+    if is_word(word, b"list") {
+        return unless_more(line, to, Asked::List);
+    }
+    if is_word(word, b"quit") {
+        return unless_more(line, to, Asked::Quit);
+    }
+    Asked::NoEdit
+}
+
+// Whether a comment is stuck to a word.
+fn is_stuck(line: &[u8]) -> bool
+    ensures { λ r. ⌜ r ≡ stuck false (now (line .entry)) ⌝ }
+{
+    let mut begun = false;
+    let mut k = 0;
+    while k < line.len() {
+        let letter = line[k];
+        if letter == b'#' {
+            return begun;
+        }
+        begun = !is_blank(letter);
+        k += 1;
+    }
+    false
+}
+
+// What is left of it where a comment is stuck to a word.
+fn unless_named(asked: Asked) -> Asked
+    ensures { λ r. ⌜ ((line : List ℕ) → asksOf r line ≡ unlessStuck true (asksOf asked line)) ⌝ }
+    ensures within { λ r. ⌜ ((long : ℕ) → Within asked long → Within r long) ⌝ }
+{
+    match asked {
+        Asked::Write(_, _) => Asked::NoEdit,
+        _ => asked,
+    }
+}
+
+// What a line asks for, without its line feed.
+pub fn asked_in(line: &[u8]) -> Asked
+    ensures { λ r. ⌜ asksOf r (now (line .entry)) ≡ asksIn (now (line .entry)) ⌝ }
+    ensures within { λ r. ⌜ Within r (length (now (line .entry))) ⌝ }
+{
+    let asked = by_words(line);
+    if is_stuck(line) {
+        return unless_named(asked);
+    }
+    asked
+}

@@ -1,0 +1,66 @@
+-- What a turn is once a block was opened or edited, by the reply. Assumes nothing.
+use Prim.Native.Nat.{ℕ}
+use mathlib.Core.Path.{_≡_, sym, ap, _∙_}
+use mathlib.Core.Bool.{cond, _||_, or-true, or-false}
+use mathlib.Core.List.{List}
+use native.Mathlib.Omega.{arith}
+use Rattle.rules.specs.declared.Answer.{Answer}
+use Rattle.rules.specs.declared.Refusal.{Refusal}
+use Rattle.rules.specs.declared.Reply.{Reply}
+use Rattle.rules.specs.declared.Reply.the-variants.{Refused, Answered}
+use Rattle.rules.specs.Records.{Netlist, most-nodes}
+use Rattle.rules.specs.Families.{findings}
+use Rattle.rules.specs.Checks.{Outcome, answered, refused, andThen, admitted, most-work}
+use Rattle.rules.specs.Slices.{reply}
+use Rattle.rules.specs.Paper.{findingsOf, replyOf}
+use Rattle.open_blocks.specs.Edits.{Edit, edited, otherwise, netlistAfter, replyAfter}
+use Rattle.open_blocks.specs.Meaning.{IsOpen}
+use Rattle.edit_trial.specs.declared.Held.{Held}
+use Rattle.edit_lines.specs.Asks.{Asks, changes}
+use Rattle.edit_turns.specs.declared.Turn.{Turn}
+use Rattle.edit_turns.specs.Turns.{Standing, oneMore, turnedAway, afterEdit, afterAsks, replyTo}
+use Rattle.edit_turns.specs.Meaning.{Stands, Answers, turnedOf, unchangedOf}
+
+-- ---- an opening
+
+-- an answer is no refusal
+pub answered-not-refused : (a : Answer) (k p : ℕ) → replyOf (Answered a) ≡ refused k p → ⊥
+answered-not-refused a k p says = let z : _≡_ {A = ℕ} 0 1 = cc in omega arith
+
+module _ (bytes : List ℕ) (n : Netlist) (admits : admitted bytes most-nodes most-work ≡ answered n) where
+  pub opened-answer : (a : Answer) → replyOf (Answered a) ≡ reply bytes most-nodes most-work → findingsOf a ≡ findings n
+  unfolding reply andThen
+  opened-answer a says = let known : replyOf (Answered a) ≡ answered (findings n) = says ∙ rw admits in cc
+
+  pub not-opened : (r : Refusal) → replyOf (Refused r) ≡ reply bytes most-nodes most-work → ⊥
+  unfolding reply andThen
+  not-opened r says = let known : replyOf (Refused r) ≡ answered (findings n) = says ∙ rw admits in let z : _≡_ {A = ℕ} 0 1 = cc in omega arith
+
+-- ---- an edit
+
+module _ (s : Standing) (turn : Turn) (held : Held) (before after : List ℕ) (stands : Stands s turn before) where
+  -- by what the edit comes to
+  stands-after : (o : Outcome Netlist) (r : Reply) → replyOf r ≡ andThen o (λ m. answered (findings m))
+      → IsOpen (otherwise (s .netlist) o) (held .state) (held .nodes) after
+      → Stands (record { netlist = otherwise (s .netlist) o; faulty = s .faulty || turnedAway o; made = cond (turnedAway o) (s .made) (oneMore (s .made)) })
+      (turnedOf turn held r) after
+  unfolding andThen otherwise turnedAway
+  stands-after (answered m) (Answered a) says is =
+      record { is = is; answers = cc; faults = stands .faults ∙ sym (or-false (s .faulty)); counts = ap oneMore (stands .counts) }
+  stands-after (refused k p) (Refused r) says is =
+      record { is = is; answers = stands .answers; faults = sym (or-true (s .faulty)); counts = stands .counts }
+  stands-after (answered m) (Refused r) says is = let z : _≡_ {A = ℕ} 0 1 = cc in absurd (omega arith)
+  stands-after (refused k p) (Answered a) says is = let z : _≡_ {A = ℕ} 0 1 = cc in absurd (omega arith)
+
+  pub turned-answers : (e : Edit) (r : Reply) → replyOf r ≡ replyAfter (s .netlist) e most-nodes most-work
+      → IsOpen (netlistAfter (s .netlist) e most-nodes most-work) (held .state) (held .nodes) after
+      → Answers s (changes e) (record { turn = turnedOf turn held r; reply = r }) after
+  unfolding afterAsks afterEdit replyTo replyAfter netlistAfter
+  turned-answers e r says is = record { stands = stands-after (edited (s .netlist) e most-nodes most-work) r says is; replies = says }
+
+-- ---- no edit
+
+-- the reply is the answer that is at hand
+pub unchanged-answers : (asks : Asks) {s : Standing} {turn : Turn} {work : List ℕ} → Stands (afterAsks s asks) turn work
+    → replyTo (s .netlist) asks ≡ answered (findings (afterAsks s asks .netlist)) → Answers s asks (unchangedOf turn) work
+unchanged-answers asks stands e = record { stands = stands; replies = ap answered (stands .answers) ∙ sym e }

@@ -1,0 +1,183 @@
+// Edits of an open block that is held by value, a line each: what a line does to the block, whether it was at fault, and the reply. Nothing is
+// printed or written here.
+ghost use mathlib.Core.Path.{_≡_};
+ghost use mathlib.Core.Bool.{true};
+ghost use mathlib.Core.List.{List};
+ghost use Prim.Native.Nat.{ℕ, _≤_};
+ghost use lib.ListN.{length, take};
+ghost use Rattle.rules.specs.Records as Records;
+ghost use Rattle.rules.specs.Records.{most-nodes};
+ghost use Rattle.rules.specs.Checks.{answered, refused, admitted, most-work};
+ghost use Rattle.rules.specs.Slices.{reply};
+ghost use Rattle.rules.specs.Paper.{replyOf};
+ghost use Rattle.open_blocks.specs.Meaning.{editOf};
+ghost use Rattle.edit_lines.specs.Asks.{changes, asksIn};
+ghost use Rattle.edit_lines.specs.Meaning.{asksOf, Within};
+ghost use Rattle.edit_turns.specs.Turns.{Standing, begun, oneMore, failed};
+ghost use Rattle.edit_turns.specs.Meaning.{Stands, Answers, turnedOf, unchangedOf};
+use edit_lines::Asked;
+use edit_trial::Held;
+use open_blocks::Edit;
+use rules::Answer;
+use rules::Half;
+use rules::MOST_WORK;
+use rules::Reply;
+
+// Between two lines: the open block and its answer, whether something was at fault so far, and how many edits were made.
+pub struct Turn {
+    pub held: Held,
+    pub answer: Answer,
+    pub faulty: bool,
+    pub made: usize,
+}
+
+// The turn after a line or an opening, and the reply: to an edit or an opening its own, and else the answer for the block as it is.
+pub struct Told {
+    pub turn: Turn,
+    pub reply: Reply,
+}
+
+// What a line asks for, and what became of it.
+pub struct Obeyed {
+    pub asked: Asked,
+    pub told: Told,
+}
+
+// ---- the start
+
+// An answer of nothing, which stands where a block is refused.
+fn no_answer() -> Answer {
+    Answer {
+        variables: 0,
+        nodes: 0,
+        settled: Half::Clear,
+        glitch: Half::Clear,
+    }
+}
+
+// Opens a block. Where it is refused, the turn is at fault, and its block and answer are left open.
+pub fn begin(bytes: &[u8], work: &mut [u8; MOST_WORK]) -> Told
+    ensures reply { λ r. ⌜ replyOf (r .reply) ≡ reply (now (bytes .entry)) most-nodes most-work ⌝ }
+    ensures stands { λ r. ⌜ ((n : Records.Netlist) → admitted (now (bytes .entry)) most-nodes most-work ≡ answered n →
+        Stands (begun n) (r .turn) (now (work .exit))) ⌝ }
+    ensures refused { λ r. ⌜ ((k p : ℕ) → replyOf (r .reply) ≡ refused k p → r .turn .faulty ≡ true) ⌝ }
+{
+    let opened = edit_trial::open_held(bytes, work);
+    let reply = opened.reply;
+    let held = opened.held;
+    let mut answer = no_answer();
+    let mut faulty = true;
+    if let Reply::Answered(its) = reply {
+        answer = its;
+        faulty = false;
+    }
+    let turn = Turn {
+        held,
+        answer,
+        faulty,
+        made: 0,
+    };
+    Told { turn, reply }
+}
+
+// ---- a line
+
+// Something could not be obeyed: the block stays as it is.
+pub fn at_fault(turn: Turn) -> Turn
+    ensures { λ r. ⌜ ((s : Standing) (work : List ℕ) → Stands s turn work → Stands (failed s) r work) ⌝ }
+{
+    let mut next = turn;
+    next.faulty = true;
+    next
+}
+
+fn one_more(count: usize) -> usize
+    ensures { λ r. ⌜ r ≡ oneMore count ⌝ }
+{
+    if count == usize::MAX {
+        return count;
+    }
+    count + 1
+}
+
+// The turn once an edit got this reply and the block is held so.
+fn turned(turn: Turn, held: Held, reply: Reply) -> Turn
+    ensures { λ r. ⌜ r ≡ turnedOf turn held reply ⌝ }
+{
+    let before = turn.answer;
+    match reply {
+        Reply::Refused(_) => Turn {
+            held,
+            answer: before,
+            faulty: true,
+            made: turn.made,
+        },
+        Reply::Answered(answer) => Turn {
+            held,
+            answer,
+            faulty: turn.faulty,
+            made: one_more(turn.made),
+        },
+    }
+}
+
+// Makes an edit, with so many bytes of a record.
+fn change(turn: Turn, edit: Edit, bytes: &[u8; 3], count: usize, work: &mut [u8; MOST_WORK]) -> Told
+    requires { ⌜ count ≤ 3 ⌝ }
+    ensures { λ r. ⌜ ((s : Standing) → Stands s turn (now (work .entry)) →
+        Answers s (changes (editOf edit (take count (now (bytes .entry))))) r (now (work .exit))) ⌝ }
+{
+    let held = turn.held;
+    let whole: &[u8] = bytes;
+    let changed = edit_trial::edit_held(held, edit, &whole[..count], work);
+    let reply = changed.reply;
+    let held = changed.held;
+    let turn = turned(turn, held, reply);
+    Told { turn, reply }
+}
+
+// The block as it is, and its answer.
+fn unchanged(turn: Turn) -> Told
+    ensures { λ r. ⌜ r ≡ unchangedOf turn ⌝ }
+{
+    let answer = turn.answer;
+    let reply = Reply::Answered(answer);
+    Told { turn, reply }
+}
+
+// Does what a line asks for, as far as the block is concerned.
+fn answer_to(turn: Turn, asked: Asked, line: &[u8], work: &mut [u8; MOST_WORK]) -> Told
+    requires { ⌜ Within asked (length (now line)) ⌝ }
+    ensures { λ r. ⌜ ((s : Standing) → Stands s turn (now (work .entry)) →
+        Answers s (asksOf asked (now (line .entry))) r (now (work .exit))) ⌝ }
+{
+    match asked {
+        Asked::Add(count, kind, first, second) => {
+            let record = [kind, first, second];
+            change(turn, Edit::Add, &record, count, work)
+        }
+        Asked::Remove(node) => {
+            let none = [0u8; 3];
+            change(turn, Edit::Remove(node), &none, 0, work)
+        }
+        Asked::NoRecord(_) => unchanged(at_fault(turn)),
+        Asked::NoNumber => unchanged(at_fault(turn)),
+        Asked::NoEdit => unchanged(at_fault(turn)),
+        Asked::Nothing => unchanged(turn),
+        Asked::List => unchanged(turn),
+        Asked::Write(_, _) => unchanged(turn),
+        Asked::Quit => unchanged(turn),
+    }
+}
+
+// Obeys a line, without its line feed: the block after it is the one before it with just the edit that the line asks for.
+pub fn obey(turn: Turn, line: &[u8], work: &mut [u8; MOST_WORK]) -> Obeyed
+    ensures asked { λ r. ⌜ asksOf (r .asked) (now (line .entry)) ≡ asksIn (now (line .entry)) ⌝ }
+    ensures within { λ r. ⌜ Within (r .asked) (length (now (line .entry))) ⌝ }
+    ensures answers { λ r. ⌜ ((s : Standing) → Stands s turn (now (work .entry)) →
+        Answers s (asksIn (now (line .entry))) (r .told) (now (work .exit))) ⌝ }
+{
+    let asked = edit_lines::asked_in(line);
+    let told = answer_to(turn, asked, line, work);
+    Obeyed { asked, told }
+}

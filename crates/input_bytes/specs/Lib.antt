@@ -1,0 +1,2 @@
+-- What this crate's contract cites.
+pub mod Input

@@ -1,2 +1,0 @@
--- What the contracts of this crate say of bytes that are stored one behind the other.
-pub mod Stored
