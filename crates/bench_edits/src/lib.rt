@@ -1,6 +1,6 @@
 // Edits of an open block for the benchmark, which is written in Rust: how many of them are answered.
 ghost use Prim.Native.Nat.{_≤_};
-use open_blocks::Edit;
+use edit_rules::Edit;
 use rules::MOST_NODES;
 use rules::MOST_WORK;
 use rules::Reply;
@@ -31,10 +31,10 @@ pub extern "C" fn telgouin_edits(bytes: &[u8], added: &[u8], node: usize, times:
 {
     let turns = least(times, MOST_TURNS);
     let mut work = [0u8; MOST_WORK];
-    let opened = edit_trial::open_over(
+    let opened = held_blocks::open_over(
         bytes,
         MOST_NODES,
-        [trial::entry_before(); MOST_NODES],
+        [test_trial::entry_before(); MOST_NODES],
         &mut work,
     );
     let first = opened.edited;
@@ -43,7 +43,7 @@ pub extern "C" fn telgouin_edits(bytes: &[u8], added: &[u8], node: usize, times:
     let mut answered = 0;
     let mut turn = 0;
     while turn < turns {
-        let less = edit_trial::edit_over(
+        let less = held_blocks::edit_over(
             state,
             Edit::Remove(node),
             added,
@@ -55,7 +55,14 @@ pub extern "C" fn telgouin_edits(bytes: &[u8], added: &[u8], node: usize, times:
         let shorter = less.nodes;
         let reply = removed.reply;
         let between = removed.state;
-        let more = edit_trial::edit_over(between, Edit::Add, added, MOST_NODES, shorter, &mut work);
+        let more = held_blocks::edit_over(
+            between,
+            Edit::Add,
+            added,
+            MOST_NODES,
+            shorter,
+            &mut work,
+        );
         let longer = more.edited;
         let last = longer.reply;
         state = longer.state;
@@ -85,10 +92,10 @@ pub extern "C" fn telgouin_edit_again(bytes: &[u8], added: &[u8], times: usize) 
 {
     let turns = least(times, MOST_TURNS);
     let mut work = [0u8; MOST_WORK];
-    let opened = edit_trial::open_over(
+    let opened = held_blocks::open_over(
         bytes,
         MOST_NODES,
-        [trial::entry_before(); MOST_NODES],
+        [test_trial::entry_before(); MOST_NODES],
         &mut work,
     );
     let first = opened.edited;
@@ -98,7 +105,7 @@ pub extern "C" fn telgouin_edit_again(bytes: &[u8], added: &[u8], times: usize) 
     let mut answered = 0;
     let mut turn = 0;
     while turn < turns {
-        let seen = edit_trial::edit_over(state, edit, added, MOST_NODES, nodes, &mut work);
+        let seen = held_blocks::edit_over(state, edit, added, MOST_NODES, nodes, &mut work);
         let edited = seen.edited;
         let reply = edited.reply;
         answered += one_if_answered(reply);

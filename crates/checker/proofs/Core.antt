@@ -26,7 +26,7 @@ use Rattle.marks.specs.declared.Marks.{Marks}
 use Rattle.marks.specs.Marks.{marksOf}
 use Rattle.marks.proofs.Layers.{halves}
 use Rattle.checker.specs.declared.Examined.{Examined}
-use Rattle.checker.specs.Work.{NothingKept, Examines, Looks}
+use Rattle.checker.specs.Work.{NothingKept, Examines, ReadsMarks}
 
 -- a refusal, with nothing kept and nothing written
 pub refusal : (r : Refusal) (k p : ℕ) (examined : Examined) (work : List ℕ) → numberOf r ≡ k → placeOf r ≡ p
@@ -39,7 +39,7 @@ refusal r k p examined work n w e (t, m) =
 pub looks : (value : Value.Netlist) (marks : Marks) (settled glitch : Half)
     → findingOf settled ≡ lowest 0 (map markOf (take (value .count) (marks .settled)))
     → findingOf glitch ≡ lowest 0 (map markOf (take (value .count) (marks .glitch)))
-    → Looks value marks (record {
+    → ReadsMarks value marks (record {
       reply = Answered (record { variables = value .variables; nodes = value .count; settled = settled; glitch = glitch });
       netlist = value;
       marks = marks;
@@ -60,7 +60,7 @@ looks value marks settled glitch s g =
 
 -- the answer of a netlist whose families stand in the work slice, and its marks
 pub answers : (value : Value.Netlist) (n : Netlist) → value ≡ flatOf n → (marks : Marks) → marks ≡ marksOf n → (examined : Examined) (before : List ℕ) {after : List ℕ}
-    → after ≡ workBytes (families n) ++ drop (length (workBytes (families n))) before → Looks value marks examined → Examines (answered n) examined before after
+    → after ≡ workBytes (families n) ++ drop (length (workBytes (families n))) before → ReadsMarks value marks examined → Examines (answered n) examined before after
 unfolding andThen kept filled
 answers value n e marks m examined before w l =
     record { reply = l .finds n e m; netlist = l .netlist ∙ e; marks = l .itsMarks ∙ m; work = w }

@@ -27,7 +27,7 @@ pub record Examines (outcome : Outcome Netlist) (examined : Examined) (before af
   pub work : after ≡ filled (λ n. workBytes (families n)) outcome before
 
 -- What is read from marks is the answer for a netlist by value, and no refusal; where both are a netlist's, the answer is the rules'.
-pub record Looks (value : Value.Netlist) (marks : Marks) (examined : Examined) : Type 0 where
+pub record ReadsMarks (value : Value.Netlist) (marks : Marks) (examined : Examined) : Type 0 where
   pub netlist : examined .netlist ≡ value
   pub itsMarks : examined .marks ≡ marks
   pub stands : (k p : ℕ) → replyOf (examined .reply) ≡ refused k p → ⊥

@@ -12,7 +12,7 @@ ghost use Rattle.rules.specs.Demands.{GlitchClear, NothingSuspect, OneProbe};
 ghost use Rattle.rules.specs.Paper.{replyOf};
 ghost use Rattle.netlists.specs.Netlists.{flatOf, Formed, Ready, kept};
 ghost use Rattle.marks.specs.Marks.{marksOf};
-ghost use Rattle.checker.specs.Work.{NothingKept, Examines, Looks, recordIn, stored, unwritten, noEntries};
+ghost use Rattle.checker.specs.Work.{NothingKept, Examines, ReadsMarks, recordIn, stored, unwritten, noEntries};
 use marks::Marks;
 use netlists::Netlist;
 use rules::Answer;
@@ -42,9 +42,9 @@ pub fn refused(refusal: Refusal) -> Examined
 }
 
 // The answer for a netlist with its marks, from which it is read.
-pub fn look(netlist: Netlist, marks: Marks) -> Examined
+pub fn read_marks(netlist: Netlist, marks: Marks) -> Examined
     requires { ⌜ netlist .count ≤ most-nodes ⌝ }
-    ensures { λ r. ⌜ Looks netlist marks r ⌝ }
+    ensures { λ r. ⌜ ReadsMarks netlist marks r ⌝ }
 {
     let in_settled = marks.settled;
     let in_glitch = marks.glitch;
@@ -70,7 +70,7 @@ fn answer(netlist: Netlist, work: &mut [u8]) -> Examined
         Examines (answered n) r (now (work .entry)) (now (work .exit))) ⌝ }
 {
     nodes::all_families(netlist, work);
-    look(netlist, marks::all_marks(netlist, work))
+    read_marks(netlist, marks::all_marks(netlist, work))
 }
 
 // The answer for a netlist that was read, or the refusal of slices that are too short for it.

@@ -4,8 +4,8 @@ use mathlib.Core.Path.{_≡_, refl}
 use mathlib.Core.List.{List, [], _∷_}
 use native.Mathlib.Omega.{arith}
 use lib.ListN.{length, set}
-use Rattle.lines.specs.Text.{Appended}
-use Rattle.lines.proofs.Text.{appended-byte, appended-next}
+use Rattle.listing_lines.specs.Text.{Appended}
+use Rattle.listing_lines.proofs.Text.{appended-byte, appended-next}
 
 pub five-bytes : (slice : List ℕ) (from next a b c d e : ℕ) → next ≡ from + 5 → next ≤ length slice
     → Appended slice (set (set (set (set (set slice from a) (from + 1) b) (from + 2) c) (from + 3) d) (from + 4) e) from next

@@ -8,7 +8,7 @@ ghost use Rattle.rules.specs.Records.{Cell, NOT, XOR, most-nodes, most-sets};
 ghost use Rattle.rules.specs.Families.{constant};
 ghost use Rattle.rules.specs.Checks.{most-work};
 ghost use Rattle.rules.specs.Slices.{entry};
-ghost use Rattle.lines.specs.Text.{Appended};
+ghost use Rattle.listing_lines.specs.Text.{Appended};
 ghost use Rattle.nodes.specs.Work.{soFar, Placed};
 ghost use Rattle.derivation_rules.specs.Derivations.{familyIn, step, stepBytes, step-size, claim, claimed, lowestSet, wayOfBoth, wayOfSpread, chosen, layerOf};
 ghost use Rattle.derivation_steps.specs.Meaning.{claimOf, wayOf, Layered, InRange};

@@ -11,7 +11,7 @@ use Rattle.rules.specs.Checks.{Outcome, answered, andThen, most-work}
 use Rattle.rules.specs.Slices.{workBytes}
 use Rattle.netlists.specs.declared.Netlist.{Netlist}
 use Rattle.netlists.specs.Netlists.{flatOf, Formed}
-use Rattle.lines.specs.Text.{Appended}
+use Rattle.listing_lines.specs.Text.{Appended}
 use Rattle.derivation_steps.specs.declared.Claim.{Claim}
 use Rattle.derivation_steps.specs.declared.Needs.{Needs}
 use Rattle.derivation_steps.specs.declared.Needs.the-variants.{Nothing, One, Two}

@@ -122,7 +122,7 @@ fn explain_file(bytes: &[u8], claim: Claim, steps: &mut [u8], room: usize) -> De
     requires { ⌜ (step-size * room ≤ length (now steps)) × (room ≤ most-steps) ⌝ }
     ensures { λ r. ⌜ Told (derivable (now (bytes .entry)) (claim .node) (claim .layer) (claim .set) room) claim room r (now (steps .exit)) ⌝ }
 {
-    let file = asking::ask_with(bytes, claim.node, claim.set);
+    let file = query_netlists::ask_with(bytes, claim.node, claim.set);
     let outcome = file.outcome;
     let netlist = file.netlist;
     match outcome {

@@ -4,13 +4,13 @@ ghost use Rattle.rules.specs.Listing.{most-text};
 use crate::say::say;
 use crate::say::say_first;
 use crate::say::say_refused;
-use desk_lines::ROOM;
+use desk_text::ROOM;
 use rules::QueryOutcome;
 
 // Document 01's listing.
 pub fn list(bytes: &[u8]) {
     let mut text = [0u8; ROOM];
-    let count = report::telgouin_listing(bytes, &mut text);
+    let count = listing_text::telgouin_listing(bytes, &mut text);
     say_first(&text, count);
 }
 
@@ -31,7 +31,7 @@ pub fn value(bytes: &[u8], node: usize, assignment: usize) {
     let reply = queries::settled_value(bytes, node, assignment);
     let outcome = reply.outcome;
     let mut text = [0u8; ROOM];
-    let count = desk_lines::value_fields(&mut text, reply.value);
+    let count = desk_text::value_fields(&mut text, reply.value);
     say_outcome(outcome, &text, count);
 }
 
@@ -40,7 +40,7 @@ pub fn feeding(bytes: &[u8], node: usize) {
     let outcome = reply.outcome;
     let marks = reply.marks;
     let mut text = [0u8; ROOM];
-    let count = desk_lines::feeding_fields(&mut text, marks);
+    let count = desk_text::feeding_fields(&mut text, marks);
     say_outcome(outcome, &text, count);
 }
 
@@ -48,6 +48,6 @@ pub fn member(bytes: &[u8], node: usize, set: usize) {
     let reply = queries::memberships(bytes, node, set);
     let outcome = reply.outcome;
     let mut text = [0u8; ROOM];
-    let count = desk_lines::member_fields(&mut text, reply.settled, reply.glitch);
+    let count = desk_text::member_fields(&mut text, reply.settled, reply.glitch);
     say_outcome(outcome, &text, count);
 }

@@ -1,4 +1,4 @@
-// What the program `telgouin` prints, command by command. Fields that scripts rely on are texts of `desk_lines` and `report`; what stands
+// What the program `telgouin` prints, command by command. Fields that scripts rely on are texts of `desk_text` and `listing_text`; what stands
 // behind ` # ` is for people.
 pub mod ask;
 pub mod help;

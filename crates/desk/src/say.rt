@@ -1,9 +1,9 @@
 // Printing: answers, refusals, sets, and what was expected.
 ghost use Prim.Native.Nat.{_≤_};
 ghost use Rattle.rules.specs.Listing.{most-text};
-use block_words::Fault;
-use desk_lines::ROOM;
+use desk_text::ROOM;
 use libc::STDOUT_FILENO;
+use read_words::Fault;
 use rules::Answer;
 use rules::Half;
 use rules::MOST_VARIABLES;
@@ -54,14 +54,14 @@ fn say_suspect(half: Half, classes: [u8; MOST_VARIABLES]) {
 // The lines `vars`, `settled` and `glitch`, of a block whose variables have these classes.
 pub fn say_answer(answer: Answer, classes: [u8; MOST_VARIABLES]) {
     let mut text = [0u8; ROOM];
-    let counts = desk_lines::counts_fields(&mut text, answer);
+    let counts = desk_text::counts_fields(&mut text, answer);
     say_first(&text, counts);
     say(b"\n");
-    let first = desk_lines::settled_fields(&mut text, answer);
+    let first = desk_text::settled_fields(&mut text, answer);
     say_first(&text, first);
     let settled = answer.settled;
     say_suspect(settled, classes);
-    let second = desk_lines::glitch_fields(&mut text, answer);
+    let second = desk_text::glitch_fields(&mut text, answer);
     say_first(&text, second);
     let glitch = answer.glitch;
     say_suspect(glitch, classes);
@@ -70,7 +70,7 @@ pub fn say_answer(answer: Answer, classes: [u8; MOST_VARIABLES]) {
 // How a run of edits ended, of a block whose variables have these classes.
 pub fn say_closing(faulty: bool, answer: Answer, made: usize, classes: [u8; MOST_VARIABLES]) {
     let mut text = [0u8; ROOM];
-    let count = desk_lines::edits_fields(&mut text, faulty, answer, made);
+    let count = desk_text::edits_fields(&mut text, faulty, answer, made);
     say_first(&text, count);
     if faulty {
         say(b" # not every line was obeyed\n");
@@ -105,7 +105,7 @@ fn say_reason(number: usize) {
 // A refusal's fields, and what stands before its reason.
 fn say_refusal_fields(refusal: Refusal) {
     let mut text = [0u8; ROOM];
-    let count = desk_lines::refusal_fields(&mut text, refusal);
+    let count = desk_text::refusal_fields(&mut text, refusal);
     say_first(&text, count);
 }
 

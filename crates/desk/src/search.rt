@@ -10,7 +10,7 @@ use crate::say::say_answer;
 use crate::say::say_first;
 use crate::say::say_refused;
 use crate::say::say_set;
-use desk_lines::ROOM;
+use desk_text::ROOM;
 use libc::STDERR_FILENO;
 use pair_search::Found;
 use pair_search::Search;
@@ -33,7 +33,7 @@ fn tell(text: &[u8]) {
 fn tell_progress(shown: bool, progress: Progress) {
     if shown & (progress.next >= FIRST) {
         let mut text = [0u8; ROOM];
-        let count = desk_lines::progress_fields(&mut text, progress);
+        let count = desk_text::progress_fields(&mut text, progress);
         tell(b"\r");
         put_first(STDERR_FILENO, &text, count);
     }
@@ -66,7 +66,7 @@ fn searched(bytes: &[u8], work: &mut [u8], limit: usize, shown: bool) -> PairsRe
 // The line of a search: its fields, and for people the set of a suspect pair.
 fn say_search(search: Search, classes: [u8; MOST_VARIABLES]) {
     let mut text = [0u8; ROOM];
-    let count = desk_lines::search_fields(&mut text, search);
+    let count = desk_text::search_fields(&mut text, search);
     say_first(&text, count);
     let found = search.found;
     if let Found::Pair(_, _, set) = found {

@@ -14,7 +14,7 @@ use crate::steps::step_at;
 use derivations::Derived;
 use derivations::MOST_BYTES;
 use derivations::MOST_STEPS;
-use desk_lines::ROOM;
+use desk_text::ROOM;
 use netlists::Netlist;
 use rules::Answer;
 use rules::Half;
@@ -91,7 +91,7 @@ fn say_rule(rule: u8) {
 // A step: its fields, and for people the node, the layer, the set and the rule.
 fn say_step(netlist: Netlist, step: Step, depth: usize) {
     let mut text = [0u8; ROOM];
-    let count = desk_lines::step_fields(
+    let count = desk_text::step_fields(
         &mut text,
         step.node,
         step.layer,
@@ -136,7 +136,7 @@ fn say_steps(netlist: Netlist, steps: &[u8; MOST_BYTES], count: usize)
 // The closing line: how many steps there were.
 fn say_step_count(count: usize) {
     let mut text = [0u8; ROOM];
-    let long = desk_lines::steps_fields(&mut text, count);
+    let long = desk_text::steps_fields(&mut text, count);
     say_first(&text, long);
     say(b"\n");
 }
@@ -156,7 +156,7 @@ pub fn why(bytes: &[u8], netlist: Netlist, node: usize, layer: usize, set: usize
 // That there is no suspect to explain.
 fn say_clear(answer: Answer) {
     let mut text = [0u8; ROOM];
-    let count = desk_lines::glitch_fields(&mut text, answer);
+    let count = desk_text::glitch_fields(&mut text, answer);
     say_first(&text, count);
     say(b" # no node is suspect, so there is nothing to explain\n");
     say_step_count(0);

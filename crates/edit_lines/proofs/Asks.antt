@@ -8,11 +8,11 @@ use native.Mathlib.Numerals.{add-one}
 use borrow.Author.Tests.{eq-eqb, ne-eqb}
 use lib.ListN.{length, getD, take, drop, length-take, length-drop, drop-of-length-le}
 use lib.Seq.{drop-cons}
-use Rattle.block_words.specs.declared.Fault.{Fault}
-use Rattle.block_words.specs.Meaning.{IsRecord}
-use Rattle.block_words.specs.Scans.{part}
-use Rattle.block_words.specs.Words.{nothing, wrong, isBlank, recordIn}
-use Rattle.open_blocks.specs.Edits.{add}
+use Rattle.read_words.specs.declared.Fault.{Fault}
+use Rattle.read_words.specs.Meaning.{IsRecord}
+use Rattle.read_words.specs.Scans.{part}
+use Rattle.read_words.specs.Words.{nothing, wrong, isBlank, recordIn}
+use Rattle.edit_rules.specs.Edits.{add}
 use Rattle.edit_lines.specs.Asks.{changes, writes, noEdit, addition, written, stuck}
 
 -- ---- a record

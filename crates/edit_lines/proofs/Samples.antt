@@ -3,9 +3,9 @@ use mathlib.Core.Path.{_≡_, refl}
 use mathlib.Core.List.{[], _∷_}
 use Rattle.rules.specs.Listing.{word}
 use Rattle.rules.specs.Records.{kindOf, operands, body, recordBytes}
-use Rattle.block_words.specs.Numbers.{allDigits, valueBehind, numberBehind, numberIn}
-use Rattle.block_words.specs.Words.{closed, wordsBehind, words, same, cut, withOperand, withTwo, forms, readBy, recordIn}
-use Rattle.open_blocks.specs.Edits.{add, remove}
+use Rattle.read_words.specs.Numbers.{allDigits, valueBehind, numberBehind, numberIn}
+use Rattle.read_words.specs.Words.{closed, wordsBehind, words, same, cut, withOperand, withTwo, forms, readBy, recordIn}
+use Rattle.edit_rules.specs.Edits.{add, remove}
 use Rattle.edit_lines.specs.Asks.{none, changes, lists, writes, quits, noEdit, addition, only, givenUp, written, alone, asked, stuck, unlessStuck, asksIn}
 
 -- edits of every kind, and a line that asks nothing

@@ -2,8 +2,8 @@
 use Prim.Native.Nat.{ℕ, _≤_}
 use mathlib.Core.List.{List, [], _∷_}
 use lib.ListN.{take}
-use Rattle.block_words.specs.Scans.{part}
-use Rattle.open_blocks.specs.Edits.{add, remove}
+use Rattle.read_words.specs.Scans.{part}
+use Rattle.edit_rules.specs.Edits.{add, remove}
 use Rattle.edit_lines.specs.declared.Asked.{Asked}
 use Rattle.edit_lines.specs.declared.Asked.the-variants as Asked
 use Rattle.edit_lines.specs.Asks.{Asks, none, changes, lists, writes, quits, noEdit}

@@ -4,18 +4,18 @@ ghost use mathlib.Core.Bool.{true, false};
 ghost use mathlib.Core.List.{List};
 ghost use Prim.Native.Nat.{ℕ, _≤_};
 ghost use lib.ListN.{length, drop};
-ghost use Rattle.block_words.specs.Numbers.{numberIn};
-ghost use Rattle.block_words.specs.Scans.{part};
-ghost use Rattle.block_words.specs.Words.{words};
+ghost use Rattle.read_words.specs.Numbers.{numberIn};
+ghost use Rattle.read_words.specs.Scans.{part};
+ghost use Rattle.read_words.specs.Words.{words};
 ghost use Rattle.edit_lines.specs.Asks.{addition, only, givenUp, written, alone, asked, stuck, unlessStuck, asksIn};
 ghost use Rattle.edit_lines.specs.Meaning.{asksOf, Within};
-use block_words::Fault;
-use block_words::Number;
-use block_words::Place;
-use block_words::Worded;
-use block_words::is_blank;
-use block_words::is_word;
-use block_words::next_word;
+use read_words::Fault;
+use read_words::Number;
+use read_words::Place;
+use read_words::Worded;
+use read_words::is_blank;
+use read_words::is_word;
+use read_words::next_word;
 
 // What a line asks for: nothing; a new node, by the first so many of three bytes; a node to give up; the listing; the block written to the file
 // that a part of the line names; the end of the edits. Or it is no edit: no record of a known form behind `add`, no number behind `remove`, or
@@ -58,7 +58,7 @@ fn added(line: &[u8], at: usize) -> Asked
     ensures within { λ r. ⌜ Within r (length (now (line .entry))) ⌝ }
 {
     let mut record = [0u8; 3];
-    match block_words::record_of(&line[at..], &mut record) {
+    match read_words::record_of(&line[at..], &mut record) {
         Worded::Nothing => Asked::NoEdit,
         Worded::Wrong(fault) => Asked::NoRecord(fault),
         Worded::Bytes(count) => Asked::Add(count, record[0], record[1], record[2]),
@@ -74,7 +74,7 @@ fn removed(line: &[u8], at: usize) -> Asked
     let word = only_word(line, at);
     let from = word.from;
     let to = word.to;
-    match block_words::number_of(&line[from..to]) {
+    match read_words::number_of(&line[from..to]) {
         Number::Is(node) => Asked::Remove(node),
         Number::None => {
             if from == to {

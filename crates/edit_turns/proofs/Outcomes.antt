@@ -13,9 +13,9 @@ use Rattle.rules.specs.Families.{findings}
 use Rattle.rules.specs.Checks.{Outcome, answered, refused, andThen, admitted, most-work}
 use Rattle.rules.specs.Slices.{reply}
 use Rattle.rules.specs.Paper.{findingsOf, replyOf}
-use Rattle.open_blocks.specs.Edits.{Edit, edited, otherwise, netlistAfter, replyAfter}
-use Rattle.open_blocks.specs.Meaning.{IsOpen}
-use Rattle.edit_trial.specs.declared.Held.{Held}
+use Rattle.edit_rules.specs.Edits.{Edit, edited, otherwise, netlistAfter, replyAfter}
+use Rattle.edit_rules.specs.Meaning.{IsOpen}
+use Rattle.held_blocks.specs.declared.Held.{Held}
 use Rattle.edit_lines.specs.Asks.{Asks, changes}
 use Rattle.edit_turns.specs.declared.Turn.{Turn}
 use Rattle.edit_turns.specs.Turns.{Standing, oneMore, turnedAway, afterEdit, afterAsks, replyTo}

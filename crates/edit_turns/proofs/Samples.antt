@@ -6,17 +6,17 @@ use mathlib.Core.List.{List, [], _∷_}
 use Rattle.rules.specs.Listing.{word}
 use Rattle.rules.specs.Records.{kindOf}
 use Rattle.rules.proofs.BlockCounts.{p9, p10}
-use Rattle.block_words.specs.Numbers.{allDigits, valueBehind, numberBehind, numberIn}
-use Rattle.block_words.specs.Words.{closed, wordsBehind, words, same, cut, withOperand, withOne, withTwo, forms, readBy, recordIn}
-use Rattle.open_blocks.specs.Edits.{otherwise, netlistAfter}
-use Rattle.open_blocks.proofs.Blocks.{editedTo}
-use Rattle.edit_lines.specs.Asks.{addition, only, givenUp, written, alone, asked, stuck, unlessStuck, asksIn}
+use Rattle.read_words.specs.Numbers.{allDigits, valueBehind, numberBehind, numberIn}
+use Rattle.read_words.specs.Words.{closed, wordsBehind, words, same, cut, withOperand, withOne, withTwo, forms, readBy, recordIn}
+use Rattle.edit_rules.specs.Edits.{otherwise, netlistAfter}
+use Rattle.edit_rules.proofs.Blocks.{editedTo}
+use Rattle.edit_lines.specs.Asks.{addition, only, removedIfUnused, written, alone, asked, stuck, unlessStuck, asksIn}
 use Rattle.edit_turns.specs.Turns.{Standing, begun, oneMore, turnedAway, afterEdit, failed, afterAsks, afterLine, unlessWritten, Event, line, unread, afterEvent, afterEvents, NothingAtFault}
 
 -- to unfold it is to compute it
 unfoldable ran : Standing → List Event → Standing
 unfolding editedTo word kindOf allDigits valueBehind numberBehind numberIn closed wordsBehind words same cut withOperand withOne withTwo forms readBy recordIn
-    otherwise netlistAfter addition only givenUp written alone asked stuck unlessStuck asksIn
+    otherwise netlistAfter addition only removedIfUnused written alone asked stuck unlessStuck asksIn
     begun oneMore turnedAway afterEdit failed afterAsks afterLine unlessWritten afterEvent afterEvents
 ran s events = afterEvents s events
 

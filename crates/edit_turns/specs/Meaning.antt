@@ -9,8 +9,8 @@ use Rattle.rules.specs.Records.{WellFormed, writtenOut}
 use Rattle.rules.specs.Families.{findings}
 use Rattle.rules.specs.Demands.{NoSuspect, OneProbe}
 use Rattle.rules.specs.Paper.{findingsOf, replyOf}
-use Rattle.open_blocks.specs.Meaning.{IsOpen}
-use Rattle.edit_trial.specs.declared.Held.{Held}
+use Rattle.edit_rules.specs.Meaning.{IsOpen}
+use Rattle.held_blocks.specs.declared.Held.{Held}
 use Rattle.edit_lines.specs.Asks.{Asks}
 use Rattle.edit_turns.specs.declared.Turn.{Turn}
 use Rattle.edit_turns.specs.declared.Told.{Told}

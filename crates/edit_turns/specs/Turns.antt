@@ -7,7 +7,7 @@ use mathlib.Core.List.{List, [], _∷_}
 use Rattle.rules.specs.Records.{Netlist, most-nodes}
 use Rattle.rules.specs.Families.{Findings, findings}
 use Rattle.rules.specs.Checks.{Outcome, answered, refused, most-work}
-use Rattle.open_blocks.specs.Edits.{Edit, edited, netlistAfter, replyAfter}
+use Rattle.edit_rules.specs.Edits.{Edit, edited, netlistAfter, replyAfter}
 use Rattle.edit_lines.specs.Asks.{Asks, none, changes, lists, writes, quits, noEdit, asksIn}
 
 -- Where a run stands: the block as it is now, whether something was at fault, and how many edits were made.

@@ -10,14 +10,14 @@ ghost use Rattle.rules.specs.Records.{most-nodes};
 ghost use Rattle.rules.specs.Checks.{answered, refused, admitted, most-work};
 ghost use Rattle.rules.specs.Slices.{reply};
 ghost use Rattle.rules.specs.Paper.{replyOf};
-ghost use Rattle.open_blocks.specs.Meaning.{editOf};
+ghost use Rattle.edit_rules.specs.Meaning.{editOf};
 ghost use Rattle.edit_lines.specs.Asks.{changes, asksIn};
 ghost use Rattle.edit_lines.specs.Meaning.{asksOf, Within};
 ghost use Rattle.edit_turns.specs.Turns.{Standing, begun, oneMore, failed};
 ghost use Rattle.edit_turns.specs.Meaning.{Stands, Answers, turnedOf, unchangedOf};
 use edit_lines::Asked;
-use edit_trial::Held;
-use open_blocks::Edit;
+use edit_rules::Edit;
+use held_blocks::Held;
 use rules::Answer;
 use rules::Half;
 use rules::MOST_WORK;
@@ -62,7 +62,7 @@ pub fn begin(bytes: &[u8], work: &mut [u8; MOST_WORK]) -> Told
         Stands (begun n) (r .turn) (now (work .exit))) ⌝ }
     ensures refused { λ r. ⌜ ((k p : ℕ) → replyOf (r .reply) ≡ refused k p → r .turn .faulty ≡ true) ⌝ }
 {
-    let opened = edit_trial::open_held(bytes, work);
+    let opened = held_blocks::open_held(bytes, work);
     let reply = opened.reply;
     let held = opened.held;
     let mut answer = no_answer();
@@ -129,7 +129,7 @@ fn change(turn: Turn, edit: Edit, bytes: &[u8; 3], count: usize, work: &mut [u8;
 {
     let held = turn.held;
     let whole: &[u8] = bytes;
-    let changed = edit_trial::edit_held(held, edit, &whole[..count], work);
+    let changed = held_blocks::edit_held(held, edit, &whole[..count], work);
     let reply = changed.reply;
     let held = changed.held;
     let turn = turned(turn, held, reply);

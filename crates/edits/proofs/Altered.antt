@@ -10,7 +10,7 @@ use Rattle.rules.specs.declared.Refusal.{Refusal}
 use Rattle.rules.specs.declared.Reply.the-variants.{Refused}
 use Rattle.rules.specs.Paper.{numberOf, placeOf}
 use Rattle.rules.proofs.BlockOutputs.{fields}
-use Rattle.open_blocks.specs.declared.State.{State}
+use Rattle.edit_rules.specs.declared.State.{State}
 use Rattle.edits.specs.declared.Edited.{Edited}
 use Rattle.edits.specs.Edited.{Kept}
 

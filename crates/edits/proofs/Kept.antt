@@ -15,9 +15,9 @@ use Rattle.rules.proofs.Records.{passes, answer}
 use Rattle.rules.proofs.Room.{Room, has-room}
 use Rattle.rules.proofs.Room as Room
 use Rattle.rules.proofs.Written.{write-read}
-use Rattle.open_blocks.specs.Edits.{Edit, add, remove, offered, withoutNode, givenUp, fits, edited, replyAfter, recordsAfter, bytesAfter}
-use Rattle.open_blocks.proofs.Adding.{offered-well-formed}
-use Rattle.open_blocks.proofs.Removal.{lowered-most, Unnamed, removed-length, removed-well-formed}
+use Rattle.edit_rules.specs.Edits.{Edit, add, remove, offered, withoutNode, removedIfUnused, fits, edited, replyAfter, recordsAfter, bytesAfter}
+use Rattle.edit_rules.proofs.Adding.{offered-well-formed}
+use Rattle.edit_rules.proofs.Removal.{lowered-most, Unused, removed-length, removed-well-formed}
 
 -- an outcome that is answered goes on from an answer
 record Through {A B : Type 0} (o : Outcome A) (f : A → Outcome B) (b : B) : Type 0 where
@@ -35,24 +35,24 @@ pub record Made (entries work : ℕ) (m : Netlist) : Type 0 where
   pub obeys : WellFormed m
   pub room : Room entries work m
 
-without-made : (n : Netlist) (i entries work : ℕ) → WellFormed n → Room entries work n → Unnamed i (n .nodes) → Made entries work (withoutNode n i)
-without-made n i entries work formed room unnamed =
+without-made : (n : Netlist) (i entries work : ℕ) → WellFormed n → Room entries work n → Unused i (n .nodes) → Made entries work (withoutNode n i)
+without-made n i entries work formed room unused =
     let fewer : length (withoutNode n i .nodes) ≤ length (n .nodes) = omega (arith, removed-length n i, lowered-most i (length (n .nodes))) in
     record {
-      obeys = removed-well-formed n i formed unnamed;
+      obeys = removed-well-formed n i formed unused;
       room = record { enough-entries = omega (arith, room .enough-entries); enough-work = omega (arith, room .enough-work) };
     }
 
 removed-made : (n k l m : Netlist) (i entries work : ℕ) → WellFormed n → judged (nodeCheck i n ∷ []) n ≡ answered k → slicesFit entries work k ≡ answered l
-    → givenUp i l ≡ answered m → Made entries work m
-unfolding nodeCheck givenUp
+    → removedIfUnused i l ≡ answered m → Made entries work m
+unfolding nodeCheck removedIfUnused
 removed-made n k l m i entries work formed there room free =
     let is-k : n ≡ k = answer _ n k there in
     let (is-l, has) = has-room entries work k l room in
     let n-is-l : n ≡ l = is-k ∙ is-l in
-    let unnamed : Unnamed i (l .nodes) = ltb-false _ _ (passes _ (withoutNode l i) m free 0) in
+    let unused : Unused i (l .nodes) = ltb-false _ _ (passes _ (withoutNode l i) m free 0) in
     subst (Made entries work) (answer _ (withoutNode l i) m free)
-    (without-made l i entries work (subst (λ (n : Netlist). WellFormed n) n-is-l formed) (subst (Room entries work) is-l has) unnamed)
+    (without-made l i entries work (subst (λ (n : Netlist). WellFormed n) n-is-l formed) (subst (Room entries work) is-l has) unused)
 
 pub made : (n : Netlist) (e : Edit) (entries work : ℕ) (m : Netlist) → WellFormed n → edited n e entries work ≡ answered m → Made entries work m
 unfolding edited fits
@@ -61,7 +61,7 @@ made n (add bytes) entries work m formed e =
     let (same, room) = has-room entries work (withNode n (t .answer)) m (t .then) in
     subst (Made entries work) same (record { obeys = offered-well-formed n bytes (t .answer) formed (t .first); room = room })
 made n (remove i) entries work m formed e =
-    let u = through _ (givenUp i) m e in
+    let u = through _ (removedIfUnused i) m e in
     let t = through (judged (nodeCheck i n ∷ []) n) (slicesFit entries work) (u .answer) (u .first) in
     removed-made n (t .answer) (u .answer) m i entries work formed (t .first) (t .then) (u .then)
 

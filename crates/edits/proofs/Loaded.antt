@@ -21,9 +21,9 @@ use Rattle.netlists.proofs.Netlists.{padded-none, made-set}
 use Rattle.marks.specs.Marks.{flatMarks, marksIn, marksOf}
 use Rattle.checker.specs.Work.{unwritten, noEntries, stored}
 use Rattle.checker.proofs.Stored.{stored-front, stored-length, no-entries-length}
-use Rattle.open_blocks.specs.declared.State.{State}
-use Rattle.open_blocks.specs.Meaning.{stateOf, IsOpen}
-use Rattle.open_blocks.specs.Work.{stateIn}
+use Rattle.edit_rules.specs.declared.State.{State}
+use Rattle.edit_rules.specs.Meaning.{stateOf, IsOpen}
+use Rattle.edit_rules.specs.Work.{stateIn}
 use Rattle.edits.specs.Edited.{column, loadedFrom, loadedOf}
 
 -- ---- a field of the first records

@@ -25,12 +25,12 @@ use Rattle.marks.specs.Marks.{marksOf}
 use Rattle.checker.specs.declared.Examined.{Examined}
 use Rattle.checker.specs.Work.{Examines, recordIn, stored}
 use Rattle.checker.proofs.Stored.{stored-none, stored-length, netlist-stored}
-use Rattle.open_blocks.specs.declared.State.{State}
-use Rattle.open_blocks.specs.Edits.{Edit, fits, edited, otherwise, netlistAfter, replyAfter, recordsAfter, bytesAfter, NothingSuspectAfter}
-use Rattle.open_blocks.specs.Meaning.{stateOf, IsOpen}
-use Rattle.open_blocks.specs.Work.{stateIn}
-use Rattle.changes.specs.Changes.{Changes}
-use Rattle.changes.proofs.Changing.{value-state}
+use Rattle.edit_rules.specs.declared.State.{State}
+use Rattle.edit_rules.specs.Edits.{Edit, fits, edited, otherwise, netlistAfter, replyAfter, recordsAfter, bytesAfter, NothingSuspectAfter}
+use Rattle.edit_rules.specs.Meaning.{stateOf, IsOpen}
+use Rattle.edit_rules.specs.Work.{stateIn}
+use Rattle.edit_steps.specs.Changes.{Changes}
+use Rattle.edit_steps.proofs.Changing.{value-state}
 use Rattle.edits.specs.declared.Edited.{Edited}
 use Rattle.edits.specs.Edited.{loadedOf, nextState, editedOf, Kept}
 use Rattle.edits.proofs.Loaded.{loaded-state, loaded-flat, loaded-marks}

@@ -22,10 +22,10 @@ use Rattle.rules.proofs.Reading.{read-well-formed}
 use Rattle.rules.proofs.Room.{Room, admitted-says}
 use Rattle.rules.proofs.Tables.{table-length}
 use Rattle.rules.proofs.Written.{write-read}
-use Rattle.open_blocks.specs.declared.State.{State}
-use Rattle.open_blocks.specs.Edits.{Edit, fits, edited, otherwise, netlistAfter, replyAfter, recordsAfter, bytesAfter, Holds, Block, Lent, lentOf, givenBack, afterOpening, Call, afterCall, afterCalls, AsChecked}
-use Rattle.open_blocks.specs.Meaning.{stateOf, IsOpen}
-use Rattle.changes.proofs.Changing.{edited-refused}
+use Rattle.edit_rules.specs.declared.State.{State}
+use Rattle.edit_rules.specs.Edits.{Edit, fits, edited, otherwise, netlistAfter, replyAfter, recordsAfter, bytesAfter, Holds, OpenBlock, Lent, lentOf, givenBack, afterOpening, Call, afterCall, afterCalls, AsChecked}
+use Rattle.edit_rules.specs.Meaning.{stateOf, IsOpen}
+use Rattle.edit_steps.proofs.Changing.{edited-refused}
 use Rattle.edits.specs.declared.Edited.{Edited}
 use Rattle.edits.proofs.Kept.{Made, made, fits-room, afresh-reply, afresh-nodes, afresh-work}
 use Rattle.edits.proofs.Promises.{Promised}
@@ -122,7 +122,7 @@ unfolding andThen
 answers-of (answered n) f e = record { netlist = n; is = refl }
 answers-of (refused k p) f e = let z : _≡_ {A = ℕ} 0 1 = cc in absurd (omega arith)
 
-pub checked-holds : (b : Block) → AsChecked b → Holds (b .netlist) (b .nodes) (b .work)
+pub checked-holds : (b : OpenBlock) → AsChecked b → Holds (b .netlist) (b .nodes) (b .work)
 unfolding reply
 checked-holds b checked =
     let n = b .netlist in
@@ -138,11 +138,11 @@ checked-holds b checked =
     (subst (λ (l : List NodeRecord). Holds n l (filled (λ m. workBytes (families m)) (answered n) (b .work))) nodes (written-held n (b .nodes) (b .work)))
 
 -- so it is an open block, with its netlist's state: what the contract of an edit asks
-pub checked-open : (b : Block) → AsChecked b → IsOpen (b .netlist) (stateOf (b .netlist)) (b .nodes) (b .work)
+pub checked-open : (b : OpenBlock) → AsChecked b → IsOpen (b .netlist) (stateOf (b .netlist)) (b .nodes) (b .work)
 checked-open b checked = record { obeys = checked .obeys; itsState = refl; holds = checked-holds b checked }
 
 -- and in the slices that are lent of its arrays, where these have room, it is as a check leaves it there
-pub lent-checked : (b : Block) (lent : Lent) → AsChecked b → Room (lent .entries) (lent .bytes) (b .netlist) → AsChecked (lentOf b lent)
+pub lent-checked : (b : OpenBlock) (lent : Lent) → AsChecked b → Room (lent .entries) (lent .bytes) (b .netlist) → AsChecked (lentOf b lent)
 unfolding lentOf
 lent-checked b lent checked room =
     as-checked (b .netlist) _ _ (checked .obeys) (holds-lent (checked-holds b checked) (lent .entries) (lent .bytes) room)
@@ -158,14 +158,14 @@ none-checked nodes work =
     (record { records = refl; families = refl })
 
 -- what a call keeps: its block is as a check leaves it, in arrays as long as before
-pub record Keeps (b after : Block) : Type 0 where
+pub record Keeps (b after : OpenBlock) : Type 0 where
   pub checked : AsChecked after
   pub entries : length (after .nodes) ≡ length (b .nodes)
   pub bytes : length (after .work) ≡ length (b .work)
 
 -- So it is of every call that comes to a netlist which obeys the record rules and fits the slices, and then writes it over their front; or to a refusal, and then
 -- writes nothing.
-comes-to : (b : Block) (lent : Lent) (before : Netlist) (o : Outcome Netlist) → AsChecked (record { netlist = before; nodes = b .nodes; work = b .work })
+comes-to : (b : OpenBlock) (lent : Lent) (before : Netlist) (o : Outcome Netlist) → AsChecked (record { netlist = before; nodes = b .nodes; work = b .work })
     → ((m : Netlist) → o ≡ answered m → Made (length (lentOf b lent .nodes)) (length (lentOf b lent .work)) m)
     → Keeps b
     (givenBack b lent
@@ -186,19 +186,19 @@ comes-to b lent before (refused k p) checked fine =
     rw (take-append-drop (lent .entries) (b .nodes), take-append-drop (lent .bytes) (b .work)) (record { checked = checked; entries = refl; bytes = refl })
 
 -- opening, answered or refused
-pub opened : (b : Block) (bytes : List ℕ) (lent : Lent) → Keeps b (afterOpening b bytes lent)
+pub opened : (b : OpenBlock) (bytes : List ℕ) (lent : Lent) → Keeps b (afterOpening b bytes lent)
 unfolding afterOpening nodesAfter workAfter
 opened b bytes lent =
     comes-to b lent empty (admitted bytes _ _) (none-checked (b .nodes) (b .work))
     (λ m is. let says = admitted-says bytes _ _ m is in record { obeys = read-well-formed bytes m (says .is-read); room = says .room })
 
 -- an edit, made or refused, however much it is lent
-pub call-keeps : (b : Block) (c : Call) → AsChecked b → Keeps b (afterCall b c)
+pub call-keeps : (b : OpenBlock) (c : Call) → AsChecked b → Keeps b (afterCall b c)
 unfolding afterCall netlistAfter recordsAfter bytesAfter
 call-keeps b c checked =
     comes-to b (c .lent) (b .netlist) (edited (b .netlist) (c .edit) _ _) checked (λ m is. made (b .netlist) (c .edit) _ _ m (checked .obeys) is)
 
-pub calls-keep : (b : Block) (calls : List Call) → AsChecked b → Keeps b (afterCalls b calls)
+pub calls-keep : (b : OpenBlock) (calls : List Call) → AsChecked b → Keeps b (afterCalls b calls)
 unfolding afterCalls
 calls-keep b [] checked = record { checked = checked; entries = refl; bytes = refl }
 calls-keep b (c ∷ calls) checked =
@@ -208,11 +208,11 @@ calls-keep b (c ∷ calls) checked =
 
 -- Any run of edits, from any bytes, refused calls among them, each in slices of its own lengths: the netlist obeys the record rules, and both arrays hold
 -- what checking its written-out bytes gives.
-pub any-run : (b : Block) (bytes : List ℕ) (lent : Lent) (calls : List Call) → AsChecked (afterCalls (afterOpening b bytes lent) calls)
+pub any-run : (b : OpenBlock) (bytes : List ℕ) (lent : Lent) (calls : List Call) → AsChecked (afterCalls (afterOpening b bytes lent) calls)
 any-run b bytes lent calls = calls-keep _ calls (opened b bytes lent .checked) .checked
 
 -- They are as long as they were.
-pub run-lengths : (b : Block) (bytes : List ℕ) (lent : Lent) (calls : List Call)
+pub run-lengths : (b : OpenBlock) (bytes : List ℕ) (lent : Lent) (calls : List Call)
     → let after = afterCalls (afterOpening b bytes lent) calls in
     (length (after .nodes) ≡ length (b .nodes)) × (length (after .work) ≡ length (b .work))
 run-lengths b bytes lent calls =
@@ -221,11 +221,11 @@ run-lengths b bytes lent calls =
     (run .entries ∙ first .entries, run .bytes ∙ first .bytes)
 
 -- Each half of what checking them answers is the lowest marked node of its layer with its mark: the answer after an edit is read from the marks.
-pub marks-answer : (b : Block) → AsChecked b → FromMarks (findings (b .netlist)) (b .nodes)
+pub marks-answer : (b : OpenBlock) → AsChecked b → FromMarks (findings (b .netlist)) (b .nodes)
 marks-answer b checked = from-marks (b .netlist) (b .nodes) (checked-holds b checked .records)
 
 -- And the reply of the last edit, where it is made, is that of checking them; in the slices that were lent too (`checked-afresh`).
-pub last-reply : (b : Block) (c : Call) (f : Findings) → AsChecked b
+pub last-reply : (b : OpenBlock) (c : Call) (f : Findings) → AsChecked b
     → replyAfter (b .netlist) (c .edit) (length (lentOf b (c .lent) .nodes)) (length (lentOf b (c .lent) .work)) ≡ answered f
     → let after = afterCall b c in
     reply (writtenOut (after .netlist)) (length (after .nodes)) (length (after .work)) ≡ answered f
@@ -262,7 +262,7 @@ module _ {n : Netlist} {state : State} {nodes : List NodeRecord} {work : List �
 -- block too, of which the contract says that the edit is refused and changes nothing (`early`, `kept`).
 module _ {n : Netlist} {state : State} {nodes : List NodeRecord} {work : List ℕ} (is : IsOpen n state nodes work) (c : Call) where
   -- the block, and the slices
-  abbrev whole : Block
+  abbrev whole : OpenBlock
   whole = record { netlist = n; nodes = nodes; work = work }
 
   abbrev entries : List NodeRecord
@@ -308,10 +308,10 @@ pub data Ran (state′ : State) (nodes′ : List NodeRecord) (work′ : List ℕ
       → Ran state′ nodes′ work′ (c ∷ calls) state nodes work
 
 -- From an open block they end in the state and the arrays of which `any-run` and the rest speak.
-abbrev EndsIn : State → List NodeRecord → List ℕ → Block → Type 0
+abbrev EndsIn : State → List NodeRecord → List ℕ → OpenBlock → Type 0
 EndsIn state nodes work b = (state ≡ stateOf (b .netlist)) × (nodes ≡ b .nodes) × (work ≡ b .work)
 
-abbrev Open : Block → State → Type 0
+abbrev Open : OpenBlock → State → Type 0
 Open b state = IsOpen (b .netlist) state (b .nodes) (b .work)
 
 pub run-as-promised : {n : Netlist} {state state′ : State} {nodes nodes′ : List NodeRecord} {work work′ : List ℕ} {calls : List Call}
@@ -321,5 +321,5 @@ unfolding lentOf givenBack afterCalls
 run-as-promised is ended = (is .itsState, refl, refl)
 run-as-promised {n} {state} {state′} {nodes} {nodes′} {work} {work′} is (called {calls} c given ns ws promised rest) =
     let (_, its-state, arrays) = as-promised is c given ns ws promised in
-    let open-there = subst (λ (b : Block). Open b (stateOf (b .netlist))) (sym arrays) (call-stays-open is c) in
-    subst (λ (b : Block). EndsIn state′ nodes′ work′ (afterCalls b calls)) arrays (run-as-promised (rw its-state open-there) rest)
+    let open-there = subst (λ (b : OpenBlock). Open b (stateOf (b .netlist))) (sym arrays) (call-stays-open is c) in
+    subst (λ (b : OpenBlock). EndsIn state′ nodes′ work′ (afterCalls b calls)) arrays (run-as-promised (rw its-state open-there) rest)

@@ -11,9 +11,9 @@ use Rattle.rules.specs.Checks as Checks
 use Rattle.rules.specs.Paper.{replyOf}
 use Rattle.netlists.specs.Netlists.{padded, blank}
 use Rattle.checker.specs.declared.Examined.{Examined}
-use Rattle.open_blocks.specs.declared.State.{State}
-use Rattle.open_blocks.specs.Work.{stateIn}
-use Rattle.changes.specs.declared.Loaded.{Loaded}
+use Rattle.edit_rules.specs.declared.State.{State}
+use Rattle.edit_rules.specs.Work.{stateIn}
+use Rattle.edit_steps.specs.declared.Loaded.{Loaded}
 use Rattle.edits.specs.declared.Edited.{Edited}
 
 -- a field of the first k of some node records, and `rest` beyond them

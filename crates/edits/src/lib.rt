@@ -1,5 +1,5 @@
 // Open blocks: `open` checks a block and gives the state of it, `edit` takes a new node at the end or gives one up. The state goes in and
-// comes back by value; node records with their marks, and families, stay in the two lent slices. Request A3 is in `open_blocks/specs/`.
+// comes back by value; node records with their marks, and families, stay in the two lent slices. Request A3 is in `edit_rules/specs/`.
 ghost use mathlib.Core.Path.{_≡_};
 ghost use mathlib.Core.Logic.{_↔_};
 ghost use Prim.Native.Nat.{ℕ, _≤_, min};
@@ -11,15 +11,15 @@ ghost use Rattle.rules.specs.Checks.{refused, admitted};
 ghost use Rattle.rules.specs.Demands.{GlitchClear, NothingSuspect, OneProbe};
 ghost use Rattle.rules.specs.Paper.{replyOf};
 ghost use Rattle.netlists.specs.Netlists.{kept};
-ghost use Rattle.open_blocks.specs.Edits.{fits, netlistAfter, replyAfter, recordsAfter, bytesAfter, NothingSuspectAfter};
-ghost use Rattle.open_blocks.specs.Meaning.{editOf, stateOf, IsOpen};
+ghost use Rattle.edit_rules.specs.Edits.{fits, netlistAfter, replyAfter, recordsAfter, bytesAfter, NothingSuspectAfter};
+ghost use Rattle.edit_rules.specs.Meaning.{editOf, stateOf, IsOpen};
 ghost use Rattle.edits.specs.Edited.{loadedFrom, loadedOf, editedOf, openedOf, Kept};
-use changes::Loaded;
 use checker::Examined;
+use edit_rules::Edit;
+use edit_rules::State;
+use edit_steps::Loaded;
 use marks::Marks;
 use netlists::Netlist;
-use open_blocks::Edit;
-use open_blocks::State;
 use rules::MOST_NODES;
 use rules::Node;
 use rules::NodeRecord;
@@ -102,7 +102,7 @@ fn opened_of(examined: Examined) -> Edited
     ensures { λ r. ⌜ r ≡ openedOf examined ⌝ }
 {
     let reply = examined.reply;
-    let state = open_blocks::state_of(examined.netlist);
+    let state = edit_rules::state_of(examined.netlist);
     Edited { reply, state }
 }
 
@@ -171,7 +171,7 @@ pub fn edit(
     ensures kept { λ r. ⌜ Kept state r (now (nodes .entry)) (now (nodes .exit)) (now (work .entry)) (now (work .exit)) ⌝ }
 {
     let loaded = load(state, nodes);
-    let examined = changes::change(loaded, edit, bytes, nodes.len(), work);
+    let examined = edit_steps::change(loaded, edit, bytes, nodes.len(), work);
     checker::store(nodes, examined);
     edited_of(state, examined)
 }

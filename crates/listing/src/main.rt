@@ -8,7 +8,7 @@ use input_bytes::Input;
 use libc::STDERR_FILENO;
 use libc::STDIN_FILENO;
 use libc::STDOUT_FILENO;
-use report::MOST_TEXT;
+use listing_text::MOST_TEXT;
 
 // How many bytes of a file are read.
 const MOST_INPUT: usize = 1024;
@@ -21,7 +21,7 @@ fn list_file(bytes: &[u8], read: usize, text: &mut [u8]) -> usize
         take r (now (text .exit)) ≡ listing file) ⌝ }
     ensures most { λ r. ⌜ r ≤ most-text ⌝ }
 {
-    report::telgouin_listing(&bytes[..read], text)
+    listing_text::telgouin_listing(&bytes[..read], text)
 }
 
 // A read that fails is no end of the file: then there is no listing.

@@ -131,16 +131,16 @@ last-found reports from A e =
 
 -- ---- marks that move down
 
-pub removed-marks : (reports : List (Option ℕ)) (gone last : ℕ) → length reports ≡ suc last → length reports ≤ most-nodes → gone ≤ last
-    → set (shifted (λ m. m) 0 (flatMarks reports) gone (last - gone)) last 0 ≡ flatMarks (without gone reports)
+pub removed-marks : (reports : List (Option ℕ)) (removed last : ℕ) → length reports ≡ suc last → length reports ≤ most-nodes → removed ≤ last
+    → set (shifted (λ m. m) 0 (flatMarks reports) removed (last - removed)) last 0 ≡ flatMarks (without removed reports)
 unfolding flatMarks without
-removed-marks reports gone last many few there =
+removed-marks reports removed last many few there =
     let same = length-map reports markNumber in
     let end : length (map markNumber reports) - 1 ≡ last = omega arith in
-    rw (← end) (padded-without (λ m. m) 0 refl most-nodes (map markNumber reports) (omega arith) gone (omega arith))
+    rw (← end) (padded-without (λ m. m) 0 refl most-nodes (map markNumber reports) (omega arith) removed (omega arith))
     ∙ ap (padded most-nodes 0)
-    (ap₂ _++_ (sym (map-take markNumber gone reports)) (map-id _ ∙ sym (map-drop markNumber (suc gone) reports))
-    ∙ sym (map-append markNumber (take gone reports) (drop (suc gone) reports)))
+    (ap₂ _++_ (sym (map-take markNumber removed reports)) (map-id _ ∙ sym (map-drop markNumber (suc removed) reports))
+    ∙ sym (map-append markNumber (take removed reports) (drop (suc removed) reports)))
 
 -- ---- the marks of a netlist
 

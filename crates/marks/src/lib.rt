@@ -99,14 +99,14 @@ pub fn with_last(netlist: Netlist, marks: Marks, work: &[u8]) -> Marks
 
 // ---- a node given up
 
-// The marks of one layer without a node's: those behind it move down by one, and the last of so many is gone.
-fn without_mark(marks: [u16; MOST_NODES], gone: usize, count: usize) -> [u16; MOST_NODES]
-    requires { ⌜ (gone < count) × (count ≤ most-nodes) ⌝ }
-    ensures { λ r. ⌜ ((reports : List (Option ℕ)) → length reports ≡ count → marks ≡ flatMarks reports → r ≡ flatMarks (without gone reports)) ⌝ }
+// The marks of one layer without a node's: those behind it move down by one, and the last of so many is removed.
+fn without_mark(marks: [u16; MOST_NODES], removed: usize, count: usize) -> [u16; MOST_NODES]
+    requires { ⌜ (removed < count) × (count ≤ most-nodes) ⌝ }
+    ensures { λ r. ⌜ ((reports : List (Option ℕ)) → length reports ≡ count → marks ≡ flatMarks reports → r ≡ flatMarks (without removed reports)) ⌝ }
 {
     let last = count - 1;
     let mut fewer = marks;
-    let mut i = gone;
+    let mut i = removed;
     while i < last {
         fewer[i] = fewer[i + 1];
         i += 1;
@@ -116,16 +116,16 @@ fn without_mark(marks: [u16; MOST_NODES], gone: usize, count: usize) -> [u16; MO
 }
 
 // The marks of both layers without a node's.
-pub fn without_marks(marks: Marks, gone: usize, count: usize) -> Marks
-    requires { ⌜ (gone < count) × (count ≤ most-nodes) ⌝ }
+pub fn without_marks(marks: Marks, removed: usize, count: usize) -> Marks
+    requires { ⌜ (removed < count) × (count ≤ most-nodes) ⌝ }
     ensures { λ r. ⌜ ((settled glitch : List (Option ℕ)) → length settled ≡ count → length glitch ≡ count → marks ≡ marksIn settled glitch →
-        r ≡ marksIn (without gone settled) (without gone glitch)) ⌝ }
+        r ≡ marksIn (without removed settled) (without removed glitch)) ⌝ }
 {
     let settled = marks.settled;
     let glitch = marks.glitch;
     Marks {
-        settled: without_mark(settled, gone, count),
-        glitch: without_mark(glitch, gone, count),
+        settled: without_mark(settled, removed, count),
+        glitch: without_mark(glitch, removed, count),
     }
 }
 

@@ -26,51 +26,51 @@ module _ {A : Type 0} (old : List A) (at : ℕ) (new : List A) (gap : ℕ) (f : 
 
 -- ---- a padded list without an entry
 
--- Those behind the entry that is gone move down by one, each as f makes it, and the last becomes what the list is padded with.
+-- Those behind the entry that is removed move down by one, each as f makes it, and the last becomes what the list is padded with.
 module _ {A : Type 0} (f : A → A) (rest : A) where
   -- a list, of whatever length, once k of them have moved
-  unfoldable pub shifted : List A → (gone k : ℕ) → List A
-  shifted old gone zero = old
-  shifted old gone (suc k) = set (shifted old gone k) (gone + k) (f (getD (shifted old gone k) (gone + k + 1) rest))
+  unfoldable pub shifted : List A → (removed k : ℕ) → List A
+  shifted old removed zero = old
+  shifted old removed (suc k) = set (shifted old removed k) (removed + k) (f (getD (shifted old removed k) (removed + k + 1) rest))
 
-  pub shifted-none : (old : List A) (gone : ℕ) → old ≡ shifted old gone (gone - gone)
+  pub shifted-none : (old : List A) (removed : ℕ) → old ≡ shifted old removed (removed - removed)
   unfolding shifted
-  shifted-none old gone = let none : gone - gone ≡ 0 = omega arith in rw none
+  shifted-none old removed = let none : removed - removed ≡ 0 = omega arith in rw none
 
-  pub shifted-next : (old : List A) (gone i : ℕ) → gone ≤ i
-      → set (shifted old gone (i - gone)) i (f (getD (shifted old gone (i - gone)) (i + 1) rest)) ≡ shifted old gone (i + 1 - gone)
+  pub shifted-next : (old : List A) (removed i : ℕ) → removed ≤ i
+      → set (shifted old removed (i - removed)) i (f (getD (shifted old removed (i - removed)) (i + 1) rest)) ≡ shifted old removed (i + 1 - removed)
   unfolding shifted
-  shifted-next old gone i h =
-      let more : i + 1 - gone ≡ suc (i - gone) = omega arith in
-      let here : gone + (i - gone) ≡ i = omega arith in
+  shifted-next old removed i h =
+      let more : i + 1 - removed ≡ suc (i - removed) = omega arith in
+      let here : removed + (i - removed) ≡ i = omega arith in
       rw (more, here)
 
-  module _ (still : f rest ≡ rest) (old : List A) (gone : ℕ) where
+  module _ (still : f rest ≡ rest) (old : List A) (removed : ℕ) where
     abbrev behind : List A
-    behind = map f (drop (gone + 1) old)
+    behind = map f (drop (removed + 1) old)
 
-    shifted-paste : (k : ℕ) → gone + k < length old → shifted old gone k ≡ paste old gone behind k
+    shifted-paste : (k : ℕ) → removed + k < length old → shifted old removed k ≡ paste old removed behind k
     unfolding shifted
-    shifted-paste zero h = paste-zero old gone behind
-    shifted-paste (suc k) h = rw (shifted-paste k (omega arith)) (moved-next old gone behind 1 f rest k (omega arith) enough next)
+    shifted-paste zero h = paste-zero old removed behind
+    shifted-paste (suc k) h = rw (shifted-paste k (omega arith)) (moved-next old removed behind 1 f rest k (omega arith) enough next)
       where
         enough : k < length behind
-        enough = omega (arith, length-map (drop (gone + 1) old) f, length-drop (gone + 1) old)
+        enough = omega (arith, length-map (drop (removed + 1) old) f, length-drop (removed + 1) old)
 
-        next : getD behind k rest ≡ f (getD old (gone + k + 1) rest)
+        next : getD behind k rest ≡ f (getD old (removed + k + 1) rest)
         next =
-            ap (getD behind k) (sym still) ∙ List·getD-map f (drop (gone + 1) old) k rest
-            ∙ ap f (getD-drop (gone + 1) old k rest ∙ ap (λ (i : ℕ). getD old i rest) (omega arith))
+            ap (getD behind k) (sym still) ∙ List·getD-map f (drop (removed + 1) old) k rest
+            ∙ ap f (getD-drop (removed + 1) old k rest ∙ ap (λ (i : ℕ). getD old i rest) (omega arith))
 
-  module _ (still : f rest ≡ rest) (most : ℕ) (xs : List A) (few : length xs ≤ most) (gone : ℕ) (there : gone < length xs) where
+  module _ (still : f rest ≡ rest) (most : ℕ) (xs : List A) (few : length xs ≤ most) (removed : ℕ) (there : removed < length xs) where
     abbrev last : ℕ
     last = length xs - 1
 
     abbrev moved : List A
-    moved = map f (drop (suc gone) xs)
+    moved = map f (drop (suc removed) xs)
 
     abbrev others : List A
-    others = take gone xs ++ moved
+    others = take removed xs ++ moved
 
     abbrev rests : List A
     rests = replicate (most - length xs) rest
@@ -78,23 +78,23 @@ module _ {A : Type 0} (f : A → A) (rest : A) where
     abbrev old : List A
     old = xs ++ rests
 
-    moved-length : length moved ≡ last - gone
-    moved-length = omega (arith, length-map (drop (suc gone) xs) f, length-drop (suc gone) xs)
+    moved-length : length moved ≡ last - removed
+    moved-length = omega (arith, length-map (drop (suc removed) xs) f, length-drop (suc removed) xs)
 
     others-length : length others ≡ last
-    others-length = omega (arith, length-append (take gone xs) moved, length-take-le gone xs (omega arith), moved-length)
+    others-length = omega (arith, length-append (take removed xs) moved, length-take-le removed xs (omega arith), moved-length)
 
     -- once all have moved, the last entry is left over
-    pasted : paste old gone (behind still old gone) (last - gone) ≡ others ++ drop last old
+    pasted : paste old removed (behind still old removed) (last - removed) ≡ others ++ drop last old
     pasted =
-        let end : gone + (last - gone) ≡ last = omega arith in
-        rw (end, take-append-le gone xs rests (omega arith), add-one gone, drop-append-le (suc gone) xs rests (omega arith), map-append)
-        (ap (λ (l : List A). (take gone xs ++ l) ++ drop last old) (take-at moved _ (last - gone) moved-length))
+        let end : removed + (last - removed) ≡ last = omega arith in
+        rw (end, take-append-le removed xs rests (omega arith), add-one removed, drop-append-le (suc removed) xs rests (omega arith), map-append)
+        (ap (λ (l : List A). (take removed xs ++ l) ++ drop last old) (take-at moved _ (last - removed) moved-length))
 
-    pub padded-without : set (shifted (padded most rest xs) gone (last - gone)) last rest ≡ padded most rest others
+    pub padded-without : set (shifted (padded most rest xs) removed (last - removed)) last rest ≡ padded most rest others
     unfolding padded
     padded-without =
-        rw (shifted-paste still old gone (last - gone) (omega (arith, many)), pasted, fewer)
+        rw (shifted-paste still old removed (last - removed) (omega (arith, many)), pasted, fewer)
         (ap (λ (l : List A). set (others ++ l) last rest) left ∙ set-at others (getD old last rest) rests rest last others-length)
       where
         many : length old ≡ length xs + length rests

@@ -183,23 +183,23 @@ module _ (n : Netlist) where
         at q h t (no d) = leads .points q (omega arith) t
 
     -- of a gate: the marks without its own, and then with those of its operands
-    abbrev without : List Bool
-    without = set marks i false
+    abbrev cleared : List Bool
+    cleared = set marks i false
 
     abbrev passed : List Bool
-    passed = markAll (operands (node-at i)) without
+    passed = markAll (operands (node-at i)) cleared
 
     lower : All (λ a. a < i) (operands (node-at i))
     lower = formed .lower i there
 
     passed-operand : All (Marked passed) (operands (node-at i))
-    passed-operand = mark-new (operands (node-at i)) without (λ a t. rw (length-set marks i false) (omega (arith, lower a t)))
+    passed-operand = mark-new (operands (node-at i)) cleared (λ a t. rw (length-set marks i false) (omega (arith, lower a t)))
 
     passed-other : (q : ℕ) → (q ≡ i → ⊥) → Marked marks q → Marked passed q
-    passed-other q d t = mark-kept (operands (node-at i)) without q (rw (getD-set-other marks i q false false d) t)
+    passed-other q d t = mark-kept (operands (node-at i)) cleared q (rw (getD-set-other marks i q false false d) t)
 
     passed-cases : (q : ℕ) → Marked passed q → T (member q (operands (node-at i))) ⊎ ((q ≡ i → ⊥) × Marked marks q)
-    passed-cases q t = ⊎-elim inl (λ u. inr (gone-cases marks i q u)) (mark-cases (operands (node-at i)) without q t)
+    passed-cases q t = ⊎-elim inl (λ u. inr (gone-cases marks i q u)) (mark-cases (operands (node-at i)) cleared q t)
 
     handed : Marked marks i → (T (isPoint (node-at i)) → ⊥) → Leads node passed i
     handed m gate = record {

@@ -83,7 +83,7 @@ fn settled_values(netlist: Netlist, assignment: usize) -> [bool; MOST_NODES]
 pub fn settled_value(bytes: &[u8], node: usize, assignment: usize) -> ValueReply
     ensures { λ r. ⌜ valueOf r ≡ valueQuery (now (bytes .entry)) node assignment ⌝ }
 {
-    let file = asking::ask_with(bytes, node, assignment);
+    let file = query_netlists::ask_with(bytes, node, assignment);
     let outcome = file.outcome;
     let netlist = file.netlist;
     let QueryOutcome::Answered = outcome else {
@@ -146,7 +146,7 @@ fn feeding_marks(netlist: Netlist, node: usize) -> [bool; MOST_NODES]
 pub fn feeding_points(bytes: &[u8], node: usize) -> FeedingReply
     ensures { λ r. ⌜ feedingOf r ≡ feedingQuery (now (bytes .entry)) node ⌝ }
 {
-    let file = asking::ask(bytes, node);
+    let file = query_netlists::ask(bytes, node);
     let outcome = file.outcome;
     let netlist = file.netlist;
     let QueryOutcome::Answered = outcome else {
@@ -184,7 +184,7 @@ fn in_families(netlist: Netlist, node: usize, set: usize) -> MembershipReply
 pub fn memberships(bytes: &[u8], node: usize, set: usize) -> MembershipReply
     ensures { λ r. ⌜ membershipOf r ≡ membershipQuery (now (bytes .entry)) node set ⌝ }
 {
-    let file = asking::ask_with(bytes, node, set);
+    let file = query_netlists::ask_with(bytes, node, set);
     let outcome = file.outcome;
     let netlist = file.netlist;
     let QueryOutcome::Answered = outcome else {

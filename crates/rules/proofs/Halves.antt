@@ -52,10 +52,10 @@ module _ (variables : List Class) where
       go true e = stays A C F (λ u. earlier-not-later C A (pass e)) r
       go false e = leads A F s (λ B m u. not-later-trans A C B (not-earlier C A (λ t. rw e at t)) (r .2 B m u))
 
-  without : (A : ℕ) (F : Family) (o : Option ℕ) → T (not (suspect variables A)) → Reporting variables F o
+  not-suspect : (A : ℕ) (F : Family) (o : Option ℕ) → T (not (suspect variables A)) → Reporting variables F o
       → Reporting variables (A ∷ F) o
-  without A F none s r = all-front (λ B. T (not (suspect variables B))) A F s r
-  without A F (some C) s r = stays A C F (λ u. absurd (T-not (suspect variables A) s u)) r
+  not-suspect A F none s r = all-front (λ B. T (not (suspect variables B))) A F s r
+  not-suspect A F (some C) s r = stays A C F (λ u. absurd (T-not (suspect variables A) s u)) r
 
   reporting : (F : Family) → Reporting variables F (reported variables F)
   unfolding reported
@@ -65,7 +65,7 @@ module _ (variables : List Class) where
       go : (b : Bool) → suspect variables A ≡ b → (o : Option ℕ) → Reporting variables F o
           → Reporting variables (A ∷ F) (cond b (better A o) o)
       go true e o r = with-suspect A F o (pass e) r
-      go false e o r = without A F o (pass (ap not e)) r
+      go false e o r = not-suspect A F o (pass (ap not e)) r
 
 -- nothing is reported of a family exactly when no set of it is suspect
 pub reported-none : (variables : List Class) (F : Family) → reported variables F ≡ none

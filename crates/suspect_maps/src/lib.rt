@@ -15,7 +15,7 @@ use families::PART;
 const APART: usize = 0x0103_050f_1133_55ff;
 
 // Of the eight sets in byte `j` of a family, those that hold none of the variables.
-fn without(variables: usize, j: u8) -> u8
+fn disjoint_sets(variables: usize, j: u8) -> u8
     ensures { λ r. ⌜ ((k : ℕ) → k < 8 → odd (r / 2 ^ k) ≡ eqb (bitAnd (8 * j + k) variables) 0) ⌝ }
 {
     let high = (variables / 8 % 256) as u8;
@@ -44,7 +44,7 @@ pub fn suspect_map(secrets: usize, masks: usize) -> [u8; PART]
     let mut j = 0;
     while j < PART {
         let byte = map[j];
-        map[j] = !without(secrets, byte) & without(masks, byte);
+        map[j] = !disjoint_sets(secrets, byte) & disjoint_sets(masks, byte);
         j += 1;
     }
     map

@@ -24,7 +24,7 @@ use Rattle.rules.proofs.Marks.{marks-length}
 use Rattle.families.specs.Parts.{familyAt}
 use Rattle.families.proofs.Parts.{below-at}
 use Rattle.families.proofs.Work.{Alike, settled-there, glitch-there}
-use Rattle.report_order.specs.Order.{setAt}
+use Rattle.set_order.specs.Order.{setAt}
 use Rattle.suspects.specs.Suspects.{reportsIn, foundFrom}
 use Rattle.suspects.proofs.Suspects.{reported-same, reported-nothing, reported-first}
 
@@ -69,13 +69,13 @@ module _ (n : Netlist) (layer : ℕ) (bytes : List ℕ) (i : ℕ) where
   pub search-start : (met : Bool) → (met ≡ false → (k : ℕ) → k < most-sets → suspectIn n layer bytes i (setAt k) ≡ false) → (place : ℕ)
       → place ≡ cond (tested (getD (n .nodes) i (input 0)) && met) 0 most-sets → Searched n layer bytes i place
   unfolding cell
-  search-start met without place start = go (tested cell) met refl without start
+  search-start met absent place start = go (tested cell) met refl absent start
     where
       go : (b m : Bool) → tested cell ≡ b → (m ≡ false → (k : ℕ) → k < most-sets → suspectIn n layer bytes i (setAt k) ≡ false)
           → place ≡ cond (b && m) 0 most-sets → Searched n layer bytes i place
-      go true true e without first = record { isTested = λ l. pass e; before = λ k l t. absurd (omega arith) }
-      go true false e without last = record { isTested = λ l. pass e; before = λ k l t. without refl k (omega arith) }
-      go false m e without last = record { isTested = λ l. absurd (omega arith); before = λ k l t. absurd (rw e at t) }
+      go true true e absent first = record { isTested = λ l. pass e; before = λ k l t. absurd (omega arith) }
+      go true false e absent last = record { isTested = λ l. pass e; before = λ k l t. absent refl k (omega arith) }
+      go false m e absent last = record { isTested = λ l. absurd (omega arith); before = λ k l t. absurd (rw e at t) }
 
   pub search-more : (place : ℕ) → Searched n layer bytes i place → suspectIn n layer bytes i (setAt place) ≡ false
       → Searched n layer bytes i (place + 1)

@@ -22,8 +22,8 @@ use Rattle.rules.proofs.Tests.{pass, and-left, and-right, same-test}
 use Rattle.rules.proofs.Lists.{digit-small}
 use Rattle.rules.proofs.ReportOrder.{NotLater}
 use Rattle.rules.proofs.Halves.{reported-none, reported-clear, reported-exactly}
-use Rattle.report_order.specs.Order.{setAt}
-use Rattle.report_order.proofs.Order.{place-of, set-low, set-not-later}
+use Rattle.set_order.specs.Order.{setAt}
+use Rattle.set_order.proofs.Order.{place-of, set-low, set-not-later}
 use Rattle.suspect_maps.specs.Maps.{suspectBy, Common}
 use Rattle.suspects.specs.Suspects.{variablesOf}
 

@@ -15,8 +15,8 @@ ghost use Rattle.families.specs.Parts.{HasPart, familyAt};
 ghost use Rattle.suspects.specs.Suspects.{variablesOf, reportOf, reportsIn, foundFrom, Within};
 use families::SETS;
 use netlists::Netlist;
-use report_order::sets_in_order;
 use rules::Half;
+use set_order::sets_in_order;
 
 // The bit of variable `v`, or 0 where the answer is no.
 fn bit_if(yes: bool, v: usize) -> usize

@@ -7,13 +7,13 @@ use lib.Dec.{eqb}
 use lib.ListN.{length, getD, drop}
 use Rattle.io.specs.Counts.{Counts}
 use Rattle.rules.specs.Listing.{word, most-input}
-use Rattle.block_words.specs.Words.{same}
-use Rattle.block_words.specs.Meaning.{TellsBlock}
-use Rattle.block_words.specs.declared.BlockWords.the-variants as BlockWords
+use Rattle.read_words.specs.Words.{same}
+use Rattle.read_words.specs.Meaning.{TellsBlock}
+use Rattle.read_words.specs.declared.BlockWords.the-variants as BlockWords
 use Rattle.telgouin.specs.declared.files.Read.{Read}
 use Rattle.telgouin.specs.declared.files.Read.the-variants as Read
-use Rattle.telgouin.specs.declared.files.Block.{Block}
-use Rattle.telgouin.specs.declared.files.Block.the-variants as Block
+use Rattle.telgouin.specs.declared.files.ReadBlock.{ReadBlock}
+use Rattle.telgouin.specs.declared.files.ReadBlock.the-variants as ReadBlock
 
 -- from so many entries on, two lists are the same
 abbrev pub SameBehind : (count : ℕ) (before after : List ℕ) → Type 0
@@ -31,15 +31,15 @@ pub record InWords (count last : ℕ) (bytes-before lines-before bytes lines : L
   pub tells : TellsBlock (BlockWords.Bytes count last) text bytes-before lines-before bytes lines
 
 -- A block has at most 1,024 bytes. Where its text has lines, the bytes and the line of each record are what that text says.
-abbrev pub FromFile : Block → (bytes-before lines-before bytes lines : List ℕ) → Type 0
-FromFile (Block.Bytes count last) bytes-before lines-before bytes lines =
+abbrev pub FromFile : ReadBlock → (bytes-before lines-before bytes lines : List ℕ) → Type 0
+FromFile (ReadBlock.Bytes count last) bytes-before lines-before bytes lines =
     (count ≤ most-input) × (0 < last → InWords count last bytes-before lines-before bytes lines)
-FromFile Block.None bytes-before lines-before bytes lines = Unit {0}
+FromFile ReadBlock.None bytes-before lines-before bytes lines = Unit {0}
 
 -- a block that is given as bytes has no lines
-abbrev pub AsBytes : Block → Type 0
-AsBytes (Block.Bytes count last) = (count ≤ most-input) × (last ≡ 0)
-AsBytes Block.None = Unit {0}
+abbrev pub AsBytes : ReadBlock → Type 0
+AsBytes (ReadBlock.Bytes count last) = (count ≤ most-input) × (last ≡ 0)
+AsBytes ReadBlock.None = Unit {0}
 
 -- whether a file has a block in words: its name ends in `.txt`
 unfoldable pub hasWords : (name : List ℕ) → Bool

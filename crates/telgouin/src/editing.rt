@@ -9,12 +9,11 @@ ghost use Rattle.rules.specs.Records.{most-nodes, most-bytes};
 ghost use Rattle.rules.specs.Checks.{answered, admitted, most-work};
 ghost use Rattle.rules.specs.Slices.{reply};
 ghost use Rattle.rules.specs.Paper.{replyOf};
-ghost use Rattle.worded_blocks.specs.Worded.{most-words};
+ghost use Rattle.write_words.specs.Worded.{most-words};
 ghost use Rattle.edit_turns.specs.Turns.{Standing, failed};
 ghost use Rattle.edit_turns.specs.Meaning.{Stands};
 ghost use Rattle.telgouin.specs.Editing.{Fits, Wrote, Obeyed, Stepped, Ran, Edited};
 use crate::files::has_words;
-use block_words::Fault;
 use desk::ask::list;
 use desk::say::say;
 use desk::say::say_answer;
@@ -28,12 +27,13 @@ use edit_lines::Asked;
 use edit_turns::Told;
 use edit_turns::Turn;
 use libc::STDIN_FILENO;
+use read_words::Fault;
 use rules::MOST_VARIABLES;
 use rules::MOST_WORK;
 use rules::Refusal;
 use rules::Reply;
-use worded_blocks::MOST_WORDS;
-use written_blocks::MOST_WRITTEN;
+use write_bytes::MOST_WRITTEN;
+use write_words::MOST_WORDS;
 
 // The most bytes of an edit's line, its line feed among them.
 const MOST_LINE: usize = 4097;
@@ -78,7 +78,7 @@ fn words_end(line: &[u8]) -> usize
     let mut end = 0;
     let mut k = 0;
     while k < line.len() {
-        let word = block_words::word_at(line, k);
+        let word = read_words::word_at(line, k);
         let from = word.from;
         let to = word.to;
         if from == to {
@@ -113,7 +113,7 @@ fn shown_end(line: &[u8]) -> usize
 fn say_no_edit(line: &[u8]) {
     let end = shown_end(line);
     let words = &line[..end];
-    let word = block_words::word_at(words, 0);
+    let word = read_words::word_at(words, 0);
     let from = word.from;
     say(b"expected add RECORD, remove NODE, list, write OUT or quit, found: ");
     say_found(&words[from..]);
@@ -123,14 +123,14 @@ fn say_no_edit(line: &[u8]) {
 fn say_no_record(line: &[u8], fault: Fault) {
     let end = words_end(line);
     let words = &line[..end];
-    let word = block_words::word_at(words, 1);
+    let word = read_words::word_at(words, 1);
     let from = word.from;
     say_fault_found(fault, &words[from..]);
 }
 
 // The word behind `remove`, which is no number.
 fn say_no_node(line: &[u8]) {
-    let word = block_words::word_at(line, 1);
+    let word = read_words::word_at(line, 1);
     let from = word.from;
     let to = word.to;
     say_no_number(&line[from..to]);
@@ -164,7 +164,7 @@ fn list_block(turn: Turn) {
     let held = turn.held;
     let state = held.state;
     let nodes = held.nodes;
-    let count = written_blocks::write_out(state, nodes, &mut bytes);
+    let count = write_bytes::write_out(state, nodes, &mut bytes);
     list_first(&bytes, count);
 }
 
@@ -191,11 +191,11 @@ fn write_block(name: &[u8], turn: Turn) -> bool {
     let nodes = held.nodes;
     if has_words(name) {
         let mut text = [0u8; MOST_WORDS];
-        let count = worded_blocks::write_words(state, nodes, &mut text);
+        let count = write_words::write_words(state, nodes, &mut text);
         return write_text(name, &text, count);
     }
     let mut bytes = [0u8; MOST_WRITTEN];
-    let count = written_blocks::write_out(state, nodes, &mut bytes);
+    let count = write_bytes::write_out(state, nodes, &mut bytes);
     write_first(name, &bytes, count)
 }
 

@@ -2,12 +2,8 @@
 ghost use mathlib.Core.Path.{_≡_};
 ghost use Prim.Native.Nat.{_+_, _<_};
 ghost use Rattle.rules.specs.Paper.{numberOf, placeOf};
-ghost use Rattle.telgouin.specs.declared.files.Block.the-variants.{None};
+ghost use Rattle.telgouin.specs.declared.files.ReadBlock.the-variants.{None};
 ghost use Rattle.telgouin.specs.Files.{SameBehind, FrontRead, FromFile, AsBytes, hasWords, lineIn};
-use block_words::BlockWords;
-use block_words::MOST_BLOCK;
-use block_words::MOST_TEXT;
-use block_words::Number;
 use desk::say::say;
 use desk::say::say_fault;
 use desk::say::say_found;
@@ -15,6 +11,10 @@ use desk::say::say_no_number;
 use desk::say::say_number;
 use input_bytes::Input;
 use libc::STDIN_FILENO;
+use read_words::BlockWords;
+use read_words::MOST_BLOCK;
+use read_words::MOST_TEXT;
+use read_words::Number;
 use rules::Refusal;
 
 // The argument that names the file, and the first of the numbers behind it.
@@ -34,7 +34,7 @@ fn take_number(i: usize, into: &mut [usize; MOST_NUMBERS], k: usize) -> bool
 {
     let mut word = io::buffer();
     let length = os::arg(i, &mut word);
-    match block_words::number_of(&word[..length]) {
+    match read_words::number_of(&word[..length]) {
         Number::Is(x) => {
             into[k] = x;
             true
@@ -98,41 +98,45 @@ fn read_from(fd: i32, into: &mut [u8]) -> Read
 
 // A block: so many bytes of it, and how many lines its text in words has, or 0 for one that is given as bytes; or none, and what was expected
 // has been said.
-pub enum Block {
+pub enum ReadBlock {
     Bytes(usize, usize),
     None,
 }
 
 // A file that cannot be read.
-fn unreadable(name: &[u8]) -> Block
+fn unreadable(name: &[u8]) -> ReadBlock
     ensures { λ r. ⌜ r ≡ None ⌝ }
 {
     say(b"expected a file that can be read, found: ");
     say_found(name);
-    Block::None
+    ReadBlock::None
 }
 
 // A block in words.
-fn translated(text: &[u8], bytes: &mut [u8; MOST_BLOCK], lines: &mut [usize; MOST_BLOCK]) -> Block
+fn translated(
+    text: &[u8],
+    bytes: &mut [u8; MOST_BLOCK],
+    lines: &mut [usize; MOST_BLOCK],
+) -> ReadBlock
     ensures { λ r. ⌜ FromFile r (now (bytes .entry)) (now (lines .entry)) (now (bytes .exit)) (now (lines .exit)) ⌝ }
 {
-    match block_words::block_of(text, bytes, lines) {
-        BlockWords::Bytes(count, last) => Block::Bytes(count, last),
+    match read_words::block_of(text, bytes, lines) {
+        BlockWords::Bytes(count, last) => ReadBlock::Bytes(count, last),
         BlockWords::Wrong(fault, line) => {
             say_fault(fault, line);
-            Block::None
+            ReadBlock::None
         }
     }
 }
 
 // Too long a text in words.
-fn too_long() -> Block
+fn too_long() -> ReadBlock
     ensures { λ r. ⌜ r ≡ None ⌝ }
 {
     say(b"expected at most ");
     say_number(MOST_TEXT);
     say(b" bytes of words, found more\n");
-    Block::None
+    ReadBlock::None
 }
 
 // Reads a block in words, by way of `text`.
@@ -142,7 +146,7 @@ fn read_words(
     text: &mut [u8],
     bytes: &mut [u8; MOST_BLOCK],
     lines: &mut [usize; MOST_BLOCK],
-) -> Block
+) -> ReadBlock
     ensures { λ r. ⌜ FromFile r (now (bytes .entry)) (now (lines .entry)) (now (bytes .exit)) (now (lines .exit)) ⌝ }
 {
     match read_from(fd, text) {
@@ -153,13 +157,13 @@ fn read_words(
 }
 
 // A block that is given as bytes.
-fn read_bytes(fd: i32, name: &[u8], bytes: &mut [u8; MOST_BLOCK]) -> Block
+fn read_bytes(fd: i32, name: &[u8], bytes: &mut [u8; MOST_BLOCK]) -> ReadBlock
     ensures { λ r. ⌜ AsBytes r ⌝ }
 {
     match read_from(fd, bytes) {
         Read::Failed => unreadable(name),
-        Read::First(count) => Block::Bytes(count, 0),
-        Read::All(count) => Block::Bytes(count, 0),
+        Read::First(count) => ReadBlock::Bytes(count, 0),
+        Read::All(count) => ReadBlock::Bytes(count, 0),
     }
 }
 
@@ -171,10 +175,14 @@ pub fn has_words(name: &[u8]) -> bool
     if name.len() > 4 {
         from = name.len() - 4;
     }
-    block_words::is_word(&name[from..], b".txt")
+    read_words::is_word(&name[from..], b".txt")
 }
 
-fn read_named(name: &[u8], bytes: &mut [u8; MOST_BLOCK], lines: &mut [usize; MOST_BLOCK]) -> Block
+fn read_named(
+    name: &[u8],
+    bytes: &mut [u8; MOST_BLOCK],
+    lines: &mut [usize; MOST_BLOCK],
+) -> ReadBlock
     ensures { λ r. ⌜ FromFile r (now (bytes .entry)) (now (lines .entry)) (now (bytes .exit)) (now (lines .exit)) ⌝ }
 {
     let fd = os::open_read(name);
@@ -197,17 +205,17 @@ pub fn read_block(
     edits: bool,
     bytes: &mut [u8; MOST_BLOCK],
     lines: &mut [usize; MOST_BLOCK],
-) -> Block
+) -> ReadBlock
     ensures { λ r. ⌜ FromFile r (now (bytes .entry)) (now (lines .entry)) (now (bytes .exit)) (now (lines .exit)) ⌝ }
 {
     let mut path = io::buffer();
     let length = os::arg(FILE, &mut path);
-    if !block_words::is_word(&path[..length], b"-") {
+    if !read_words::is_word(&path[..length], b"-") {
         return read_named(&path[..length], bytes, lines);
     }
     if edits {
         say(b"expected a file to edit, found: -, where the edits are\n");
-        return Block::None;
+        return ReadBlock::None;
     }
     read_bytes(STDIN_FILENO, &path[..length], bytes)
 }

@@ -4,8 +4,6 @@ mod files;
 
 ghost use Prim.Native.Nat.{_≤_};
 ghost use Rattle.rules.specs.Listing.{most-input};
-use block_words::MOST_BLOCK;
-use block_words::is_word;
 use desk::ask;
 use desk::help;
 use desk::picture;
@@ -14,9 +12,11 @@ use desk::say::say_found;
 use desk::say::say_refused;
 use desk::search;
 use desk::why;
-use files::Block;
 use files::MOST_NUMBERS;
+use files::ReadBlock;
 use netlists::Netlist;
+use read_words::MOST_BLOCK;
+use read_words::is_word;
 use rules::QueryOutcome;
 
 // The commands.
@@ -174,8 +174,8 @@ fn run(command: Command, count: usize) {
     let mut bytes = [0u8; MOST_BLOCK];
     let mut lines = [0usize; MOST_BLOCK];
     match files::read_block(has_edits(command), &mut bytes, &mut lines) {
-        Block::None => {}
-        Block::Bytes(length, last) => {
+        ReadBlock::None => {}
+        ReadBlock::Bytes(length, last) => {
             run_block(command, &bytes, length, &lines, last, numbers, count);
         }
     }

@@ -16,8 +16,8 @@ all-marks-requires c κs =
     let ready = c .before .before .before .before .before .before .pre in
     record { variables = few-variables (ready .formed); nodes = few-nodes (ready .formed); room = search needs }
 
-look-requires : tie.Need-look-requires
-look-requires c κs = few-nodes (c .before .before .before .before .before .before .before .pre .formed)
+read-marks-requires : tie.Need-read-marks-requires
+read-marks-requires c κs = few-nodes (c .before .before .before .before .before .before .before .pre .formed)
 
 same-length : tie.Need-same-length
 same-length c = search needs
@@ -28,8 +28,8 @@ returns c =
     λ n e.
     let written = c .before .before .before .before .before .all-families .ensures n e in
     let found = c .before .all-marks .ensures n e in
-    answers _ n e _ (rw written at found ∙ marks-there n (well-formed (start .pre .formed) n e) _) _ _ written (c .look .ensures)
+    answers _ n e _ (rw written at found ∙ marks-there n (well-formed (start .pre .formed) n e) _) _ _ written (c .read-marks .ensures)
 
 pub answer-spec : {M : Type 1} → statement M
 answer-spec =
-    tie.close (tie.spec all-families-requires all-marks-requires look-requires same-length returns)
+    tie.close (tie.spec all-families-requires all-marks-requires read-marks-requires same-length returns)

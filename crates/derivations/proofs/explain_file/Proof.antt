@@ -4,7 +4,7 @@ use mathlib.Core.Path.{refl}
 use borrow.Author.Needs.{needs}
 use Rattle.rules.specs.Checks.{andThen}
 use Rattle.netlists.proofs.Netlists.{read-stands, read-refused}
-use Rattle.asking.proofs.Asking.{stands-formed, stands-node, stands-with, stands-number}
+use Rattle.query_netlists.proofs.Asking.{stands-formed, stands-node, stands-with, stands-number}
 use Rattle.derivation_rules.specs.Derivations.{derivable}
 use Rattle.derivations.proofs.Told.{told-refused}
 use Rattle.derivations.proofs.explain_file.Statement.{statement}

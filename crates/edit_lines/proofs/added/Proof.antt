@@ -1,6 +1,6 @@
 -- `edit_lines::added` meets its contract: the record of the words behind `add`. Assumes nothing.
 use borrow.Author.Needs.{needs}
-use Rattle.block_words.proofs.Words.{to-the-end}
+use Rattle.read_words.proofs.Words.{to-the-end}
 use Rattle.edit_lines.proofs.Asks.{adds-nothing, adds-wrong, adds-record}
 use Rattle.edit_lines.proofs.added.Statement.{statement}
 use Rattle.edit_lines.proofs.added.Tie as tie

@@ -7,9 +7,9 @@ use borrow.Author.Needs.{needs}
 use lib.ListN.{drop}
 use denote.Ref.{now}
 use Rattle.rules.specs.Listing.{word}
-use Rattle.block_words.specs.Words.{words, same}
-use Rattle.block_words.specs.Scans.{part}
-use Rattle.block_words.proofs.Words.{none-left, one-more}
+use Rattle.read_words.specs.Words.{words, same}
+use Rattle.read_words.specs.Scans.{part}
+use Rattle.read_words.proofs.Words.{none-left, one-more}
 use Rattle.edit_lines.specs.Asks.{asked}
 use Rattle.edit_lines.proofs.by_words.Statement.{statement}
 use Rattle.edit_lines.proofs.by_words.Tie as tie

@@ -2,7 +2,7 @@
 use native.Mathlib.Omega.{arith}
 use native.Mathlib.Nat.{sub-self}
 use borrow.Author.Needs.{needs}
-use Rattle.block_words.proofs.Words.{none-left, one-more}
+use Rattle.read_words.proofs.Words.{none-left, one-more}
 use Rattle.edit_lines.specs.Asks.{only}
 use Rattle.edit_lines.proofs.only_word.Statement.{statement}
 use Rattle.edit_lines.proofs.only_word.Tie as tie

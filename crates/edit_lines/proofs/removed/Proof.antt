@@ -3,8 +3,8 @@ use mathlib.Core.Path.{_≡_, ap, _∙_}
 use borrow.Author.Needs.{needs}
 use lib.ListN.{drop}
 use denote.Ref.{now}
-use Rattle.block_words.specs.Words.{words}
-use Rattle.block_words.specs.Numbers.{numberIn}
+use Rattle.read_words.specs.Words.{words}
+use Rattle.read_words.specs.Numbers.{numberIn}
 use Rattle.edit_lines.specs.Asks.{only, givenUp}
 use Rattle.edit_lines.proofs.removed.Statement.{statement}
 use Rattle.edit_lines.proofs.removed.Tie as tie

@@ -1,6 +1,6 @@
 -- `edit_lines::unless_more` meets its contract: whether there is a word behind the first. Assumes nothing.
 use borrow.Author.Needs.{needs}
-use Rattle.block_words.proofs.Words.{none-left, one-more}
+use Rattle.read_words.proofs.Words.{none-left, one-more}
 use Rattle.edit_lines.specs.Asks.{alone}
 use Rattle.edit_lines.proofs.unless_more.Statement.{statement}
 use Rattle.edit_lines.proofs.unless_more.Tie as tie

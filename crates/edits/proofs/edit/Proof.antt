@@ -43,31 +43,31 @@ use denote.Exit.{yes}
 use borrow.Rule.Slice.Reshare.{keptS}
 use Rattle.rules.specs.declared.NodeRecord.{NodeRecord}
 use Rattle.checker.specs.declared.Examined.{Examined}
-use Rattle.open_blocks.specs.declared.State.{State}
-use Rattle.open_blocks.specs.declared.Edit.{Edit}
-use Rattle.open_blocks.specs.Edits as Edits
-use Rattle.open_blocks.specs.Meaning.{editOf}
-use Rattle.changes.specs.declared.Loaded.{Loaded}
-use Rattle.changes.specs.Changes.{Changes}
+use Rattle.edit_rules.specs.declared.State.{State}
+use Rattle.edit_rules.specs.declared.Edit.{Edit}
+use Rattle.edit_rules.specs.Edits as Edits
+use Rattle.edit_rules.specs.Meaning.{editOf}
+use Rattle.edit_steps.specs.declared.Loaded.{Loaded}
+use Rattle.edit_steps.specs.Changes.{Changes}
 use Rattle.edits.specs.declared.Edited.{Edited}
 use Rattle.edits.specs.Edited.{loadedOf, editedOf}
 use Rattle.rules.proofs.NodeRecord as T
-use Rattle.changes.proofs.Loaded as N
-use Rattle.changes.proofs.Loaded.Laws as N′
+use Rattle.edit_steps.proofs.Loaded as N
+use Rattle.edit_steps.proofs.Loaded.Laws as N′
 use Rattle.checker.proofs.Examined as E
 use Rattle.checker.proofs.Examined.Laws as E′
 use Rattle.checker.proofs.Lent.{slice₀, slice₁, slice₂, to-bytes, to-nodes, shown, slices-left, tokens-back, calls-ended, calls-plain, Store, calls-stores}
 use Rattle.checker.proofs.store.Symbol as store-def
 use Rattle.checker.proofs.store.Symbol.{name as #checker·store}
 use Rattle.checker.proofs.store.Met as store-thm
-use Rattle.open_blocks.proofs.State as S
-use Rattle.open_blocks.proofs.State.Laws as S′
-use Rattle.open_blocks.proofs.Edit as D
-use Rattle.open_blocks.proofs.Edit.Laws as D′
-use Rattle.changes.proofs.change as change
-use Rattle.changes.proofs.change.Symbol as change-def
-use Rattle.changes.proofs.change.Symbol.{name as #changes·change}
-use Rattle.changes.proofs.change.Met as change-thm
+use Rattle.edit_rules.proofs.State as S
+use Rattle.edit_rules.proofs.State.Laws as S′
+use Rattle.edit_rules.proofs.Edit as D
+use Rattle.edit_rules.proofs.Edit.Laws as D′
+use Rattle.edit_steps.proofs.change as change
+use Rattle.edit_steps.proofs.change.Symbol as change-def
+use Rattle.edit_steps.proofs.change.Symbol.{name as #changes·change}
+use Rattle.edit_steps.proofs.change.Met as change-thm
 use Rattle.edits.proofs.Edited as R
 use Rattle.edits.proofs.Edited.Laws as R′
 use Rattle.edits.proofs.Promises.{Promised, promises}

@@ -50,15 +50,15 @@ use denote.Exit.{yes}
 use Rattle.rules.specs.Records.{most-nodes}
 use Rattle.rules.specs.declared.NodeRecord.{NodeRecord}
 use Rattle.checker.specs.Work.{unwritten, noEntries}
-use Rattle.changes.specs.declared.Loaded.{Loaded}
-use Rattle.open_blocks.specs.declared.State.{State}
+use Rattle.edit_steps.specs.declared.Loaded.{Loaded}
+use Rattle.edit_rules.specs.declared.State.{State}
 use Rattle.edits.specs.Edited.{loadedFrom, loadedOf}
 use Rattle.rules.proofs.NodeRecord as T
 use Rattle.rules.proofs.NodeRecord.Laws as T′
-use Rattle.changes.proofs.Loaded as N
-use Rattle.changes.proofs.Loaded.Laws as N′
-use Rattle.open_blocks.proofs.State as S
-use Rattle.open_blocks.proofs.State.Laws as S′
+use Rattle.edit_steps.proofs.Loaded as N
+use Rattle.edit_steps.proofs.Loaded.Laws as N′
+use Rattle.edit_rules.proofs.State as S
+use Rattle.edit_rules.proofs.State.Laws as S′
 use Rattle.checker.proofs.Laid.{Records, array, typed-record, typed-records, lays-out, takes-up, record-out}
 use Rattle.checker.proofs.Lent.{calls-ended, calls-plain}
 use Rattle.checker.proofs.Stored.{stored-none, stored-more}

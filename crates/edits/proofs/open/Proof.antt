@@ -54,7 +54,7 @@ use Rattle.checker.proofs.store.Symbol.{name as #checker·store}
 use Rattle.checker.proofs.store.Met as store-thm
 use Rattle.edits.proofs.Edited as R
 use Rattle.edits.proofs.Edited.Laws as R′
-use Rattle.changes.proofs.Changing.{value-state}
+use Rattle.edit_steps.proofs.Changing.{value-state}
 use Rattle.edits.proofs.opened_of as opened-of
 use Rattle.edits.proofs.opened_of.Symbol as opened-of-def
 use Rattle.edits.proofs.opened_of.Symbol.{name as #edits·opened-of}

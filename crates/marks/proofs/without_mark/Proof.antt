@@ -1,4 +1,4 @@
--- `marks::without_mark` meets its contract. The loop's invariant: of the marks behind the one that is gone those up to `i` have moved down
+-- `marks::without_mark` meets its contract. The loop's invariant: of the marks behind the one that is removed those up to `i` have moved down
 -- by one, and all others stand. The measure is what is left of the marks. Assumes nothing.
 use Prim.Native.Nat.{_-_, _≤_}
 use mathlib.Core.Path.{_≡_}
@@ -9,16 +9,16 @@ use Rattle.marks.proofs.without_mark.Statement.{statement}
 use Rattle.marks.proofs.without_mark.Tie as tie
 
 abbrev Inv-loop : tie.InvT-loop
-Inv-loop gone count last fewer₀ i₀ fewer i = (gone ≤ i) × (i ≤ last) × (fewer ≡ shifted (λ m. m) 0 fewer₀ gone (i - gone))
+Inv-loop removed count last fewer₀ i₀ fewer i = (removed ≤ i) × (i ≤ last) × (fewer ≡ shifted (λ m. m) 0 fewer₀ removed (i - removed))
 
 abbrev μ-loop : tie.MeasureT-loop
-μ-loop gone count last fewer₀ i₀ fewer i = last - i
+μ-loop removed count last fewer₀ i₀ fewer i = last - i
 
 sub-last : tie.Need-sub-last Inv-loop μ-loop
 sub-last c = omega arith
 
 loop-holds : tie.Need-loop-holds Inv-loop μ-loop
-loop-holds c = (omega arith, omega arith, shifted-none (λ m. m) 0 (c .args .marks) (c .args .gone))
+loop-holds c = (omega arith, omega arith, shifted-none (λ m. m) 0 (c .args .marks) (c .args .removed))
 
 add-fewer : tie.Need-add-fewer Inv-loop μ-loop
 add-fewer c = omega arith

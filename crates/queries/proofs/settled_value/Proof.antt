@@ -11,7 +11,7 @@ use Rattle.rules.specs.Records.{most-nodes}
 use Rattle.rules.specs.Queries.{valueQuery}
 use Rattle.netlists.specs.Netlists.{padded}
 use Rattle.netlists.proofs.Netlists.{padded-same, few-nodes, read-stands}
-use Rattle.asking.proofs.Asking.{given-refused, given-answered, stands-formed, stands-node, stands-with}
+use Rattle.query_netlists.proofs.Asking.{given-refused, given-answered, stands-formed, stands-node, stands-with}
 use Rattle.queries.proofs.settled_value.Statement.{statement}
 use Rattle.queries.proofs.settled_value.Tie as tie
 

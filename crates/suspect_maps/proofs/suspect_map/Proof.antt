@@ -37,11 +37,11 @@ loop-holds c = (
 array-read-byte : tie.Need-array-read-byte Inv-loop μ-loop
 array-read-byte c = search needs
 
-without-requires : tie.Need-without-requires Inv-loop μ-loop
-without-requires c κs = search needs
+disjoint-sets-requires : tie.Need-disjoint-sets-requires Inv-loop μ-loop
+disjoint-sets-requires c κs = search needs
 
-without-requires-2 : tie.Need-without-requires-2 Inv-loop μ-loop
-without-requires-2 c κs = search needs
+disjoint-sets-requires-2 : tie.Need-disjoint-sets-requires-2 Inv-loop μ-loop
+disjoint-sets-requires-2 c κs = search needs
 
 array-write-map : tie.Need-array-write-map Inv-loop μ-loop
 array-write-map c = search needs
@@ -58,17 +58,17 @@ loop-again c =
     let args = c .before .before .before .before .before .args in
     let (long, so-far, numbers) = loop .inv in
     let number = numbers (loop .j) (omega arith) (omega arith) in
-    let byte : ℕ = bitAnd (255 - c .before .without .result) (c .without2 .result) in (
+    let byte : ℕ = bitAnd (255 - c .before .disjoint-sets .result) (c .disjoint-sets2 .result) in (
       simp length-set long,
       λ i k l h.
           below-more (λ i. odd (getD (set (loop .map) (loop .j) byte) i 0 / 2 ^ k) ≡ suspectBy (args .secrets) (args .masks) (8 * i + k)) (loop .j)
           (λ i l. rw (getD-set-other (loop .map) (loop .j) i byte 0 (λ e. omega arith)) (so-far i k l h))
           (rw (
             getD-set-same (loop .map) (loop .j) byte 0 (omega arith),
-            bit-and (255 - c .before .without .result) (c .without2 .result) k,
-            bit-not (c .before .without .result) k (omega arith) h,
-            rw number at (c .before .without .ensures k h),
-            rw number at (c .without2 .ensures k h),
+            bit-and (255 - c .before .disjoint-sets .result) (c .disjoint-sets2 .result) k,
+            bit-not (c .before .disjoint-sets .result) k (omega arith) h,
+            rw number at (c .before .disjoint-sets .ensures k h),
+            rw number at (c .disjoint-sets2 .ensures k h),
           ))
           i l,
       λ i l h. rw (getD-set-other (loop .map) (loop .j) i byte 0 (λ e. omega arith)) (numbers i (omega arith) h),
@@ -90,8 +90,8 @@ suspect-map-spec =
     byte-numbers-requires
     loop-holds
     array-read-byte
-    without-requires
-    without-requires-2
+    disjoint-sets-requires
+    disjoint-sets-requires-2
     array-write-map
     add-j
     loop-less

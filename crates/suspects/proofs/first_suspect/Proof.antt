@@ -16,8 +16,8 @@ use Rattle.rules.specs.Records.{Class, secret, mask, most-sets}
 use Rattle.rules.specs.Families.{suspect}
 use Rattle.families.specs.Parts.{familyAt}
 use Rattle.families.proofs.Parts.{below-at}
-use Rattle.report_order.specs.Order.{setAt}
-use Rattle.report_order.proofs.Order.{set-low}
+use Rattle.set_order.specs.Order.{setAt}
+use Rattle.set_order.proofs.Order.{set-low}
 use Rattle.suspects.specs.Suspects.{variablesOf, reportOf}
 use Rattle.suspects.proofs.Suspects.{reported-nothing, reported-first, none-suspect}
 use Rattle.suspects.proofs.first_suspect.Statement.{statement}

@@ -18,8 +18,8 @@ use Rattle.rules.specs.Families.{suspectAt}
 use Rattle.rules.specs.Slices.{entry}
 use Rattle.netlists.specs.Netlists.{blank, flatOf}
 use Rattle.netlists.proofs.Netlists.{flat-entry-at}
-use Rattle.report_order.specs.Order.{setAt}
-use Rattle.report_order.proofs.Order.{set-low}
+use Rattle.set_order.specs.Order.{setAt}
+use Rattle.set_order.proofs.Order.{set-low}
 use Rattle.suspects.specs.Suspects.{variablesOf, reportsIn, foundFrom}
 use Rattle.suspects.proofs.Suspects.{none-suspect}
 use Rattle.suspects.proofs.Search.{reports, suspectIn, Searched, search-start, search-more, search-none, search-some, Passed, found-suspect, found-clear}

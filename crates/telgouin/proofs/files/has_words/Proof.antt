@@ -8,7 +8,7 @@ use lib.ListN.{length, take, drop, length-drop}
 use lib.Seq.{take-all}
 use borrow.Author.Needs.{needs}
 use Rattle.rules.specs.Listing.{word}
-use Rattle.block_words.specs.Words.{same}
+use Rattle.read_words.specs.Words.{same}
 use Rattle.telgouin.specs.Files.{hasWords}
 use Rattle.telgouin.proofs.files.has_words.Statement.{statement}
 use Rattle.telgouin.proofs.files.has_words.Tie as tie

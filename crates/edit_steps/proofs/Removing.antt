@@ -1,0 +1,110 @@
+-- A node given up: what is examined where another node still names the node and where it is given up, and what a removal comes to before that. Assumes
+-- nothing.
+use Prim.Native.Nat.{ℕ, _+_, _*_, _≤_, _<_}
+use mathlib.Core.Path.{_≡_, refl, sym, ap, ap₂, _∙_}
+use mathlib.Core.List.{List}
+use mathlib.Core.Option.{Option}
+use native.Mathlib.Omega.{arith}
+use lib.ListN.{length}
+use borrow.Author.Tests.{lt-ltb, le-ltb, le-leb, lt-leb}
+use Rattle.rules.specs.declared.Refusal.the-variants.{StillNamed}
+use Rattle.rules.specs.declared.Reply.the-variants.{Refused}
+use Rattle.rules.specs.Lists.{without}
+use Rattle.rules.specs.Records.{Netlist, WellFormed, most-nodes}
+use Rattle.rules.specs.Checks.{answered, refused, andThen, judged, slicesFit, nodeCheck}
+use Rattle.rules.proofs.Marks.{layer-marks-length}
+use Rattle.netlists.specs.declared.Netlist as Value
+use Rattle.netlists.specs.Netlists.{flatOf}
+use Rattle.netlists.proofs.Netlists.{value-count}
+use Rattle.marks.specs.declared.Marks.{Marks}
+use Rattle.marks.specs.Marks.{marksIn, marksOf}
+use Rattle.checker.specs.declared.Examined.{Examined}
+use Rattle.checker.specs.Work.{NothingKept, Examines, ReadsMarks}
+use Rattle.checker.proofs.Core.{refusal, answers}
+use Rattle.edit_rules.specs.Edits.{remove, withoutNode, lowestUser, removedIfUnused, fits, edited}
+use Rattle.edit_rules.specs.Work.{movedDown, HoldsFamilies}
+use Rattle.edit_rules.proofs.Removing.{moved-families}
+use Rattle.edit_steps.specs.Changes.{Contained, Changes}
+use Rattle.edit_steps.proofs.Changing.{state-count, contained-refused, contained-looks}
+use Rattle.edit_rules.proofs.Removal.{Unused, marks-removed}
+
+-- a node less, in slices that have room
+pub record GivesUp (block : Value.Netlist) (marks : Marks) (removed : ℕ) (examined : Examined) (before after : List ℕ) : Type 0 where
+  pub contained : Contained (block .count) examined before after
+  pub made : (n : Netlist) → WellFormed n → block ≡ flatOf n → marks ≡ marksOf n → HoldsFamilies n before
+      → Examines (removedIfUnused removed n) examined before after
+
+-- a node is given up, where `by` is the lowest node that names it
+module _ (block : Value.Netlist) (marks : Marks) (removed by : ℕ) (lowest : (n : Netlist) → block ≡ flatOf n → by ≡ lowestUser removed (n .nodes)) where
+  pub still-used : (examined : Examined) (before : List ℕ) → by < block .count → examined .reply ≡ Refused (StillNamed by)
+      → NothingKept examined → GivesUp block marks removed examined before before
+  unfolding removedIfUnused judged
+  still-used examined before named r none = record {
+    contained = contained-refused (block .count) examined before none;
+    made = λ n formed is known holds.
+        rw (← (lowest n is), ← (value-count n is), lt-ltb by (block .count) named) (refusal (StillNamed by) 14 by examined before refl refl r none);
+  }
+
+  pub gave-up : (value : Value.Netlist) (fewer : Marks) (examined : Examined) (before after : List ℕ) → block .count ≤ by → removed < block .count
+      → block .count ≤ most-nodes → 256 * block .count ≤ length before
+      → value .count + 1 ≡ block .count → ((n : Netlist) → WellFormed n → block ≡ flatOf n → value ≡ flatOf (withoutNode n removed))
+      → ((settled glitch : List (Option ℕ)) → length settled ≡ block .count → length glitch ≡ block .count → marks ≡ marksIn settled glitch
+      → fewer ≡ marksIn (without removed settled) (without removed glitch))
+      → after ≡ movedDown removed (block .count) before → ReadsMarks value fewer examined → GivesUp block marks removed examined before after
+  unfolding removedIfUnused judged
+  gave-up value fewer examined before after unused there small room one-less is-without are-without moved l = record {
+    contained = contained-looks (block .count) value fewer examined before after (omega arith) (omega arith) l;
+    made = λ n formed is known holds. rw (← (lowest n is), ← (value-count n is), le-ltb by (block .count) unused) (made n formed is known holds);
+  }
+    where
+      -- so are the marks, where no node names it
+      own : (n : Netlist) → block ≡ flatOf n → marks ≡ marksOf n → Unused removed (n .nodes) → fewer ≡ marksOf (withoutNode n removed)
+      own n is known none = unfold marksOf in
+          (are-without _ _ (layer-marks-length _ n ∙ sym (value-count n is)) (layer-marks-length _ n ∙ sym (value-count n is)) known
+          ∙ ap₂ marksIn (sym (marks-removed (λ F. F .settled) n removed none)) (sym (marks-removed (λ F. F .glitch) n removed none)))
+
+      made : (n : Netlist) → WellFormed n → block ≡ flatOf n → marks ≡ marksOf n → HoldsFamilies n before
+          → Examines (answered (withoutNode n removed)) examined before after
+      made n formed is known holds =
+          let none : Unused removed (n .nodes) = omega (arith, lowest n is, value-count n is) in
+          let same = value-count n is in
+          let work = moved ∙ ap (λ (k : ℕ). movedDown removed k before) same ∙ moved-families n removed none (omega arith) before (omega arith) holds in
+          answers value (withoutNode n removed) (is-without n formed is) fewer (own n is known none) examined before work l
+
+-- ---- an edit
+
+-- what a removal of a netlist of so many nodes comes to before refusal 14
+module _ (count removed entries work : ℕ) (n : Netlist) (same : count ≡ length (n .nodes)) where
+  pub no-such-node : count ≤ removed → fits n (remove removed) entries work ≡ refused 12 removed
+  unfolding fits nodeCheck judged andThen
+  no-such-node h = rw (← same, le-leb _ _ h)
+
+  pub few-entries : removed < count → entries < count → fits n (remove removed) entries work ≡ refused 10 count
+  unfolding fits nodeCheck slicesFit judged andThen
+  few-entries there h = rw (← same, lt-leb _ _ there, ← same, lt-ltb _ _ h)
+
+  pub short-work : removed < count → count ≤ entries → work < 256 * count → fits n (remove removed) entries work ≡ refused 11 (256 * count)
+  unfolding fits nodeCheck slicesFit judged andThen
+  short-work there h l = rw (← same, lt-leb _ _ there, ← same, le-ltb _ _ h, lt-ltb _ _ l)
+
+  fits-removal : removed < count → count ≤ entries → 256 * count ≤ work → fits n (remove removed) entries work ≡ answered n
+  unfolding fits nodeCheck slicesFit judged andThen
+  fits-removal there h l = rw (← same, lt-leb _ _ there, ← same, le-ltb _ _ h, le-ltb _ _ l)
+
+-- both slices hold the nodes, and the node is given up or still named
+pub removes : (block : Value.Netlist) (marks : Marks) (removed entries : ℕ) (examined : Examined) (before after : List ℕ) → removed < block .count
+    → block .count ≤ entries → 256 * block .count ≤ length before → GivesUp block marks removed examined before after
+    → Changes block marks (remove removed) entries examined before after
+unfolding edited andThen
+removes block marks removed entries examined before after there few room given = record {
+  contained = record {
+    few-entries = omega (arith, given .contained .few-entries);
+    few-nodes = given .contained .few-nodes;
+    unchanged = given .contained .unchanged;
+  };
+  early = λ n formed s k p f. let z : _≡_ {A = ℕ} 0 1 = cc (fit n (state-count n s)) in absurd (omega arith);
+  made = λ n formed is known holds. rw (fit n (value-count n is)) (given .made n formed is known holds);
+}
+  where
+    fit : (n : Netlist) → block .count ≡ length (n .nodes) → fits n (remove removed) entries (length before) ≡ answered n
+    fit n same = fits-removal (block .count) removed entries (length before) n same there few room

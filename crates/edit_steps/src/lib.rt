@@ -1,0 +1,117 @@
+// An edit of an open block by value with its marks, over its work bytes: a new node at the end, or a node given up. An addition works out the
+// families and the marks of the new node and of no other; a removal moves those behind the node down and works out none; the answer is read from
+// the marks.
+ghost use Prim.Native.Nat.{_<_};
+ghost use Rattle.rules.specs.Records.{most-nodes};
+ghost use Rattle.nodes.specs.Work.{Placed};
+ghost use Rattle.edit_rules.specs.Edits as Edits;
+ghost use Rattle.edit_rules.specs.Meaning.{editOf};
+ghost use Rattle.edit_steps.specs.Changes.{Limited, Adds, Changes};
+use checker::Examined;
+use edit_rules::Edit;
+use edit_rules::Offer;
+use marks::Marks;
+use netlists::Netlist;
+use rules::MOST_NODES;
+use rules::MOST_VARIABLES;
+use rules::Node;
+use rules::Refusal;
+
+// A block by value, and its marks.
+pub struct Loaded {
+    pub block: Netlist,
+    pub marks: Marks,
+}
+
+// ---- a new node
+
+// The answer for a block with a node more, which can stand at its number, or the refusal of slices that are too short for it.
+fn add_offered(
+    block: Netlist,
+    marks: Marks,
+    node: Node,
+    entries: usize,
+    work: &mut [u8],
+) -> Examined
+    requires { ⌜ Limited block × (block .count < most-nodes) × Placed (block .count) node ⌝ }
+    ensures { λ r. ⌜ Adds block marks node entries r (now (work .entry)) (now (work .exit)) ⌝ }
+{
+    let count = block.count;
+    let needed = count + 1;
+    let bytes = 256 * needed;
+    if entries < needed {
+        return checker::refused(Refusal::FewEntries(needed));
+    }
+    if work.len() < bytes {
+        return checker::refused(Refusal::ShortWork(bytes));
+    }
+    nodes::node_families(work, count, node);
+    let longer = netlists::with_node(block, node);
+    checker::read_marks(longer, marks::with_last(longer, marks, work))
+}
+
+// A new node at the end of a block: its record is judged before both slices.
+fn add_node(block: Netlist, marks: Marks, bytes: &[u8], entries: usize, work: &mut [u8]) -> Examined
+    requires { ⌜ Limited block ⌝ }
+    ensures { λ r. ⌜ Changes block marks (Edits.add (now (bytes .entry))) entries r (now (work .entry)) (now (work .exit)) ⌝ }
+{
+    match edit_rules::offered(bytes, block.variables, block.count) {
+        Offer::Refused(refusal) => checker::refused(refusal),
+        Offer::Node(node) => add_offered(block, marks, node, entries, work),
+    }
+}
+
+// ---- a node given up
+
+// A node given up: 12, then both slices for the nodes that the block has, then 14 where another node names it; and only then does anything move.
+fn remove_node(
+    block: Netlist,
+    marks: Marks,
+    removed: usize,
+    entries: usize,
+    work: &mut [u8],
+) -> Examined
+    requires { ⌜ Limited block ⌝ }
+    ensures { λ r. ⌜ Changes block marks (Edits.remove removed) entries r (now (work .entry)) (now (work .exit)) ⌝ }
+{
+    let count = block.count;
+    let bytes = 256 * count;
+    let by = edit_rules::lowest_user(block, removed);
+    if count <= removed {
+        return checker::refused(Refusal::NoSuchNode(removed));
+    }
+    if entries < count {
+        return checker::refused(Refusal::FewEntries(count));
+    }
+    if work.len() < bytes {
+        return checker::refused(Refusal::ShortWork(bytes));
+    }
+    if by < count {
+        return checker::refused(Refusal::StillNamed(by));
+    }
+    edit_rules::move_down(work, removed, count);
+    let fewer = marks::without_marks(marks, removed, count);
+    checker::read_marks(edit_rules::without_node(block, removed), fewer)
+}
+
+// ---- an edit
+
+// An edit of a block by value with its marks, in slices of so many entries and of these work bytes. No block has more variables or nodes than there
+// may be: a state that says so is nobody's, and is refused.
+pub fn change(loaded: Loaded, edit: Edit, bytes: &[u8], entries: usize, work: &mut [u8]) -> Examined
+    ensures { λ r. ⌜ Changes (loaded .block) (loaded .marks) (editOf edit (now (bytes .entry))) entries r
+        (now (work .entry)) (now (work .exit)) ⌝ }
+{
+    let block = loaded.block;
+    let marks = loaded.marks;
+    if MOST_VARIABLES < block.variables {
+        return checker::refused(Refusal::OverLimit(block.count));
+    }
+    if MOST_NODES < block.count {
+        return checker::refused(Refusal::OverLimit(block.count));
+    }
+    match edit {
+        Edit::Add => add_node(block, marks, bytes, entries, work),
+        Edit::Remove(node) => remove_node(block, marks, node, entries, work),
+    }
+}

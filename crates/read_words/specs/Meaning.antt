@@ -1,0 +1,67 @@
+-- What the answers of this crate's functions tell of a line and of a text. Cited by the contracts of this crate. Assumes nothing.
+use Prim.Native.Nat.{ℕ, _≤_, min, max}
+use mathlib.Core.Path.{_≡_}
+use mathlib.Core.List.{List, [], _∷_, _++_}
+use lib.ListN.{length, getD, take, drop}
+use Rattle.rules.specs.Records.{Record, recordBytes}
+use Rattle.rules.specs.Listing.{most-input}
+use Rattle.read_words.specs.declared.Fault.{Fault}
+use Rattle.read_words.specs.declared.Line.{Line}
+use Rattle.read_words.specs.declared.Line.the-variants as Line
+use Rattle.read_words.specs.declared.Worded.{Worded}
+use Rattle.read_words.specs.declared.Worded.the-variants as Worded
+use Rattle.read_words.specs.declared.BlockWords.{BlockWords}
+use Rattle.read_words.specs.declared.BlockWords.the-variants as BlockWords
+use Rattle.read_words.specs.Words.{Said, nothing, says, wrong, BlockSaid, block, wrongIn, linesOf, blockIn}
+
+-- ---- a line
+
+-- what a line says, as a value of the program: a record by the number of its bytes and its bytes, with 0 behind them
+unfoldable pub lineOf : Said → Line
+lineOf nothing = Line.Nothing
+lineOf (says r) =
+    let bytes = recordBytes r in
+    Line.Record (length bytes) (getD bytes 0 0) (getD bytes 1 0) (getD bytes 2 0)
+lineOf (wrong fault) = Line.Wrong fault
+
+-- a line says a record, whose bytes are the first n of those that were stored, with 0 behind them; a record has at most three
+pub record IsRecord (said : Said) (n : ℕ) (bytes : List ℕ) : Type 0 where
+  pub own : Record
+  pub is : said ≡ says own
+  pub long : n ≡ length (recordBytes own)
+  pub front : take n bytes ≡ recordBytes own
+  pub whole : let b = recordBytes own in
+      bytes ≡ getD b 0 0 ∷ getD b 1 0 ∷ getD b 2 0 ∷ []
+  pub few : n ≤ 3
+
+-- the answer for a line, with the bytes before and those that were stored; where there is no record, they are as they were
+abbrev pub TellsRecord : Worded → (before bytes : List ℕ) → Said → Type 0
+TellsRecord Worded.Nothing before bytes said = (said ≡ nothing) × (bytes ≡ before)
+TellsRecord (Worded.Bytes n) before bytes said = IsRecord said n bytes
+TellsRecord (Worded.Wrong fault) before bytes said = (said ≡ wrong fault) × (bytes ≡ before)
+
+-- ---- a text
+
+-- an array with bytes at its front, as far as there is room; behind them it is as it was
+abbrev pub stored : (own before : List ℕ) → List ℕ
+stored own before = let n = min (length own) (length before) in take n own ++ drop n before
+
+-- A text says a block, whose bytes were stored: all n of them, or 1,024 of more. The lines of its records were stored too, and `last` is how many lines
+-- the text has, or 1 if it has none.
+pub record IsBlock (said : BlockSaid) (text : List ℕ) (n last : ℕ) (before bytes lines : List ℕ) : Type 0 where
+  pub own : List ℕ
+  pub is : said ≡ block own lines
+  pub kept : n ≡ min (length own) most-input
+  pub held : bytes ≡ stored own before
+  pub all-lines : last ≡ max 1 (length (linesOf text))
+
+-- Something else was expected in a line of a text: what the lines before it say was stored.
+pub record IsWrong (said : BlockSaid) (fault : Fault) (line : ℕ) (before bytes lines : List ℕ) : Type 0 where
+  pub own : List ℕ
+  pub is : said ≡ wrongIn fault line own lines
+  pub held : bytes ≡ stored own before
+
+-- the answer for a text and what both arrays held before, with the bytes and the lines that they hold then
+abbrev pub TellsBlock : BlockWords → (text bytes-before lines-before bytes lines : List ℕ) → Type 0
+TellsBlock (BlockWords.Bytes n last) text bytes-before lines-before bytes lines = IsBlock (blockIn text lines-before) text n last bytes-before bytes lines
+TellsBlock (BlockWords.Wrong fault line) text bytes-before lines-before bytes lines = IsWrong (blockIn text lines-before) fault line bytes-before bytes lines

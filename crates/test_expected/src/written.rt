@@ -1,0 +1,206 @@
+// What an edit of an open block is to come to, by the written-out bytes of the block: a new record is read behind those of the block, by the
+// reader that stops at the first fault; a node is given up by leaving out its record and lowering the operands behind it.
+ghost use Prim.Native.Nat.{_≤_};
+use crate::Expected;
+use crate::Lent;
+use test_generator::Made;
+use test_generator::least;
+use test_second_checker::BODIES;
+use test_second_checker::NONE;
+use test_second_checker::SecondBlock;
+use test_second_checker::number_if;
+use test_second_checker::read;
+
+// A block written out, the end record included.
+pub struct Written {
+    bytes: [u8; 1024],
+    pub length: usize,
+}
+
+// What is written out of a block that was made; and its bytes.
+pub fn written_of(made: Made) -> Written {
+    let bytes = test_generator::bytes_of(made);
+    Written {
+        bytes,
+        length: made.length,
+    }
+}
+
+pub fn bytes_of(written: Written) -> [u8; 1024] {
+    written.bytes
+}
+
+// What an edit comes to: its refusal, and the block that its answer is for.
+pub struct Changed {
+    pub expected: Expected,
+    pub written: Written,
+}
+
+// How many bytes a record of this kind has.
+fn size_of(kind: u8) -> usize
+    ensures { λ r. ⌜ r ≤ 8 ⌝ }
+{
+    1 + (BODIES >> ((kind % 8) as usize * 3)) % 8
+}
+
+// The refusal of slices that are to hold so many nodes, if they are too short.
+fn slices(nodes: usize, lent: Lent) -> Expected {
+    let needed = nodes % 256 * 256;
+    if lent.entries < nodes {
+        return Expected {
+            number: 10,
+            place: nodes,
+        };
+    }
+    Expected {
+        number: number_if(lent.work < needed, 11),
+        place: needed,
+    }
+}
+
+// The block with the first `size` bytes of a record in place of its end, and an end behind them if there are so many.
+fn with_record(written: Written, bytes: &[u8], size: usize) -> Written {
+    let mut next = written;
+    let end = (written.length % 1025 + 1023) % 1024;
+    let put = least(size, bytes.len());
+    let mut k = 0;
+    while k < put {
+        next.bytes[(end + k) % 1024] = bytes[k];
+        k += 1;
+    }
+    next.bytes[(end + put) % 1024] = 0;
+    next.length = (end + put + number_if(put == size, 1)) % 1025;
+    next
+}
+
+// The block that is written out, as the second checker reads it.
+pub fn block_of(written: Written) -> SecondBlock {
+    let bytes = bytes_of(written);
+    let length = written.length % 1025;
+    read(&bytes[..length])
+}
+
+// A record offered to a block of so many nodes.
+pub fn added(written: Written, nodes: usize, bytes: &[u8], lent: Lent) -> Changed {
+    let place = nodes;
+    let mut expected = Expected { number: 8, place };
+    if bytes.len() == 0 {
+        return Changed { expected, written };
+    }
+    let kind = bytes[0];
+    if (kind < 2) | (kind > 7) {
+        expected.number = 1;
+        return Changed { expected, written };
+    }
+    let size = size_of(kind);
+    let longer = with_record(written, bytes, size);
+    let block = block_of(longer);
+    expected.number = block.fault;
+    if (block.fault == 0) & (size < bytes.len()) {
+        expected.number = 9;
+    }
+    if expected.number > 0 {
+        return Changed { expected, written };
+    }
+    Changed {
+        expected: slices(nodes % 256 + 1, lent),
+        written: longer,
+    }
+}
+
+// A walk over the records of a block that leaves out one node: the offset of the next record, the number of the next node, the lowest node
+// so far that names the one to go, and the bytes so far.
+struct Walk {
+    at: usize,
+    number: usize,
+    naming: usize,
+    bytes: [u8; 1024],
+    length: usize,
+}
+
+// An operand behind a node that is removed.
+fn lower(operand: u8, node: usize) -> u8 {
+    if operand == 0 {
+        return 0;
+    }
+    if node < operand as usize {
+        return operand - 1;
+    }
+    operand
+}
+
+// Whether a record of this kind with these two bytes behind it names a node.
+fn names(kind: u8, first: u8, second: u8, node: usize) -> bool {
+    let two = (kind > 3) & (kind < 7);
+    (kind > 2) & ((first as usize == node) | (two & (second as usize == node)))
+}
+
+// The walk past one record; past the last one it stays.
+fn past(walk: Walk, written: Written, node: usize) -> Walk {
+    let mut next = walk;
+    let at = walk.at % 1020;
+    if walk.at >= written.length {
+        return next;
+    }
+    let kind = written.bytes[at];
+    let first = written.bytes[at + 1];
+    let second = written.bytes[at + 2];
+    let size = size_of(kind);
+    let gate = kind > 2;
+    if names(kind, first, second, node) & (walk.naming == NONE) {
+        next.naming = walk.number;
+    }
+    next.at = at + size;
+    next.number = walk.number % 256 + number_if(kind > 1, 1);
+    if (kind > 1) & (walk.number == node) {
+        return next;
+    }
+    let to = walk.length % 1020;
+    next.bytes[to] = kind;
+    next.bytes[to + 1] = first;
+    next.bytes[to + 2] = second;
+    if gate {
+        next.bytes[to + 1] = lower(first, node);
+        next.bytes[to + 2] = lower(second, node);
+    }
+    next.length = to + size;
+    next
+}
+
+// A node of a block of so many nodes given up.
+pub fn removed(written: Written, nodes: usize, node: usize, lent: Lent) -> Changed {
+    let mut walk = Walk {
+        at: 0,
+        number: 0,
+        naming: NONE,
+        bytes: [0; 1024],
+        length: 0,
+    };
+    let mut records: usize = 0;
+    while records < 211 {
+        walk = past(walk, written, node);
+        records += 1;
+    }
+    let mut expected = slices(nodes, lent);
+    if nodes <= node {
+        expected = Expected {
+            number: 12,
+            place: node,
+        };
+    }
+    if (expected.number == 0) & (walk.naming != NONE) {
+        expected = Expected {
+            number: 14,
+            place: walk.naming,
+        };
+    }
+    let bytes = walk.bytes;
+    let shorter = Written {
+        bytes,
+        length: walk.length,
+    };
+    Changed {
+        expected,
+        written: shorter,
+    }
+}

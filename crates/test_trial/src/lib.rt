@@ -1,0 +1,163 @@
+// What stands in lent slices before a check, from where on it still stands there after one, a check over node records of its
+// own with one probe and with two, and one of those records, read through a lent slice. For test programs.
+ghost use mathlib.Core.Path.{_≡_};
+ghost use mathlib.Core.List.{_++_};
+ghost use Prim.Native.Nat.{_-_, _<_, min};
+ghost use lib.Dec.{eqb};
+ghost use lib.ListN.{length, getD, replicate};
+ghost use Rattle.rules.specs.Lists.{tabulate};
+ghost use Rattle.rules.specs.Records.{most-nodes};
+ghost use Rattle.rules.specs.Slices.{nodesAfter, workAfter, reply};
+ghost use Rattle.rules.specs.Paper.{replyOf};
+ghost use Rattle.checker.specs.Work.{unwritten};
+ghost use Rattle.pair_search.specs.Pairs.{pairsReply};
+ghost use Rattle.pairs.specs.Meaning.{pairsReplyOf};
+ghost use Rattle.test_trial.specs.Before.{entryBefore, byteBefore, isBefore, keptFrom};
+use pairs::PairsReply;
+use rules::MOST_NODES;
+use rules::Node;
+use rules::NodeRecord;
+use rules::Reply;
+
+// ---- what stands in the slices before a check
+
+// What each entry holds before a check; no node has such a record.
+pub fn entry_before() -> NodeRecord
+    ensures { λ r. ⌜ r ≡ entryBefore ⌝ }
+{
+    NodeRecord {
+        node: Node {
+            kind: 9,
+            first: 8,
+            second: 7,
+            set: 6,
+        },
+        settled: 5,
+        glitch: 4,
+    }
+}
+
+// What byte `k` holds before a check; it is never 0.
+fn byte_before(k: usize) -> u8
+    ensures { λ r. ⌜ r ≡ byteBefore k ⌝ }
+{
+    (1 + k % 251) as u8
+}
+
+// Fills a slice with these bytes.
+pub fn fill(work: &mut [u8])
+    ensures { λ _. ⌜ now (work .exit) ≡ tabulate byteBefore (length (now (work .entry))) ⌝ }
+{
+    let mut k = 0;
+    while k < work.len() {
+        work[k] = byte_before(k);
+        k += 1;
+    }
+}
+
+fn is_before(held: NodeRecord) -> bool
+    ensures { λ r. ⌜ r ≡ isBefore held ⌝ }
+{
+    let node = held.node;
+    node.kind == 9
+        && (node.first == 8
+            && (node.second == 7 && (node.set == 6 && (held.settled == 5 && held.glitch == 4))))
+}
+
+// The lowest number from which on all entries are as they were, and the same of the work bytes.
+pub fn entries_kept_from(nodes: [NodeRecord; MOST_NODES]) -> usize
+    ensures { λ r. ⌜ r ≡ keptFrom (λ k. isBefore (getD nodes k entryBefore)) most-nodes ⌝ }
+{
+    let mut from = 0;
+    let mut k = 0;
+    while k < MOST_NODES {
+        if !is_before(nodes[k]) {
+            from = k + 1;
+        }
+        k += 1;
+    }
+    from
+}
+
+pub fn work_kept_from(work: &[u8]) -> usize
+    ensures { λ r. ⌜ r ≡ keptFrom (λ k. eqb (getD (now (work .entry)) k 0) (byteBefore k)) (length (now (work .entry))) ⌝ }
+{
+    let mut from = 0;
+    let mut k = 0;
+    while k < work.len() {
+        if work[k] != byte_before(k) {
+            from = k + 1;
+        }
+        k += 1;
+    }
+    from
+}
+
+// ---- a check
+
+// What a check leaves, and one with two probes: the reply, and all entries.
+pub struct Seen {
+    pub reply: Reply,
+    pub nodes: [NodeRecord; MOST_NODES],
+}
+
+pub struct SeenPairs {
+    pub reply: PairsReply,
+    pub nodes: [NodeRecord; MOST_NODES],
+}
+
+// How many of 200 entries are lent.
+pub fn at_most(entries: usize) -> usize
+    ensures { λ r. ⌜ r ≡ min entries most-nodes ⌝ }
+{
+    if entries < MOST_NODES {
+        return entries;
+    }
+    MOST_NODES
+}
+
+// Checks a block over the first `entries` of 200 entries (or over all where there are not so many), each of which holds
+// `before`. Gives the reply and all 200 entries at exit.
+pub fn check_over(bytes: &[u8], entries: usize, before: NodeRecord, work: &mut [u8]) -> Seen
+    ensures reply { λ r. ⌜ replyOf (r .reply) ≡ reply (now (bytes .entry)) (min entries most-nodes) (length (now (work .entry))) ⌝ }
+    ensures nodes { λ r. ⌜ r .nodes ≡
+        nodesAfter (now (bytes .entry)) (replicate (min entries most-nodes) before) (length (now (work .entry)))
+        ++ replicate (most-nodes - min entries most-nodes) before ⌝ }
+    ensures work { λ _. ⌜ now (work .exit) ≡ workAfter (now (bytes .entry)) (min entries most-nodes) (now (work .entry)) ⌝ }
+{
+    let lent = at_most(entries);
+    let mut nodes = [before; MOST_NODES];
+    let reply = checker::check(bytes, &mut nodes[..lent], work);
+    Seen { reply, nodes }
+}
+
+// The same with two probes, where at most `limit` pairs are looked at.
+pub fn check_pairs_over(
+    bytes: &[u8],
+    entries: usize,
+    before: NodeRecord,
+    work: &mut [u8],
+    limit: usize,
+) -> SeenPairs
+    ensures reply { λ r. ⌜ pairsReplyOf (r .reply) ≡
+        pairsReply (now (bytes .entry)) (min entries most-nodes) (length (now (work .entry))) limit ⌝ }
+    ensures nodes { λ r. ⌜ r .nodes ≡
+        nodesAfter (now (bytes .entry)) (replicate (min entries most-nodes) before) (length (now (work .entry)))
+        ++ replicate (most-nodes - min entries most-nodes) before ⌝ }
+    ensures work { λ _. ⌜ now (work .exit) ≡ workAfter (now (bytes .entry)) (min entries most-nodes) (now (work .entry)) ⌝ }
+{
+    let lent = at_most(entries);
+    let mut nodes = [before; MOST_NODES];
+    let reply = pairs::check_pairs(bytes, &mut nodes[..lent], work, limit);
+    SeenPairs { reply, nodes }
+}
+
+// ---- one record
+
+// The record at one of the entries that a check leaves, read through a lent slice.
+pub fn entry_at(nodes: [NodeRecord; MOST_NODES], i: usize) -> NodeRecord
+    requires { ⌜ i < most-nodes ⌝ }
+    ensures { λ r. ⌜ r ≡ getD nodes i unwritten ⌝ }
+{
+    checker::node_at(&nodes, i)
+}

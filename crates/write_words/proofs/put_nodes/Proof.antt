@@ -1,0 +1,85 @@
+-- `write_words::put_nodes` meets its contract. The loop's invariant: the lines of the first i nodes are behind the variables'. The measure is the
+-- number of nodes left. Assumes nothing.
+use Prim.Native.Nat.{_+_, _*_, _-_, _≤_, _<_}
+use mathlib.Core.Path.{_≡_, refl, ap}
+use mathlib.Core.List.{List, map}
+use native.Mathlib.Omega.{arith}
+use borrow.Author.Needs.{needs}
+use lib.ListN.{length, take}
+use lib.Seq.{take-all}
+use Rattle.rules.specs.Records.{Netlist, Cell, input, node}
+use Rattle.rules.specs.Slices.{nodeRecords}
+use Rattle.listing_lines.specs.Text.{Appended}
+use Rattle.listing_lines.proofs.Text.{appended-none, appended-more, appended-as}
+use Rattle.write_bytes.proofs.Records.{node-at}
+use Rattle.write_words.specs.Worded.{recordLines, most-node-line}
+use Rattle.write_words.proofs.Worded.{lines-more}
+use Rattle.write_words.proofs.put_nodes.Statement.{statement}
+use Rattle.write_words.proofs.put_nodes.Tie as tie
+
+abbrev Inv-loop : tie.InvT-loop
+Inv-loop text₀ at count nodes next₀ i₀ text next i =
+    (i ≤ count) × (next ≤ at + most-node-line * i) × (length text ≡ length text₀)
+    × ((n : Netlist) → count ≡ length (n .nodes) → take count nodes ≡ nodeRecords n
+    → Appended text₀ text at next (recordLines (map node (take i (n .nodes)))))
+
+abbrev μ-loop : tie.MeasureT-loop
+μ-loop text₀ at count nodes next₀ i₀ text next i = count - i
+
+loop-holds : tie.Need-loop-holds Inv-loop μ-loop
+unfolding recordLines
+loop-holds c = (omega arith, omega arith, refl, λ n e f. appended-none _ _)
+
+mul-taken : tie.Need-mul-taken Inv-loop μ-loop
+mul-taken c = omega arith
+
+array-copy-out-taken : tie.Need-array-copy-out-taken Inv-loop μ-loop
+array-copy-out-taken c = omega arith
+
+put-node-requires : tie.Need-put-node-requires Inv-loop μ-loop
+put-node-requires c κs = search needs
+
+add-i : tie.Need-add-i Inv-loop μ-loop
+add-i c = omega arith
+
+loop-less : tie.Need-loop-less Inv-loop μ-loop
+loop-less c = omega arith
+
+loop-again : tie.Need-loop-again Inv-loop μ-loop
+loop-again c =
+    let turn = c .before .before .before .before .before .before in
+    let i = turn .loop .i in (
+      omega arith,
+      omega arith,
+      omega arith,
+      λ n e f.
+          let h : i < length (n .nodes) = omega arith in
+          appended-as (lines-more node (n .nodes) i (input 0) h)
+          (appended-more (turn .loop .inv .3 n e f) (c .before .before .put-node .ensures .0 _ (node-at n _ (rw e at f) i _ h))),
+    )
+
+same-length : tie.Need-same-length Inv-loop μ-loop
+same-length c = search needs
+
+returns : tie.Need-returns Inv-loop μ-loop
+returns c = (
+  λ n e f.
+      appended-as (ap (λ (nodes : List Cell). recordLines (map node nodes)) (take-all (c .before .loop .i) (n .nodes) (omega arith))) (c .before .loop .inv .3 n e f),
+  omega arith,
+)
+
+pub put-nodes-spec : {M : Type 1} → statement M
+put-nodes-spec =
+    tie.close
+    (tie.spec
+    Inv-loop
+    μ-loop
+    loop-holds
+    mul-taken
+    array-copy-out-taken
+    put-node-requires
+    add-i
+    loop-less
+    loop-again
+    same-length
+    returns)

@@ -1,0 +1,164 @@
+// An open block written out in words: the lines of its variables, those of its nodes, and the end. What is written, read again, is the
+// block (`words-again` of `proofs/ReadAgain`). Each function but the last puts lines behind the first `at` bytes of a text, or at its
+// front, and answers where the next ones go; its caller shows that there is room.
+ghost use mathlib.Core.Path.{_≡_};
+ghost use mathlib.Core.List.{List, [], _∷_, _++_, map};
+ghost use Prim.Native.Nat.{ℕ, _+_, _*_, _≤_};
+ghost use lib.ListN.{length, take, drop};
+ghost use Rattle.rules.specs.Records as Records;
+ghost use Rattle.rules.specs.Records.{Class, Cell, classByte, most-variables, most-nodes};
+ghost use Rattle.rules.specs.Listing.{word, decimal, line};
+ghost use Rattle.rules.specs.Slices.{entry, nodeRecords};
+ghost use Rattle.listing_lines.specs.Text.{Room, Appended};
+ghost use Rattle.edit_rules.specs.Meaning.{stateOf, IsOpen};
+ghost use Rattle.write_words.specs.Worded.{variablesBelow, recordLine, recordLines, wordedOut, most-variable-line, most-node-line, most-words};
+use edit_rules::State;
+use listing_lines::put_byte;
+use listing_lines::put_field;
+use listing_lines::put_word;
+use rules::MOST_NODES;
+use rules::MOST_VARIABLES;
+use rules::Node;
+use rules::NodeRecord;
+
+// At most 10 lines of variables, the longest of which is `secret` with its line feed, 200 of nodes, the longest of which is an input
+// of ten variables, and `end`.
+pub const MOST_WORDS: usize = 7 * MOST_VARIABLES + 23 * MOST_NODES + 4;
+
+// ---- one line
+
+// A variable, by its class byte.
+fn put_class(text: &mut [u8], at: usize, class: u8) -> usize
+    requires { ⌜ Room (now text) at most-variable-line ⌝ }
+    ensures { λ r. ⌜ ((c : Class) → class ≡ classByte c →
+        Appended (now (text .entry)) (now (text .exit)) at r (recordLine (Records.variable c))) ⌝ }
+    ensures few { λ r. ⌜ r ≤ at + most-variable-line ⌝ }
+{
+    match class {
+        0 => put_word(text, at, b"secret\n"),
+        1 => put_word(text, at, b"mask\n"),
+        _ => put_word(text, at, b"public\n"),
+    }
+}
+
+// An input: the variables of its set, ascending.
+fn put_input(text: &mut [u8], at: usize, set: u16) -> usize
+    requires { ⌜ Room (now text) at most-node-line ⌝ }
+    ensures { λ r. ⌜ Appended (now (text .entry)) (now (text .exit)) at r (line (word "in" ∷ map decimal (variablesBelow most-variables set))) ⌝ }
+    ensures few { λ r. ⌜ r ≤ at + most-node-line ⌝ }
+{
+    let mut end = put_word(text, at, b"in");
+    let mut variable = 0;
+    while variable < MOST_VARIABLES {
+        if (set >> variable) % 2 == 1 {
+            end = put_field(text, end, variable);
+        }
+        variable += 1;
+    }
+    put_byte(text, end, b'\n')
+}
+
+// A node of one operand, and one of two.
+fn put_one(text: &mut [u8], at: usize, name: &[u8], operand: u8) -> usize
+    requires { ⌜ Room (now text) at (length (now name) + 5) ⌝ }
+    ensures { λ r. ⌜ Appended (now (text .entry)) (now (text .exit)) at r (line (now (name .entry) ∷ decimal operand ∷ [])) ⌝ }
+    ensures few { λ r. ⌜ r ≤ at + (length (now (name .entry)) + 5) ⌝ }
+{
+    let first = put_word(text, at, name);
+    let end = put_field(text, first, operand as usize);
+    put_byte(text, end, b'\n')
+}
+
+fn put_two(text: &mut [u8], at: usize, name: &[u8], operand: u8, other: u8) -> usize
+    requires { ⌜ Room (now text) at (length (now name) + 9) ⌝ }
+    ensures { λ r. ⌜ Appended (now (text .entry)) (now (text .exit)) at r
+        (line (now (name .entry) ∷ decimal operand ∷ decimal other ∷ [])) ⌝ }
+    ensures few { λ r. ⌜ r ≤ at + (length (now (name .entry)) + 9) ⌝ }
+{
+    let first = put_word(text, at, name);
+    let second = put_field(text, first, operand as usize);
+    let end = put_field(text, second, other as usize);
+    put_byte(text, end, b'\n')
+}
+
+// A node.
+fn put_node(text: &mut [u8], at: usize, node: Node) -> usize
+    requires { ⌜ Room (now text) at most-node-line ⌝ }
+    ensures { λ r. ⌜ ((cell : Cell) → node ≡ entry cell →
+        Appended (now (text .entry)) (now (text .exit)) at r (recordLine (Records.node cell))) ⌝ }
+    ensures few { λ r. ⌜ r ≤ at + most-node-line ⌝ }
+{
+    let kind = node.kind;
+    let first = node.first;
+    let second = node.second;
+    match kind {
+        2 => put_input(text, at, node.set),
+        3 => put_one(text, at, b"not", first),
+        4 => put_two(text, at, b"xor", first, second),
+        5 => put_two(text, at, b"and", first, second),
+        6 => put_two(text, at, b"or", first, second),
+        _ => put_one(text, at, b"reg", first),
+    }
+}
+
+// ---- all lines
+
+// The lines of the variables, at the front.
+fn put_variables(text: &mut [u8], state: State) -> usize
+    requires { ⌜ Room (now text) 0 most-words × (state .variables ≤ most-variables) ⌝ }
+    ensures { λ r. ⌜ ((n : Records.Netlist) → state ≡ stateOf n →
+        Appended (now (text .entry)) (now (text .exit)) 0 r (recordLines (map Records.variable (n .variables)))) ⌝ }
+    ensures few { λ r. ⌜ r ≤ most-variable-line * most-variables ⌝ }
+{
+    let count = state.variables;
+    let classes = state.classes;
+    let mut at = 0;
+    let mut i = 0;
+    while i < count {
+        at = put_class(text, at, classes[i]);
+        i += 1;
+    }
+    at
+}
+
+// The lines of so many nodes, behind those.
+fn put_nodes(text: &mut [u8], at: usize, count: usize, nodes: [NodeRecord; MOST_NODES]) -> usize
+    requires { ⌜ Room (now text) 0 most-words × (at ≤ most-variable-line * most-variables) × (count ≤ most-nodes) ⌝ }
+    ensures { λ r. ⌜ ((n : Records.Netlist) → count ≡ length (n .nodes) → take count nodes ≡ nodeRecords n →
+        Appended (now (text .entry)) (now (text .exit)) at r (recordLines (map Records.node (n .nodes)))) ⌝ }
+    ensures few { λ r. ⌜ r ≤ at + most-node-line * most-nodes ⌝ }
+{
+    let mut next = at;
+    let mut i = 0;
+    while i < count {
+        let taken = nodes[i];
+        next = put_node(text, next, taken.node);
+        i += 1;
+    }
+    next
+}
+
+// ---- the block
+
+// Writes an open block in words to the front of `text`, and answers how many bytes they are; beyond them `text` is as it was. Of a state
+// and node records that are no open block's, the words are left open: the call returns, and answers no more than `text` has.
+pub fn write_words(
+    state: State,
+    nodes: [NodeRecord; MOST_NODES],
+    text: &mut [u8; MOST_WORDS],
+) -> usize
+    ensures long { λ r. ⌜ ((n : Records.Netlist) (work : List ℕ) → IsOpen n state nodes work → r ≡ length (wordedOut n)) ⌝ }
+    ensures words { λ r. ⌜ ((n : Records.Netlist) (work : List ℕ) → IsOpen n state nodes work →
+        now (text .exit) ≡ wordedOut n ++ drop r (now (text .entry))) ⌝ }
+    ensures most { λ r. ⌜ r ≤ most-words ⌝ }
+{
+    if state.variables > MOST_VARIABLES {
+        return 0;
+    }
+    if state.count > MOST_NODES {
+        return 0;
+    }
+    let first = put_variables(text, state);
+    let end = put_nodes(text, first, state.count, nodes);
+    put_word(text, end, b"end\n")
+}
