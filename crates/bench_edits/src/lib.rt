@@ -31,7 +31,7 @@ pub extern "C" fn telgouin_edits(bytes: &[u8], added: &[u8], node: usize, times:
 {
     let turns = least(times, MOST_TURNS);
     let mut work = [0u8; MOST_WORK];
-    let opened = held_blocks::open_over(
+    let opened = test_edit_trial::open_over(
         bytes,
         MOST_NODES,
         [test_trial::entry_before(); MOST_NODES],
@@ -43,7 +43,7 @@ pub extern "C" fn telgouin_edits(bytes: &[u8], added: &[u8], node: usize, times:
     let mut answered = 0;
     let mut turn = 0;
     while turn < turns {
-        let less = held_blocks::edit_over(
+        let less = test_edit_trial::edit_over(
             state,
             Edit::Remove(node),
             added,
@@ -55,7 +55,7 @@ pub extern "C" fn telgouin_edits(bytes: &[u8], added: &[u8], node: usize, times:
         let shorter = less.nodes;
         let reply = removed.reply;
         let between = removed.state;
-        let more = held_blocks::edit_over(
+        let more = test_edit_trial::edit_over(
             between,
             Edit::Add,
             added,
@@ -92,7 +92,7 @@ pub extern "C" fn telgouin_edit_again(bytes: &[u8], added: &[u8], times: usize) 
 {
     let turns = least(times, MOST_TURNS);
     let mut work = [0u8; MOST_WORK];
-    let opened = held_blocks::open_over(
+    let opened = test_edit_trial::open_over(
         bytes,
         MOST_NODES,
         [test_trial::entry_before(); MOST_NODES],
@@ -105,7 +105,7 @@ pub extern "C" fn telgouin_edit_again(bytes: &[u8], added: &[u8], times: usize) 
     let mut answered = 0;
     let mut turn = 0;
     while turn < turns {
-        let seen = held_blocks::edit_over(state, edit, added, MOST_NODES, nodes, &mut work);
+        let seen = test_edit_trial::edit_over(state, edit, added, MOST_NODES, nodes, &mut work);
         let edited = seen.edited;
         let reply = edited.reply;
         answered += one_if_answered(reply);

@@ -1,3 +1,2 @@
--- What opening or an edit over records by value leaves, and that it is an open block.
-pub mod Seen
+-- That what is held after opening or an edit is an open block.
 pub mod StillOpen

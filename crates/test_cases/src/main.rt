@@ -37,7 +37,6 @@ use edit_rules::Edit;
 use edit_rules::State;
 use families::PART;
 use families::SETS;
-use held_blocks::SeenEdit;
 use libc::STDIN_FILENO;
 use libc::STDOUT_FILENO;
 use listing_text::MOST_TEXT;
@@ -50,6 +49,7 @@ use rules::MOST_WORK;
 use rules::NodeRecord;
 use rules::QueryOutcome;
 use std::num::wrapping_add_u16;
+use test_edit_trial::SeenEdit;
 use test_tools::least;
 use test_tools::print;
 use test_tools::print_answer;
@@ -623,7 +623,7 @@ fn open_desk(bytes: [u8; MOST_BLOCK], digits: usize) -> Desk {
         work,
     };
     let length = least(digits / 2, MOST_BLOCK);
-    let seen = held_blocks::open_over(&bytes[0..length], MOST_NODES, nodes, &mut work);
+    let seen = test_edit_trial::open_over(&bytes[0..length], MOST_NODES, nodes, &mut work);
     print_edited(before, seen, work)
 }
 
@@ -642,7 +642,7 @@ fn one_edit(
     let nodes = desk.nodes;
     let mut work = desk.work;
     let length = least(digits / 2, MOST_BLOCK);
-    let seen = held_blocks::edit_over(
+    let seen = test_edit_trial::edit_over(
         state,
         edit,
         &bytes[0..length],

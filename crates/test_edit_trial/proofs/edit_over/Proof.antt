@@ -1,4 +1,4 @@
--- `held_blocks::edit_over` meets its contract: a walk of its MIR, by hand, as that of `open_over` is. All that is known of both callees is that each meets its contract. Assumes nothing.
+-- `test_edit_trial::edit_over` meets its contract: a walk of its MIR, by hand, as that of `open_over` is. All that is known of both callees is that each meets its contract. Assumes nothing.
 use mathlib.Core.Path.{_≡_, refl, ap, subst}
 use mathlib.Core.Logic.{_↔_}
 use Prim.Native.Nat.{ℕ, _<_, _^_, min}
@@ -60,9 +60,9 @@ use Rattle.edits.specs.declared.Edited.{Edited}
 use Rattle.checker.proofs.Lent.{slice₀, to-bytes, to-nodes, shown, calls-ended}
 use Rattle.test_trial.proofs.Lent.{array, typed}
 use Rattle.test_trial.proofs.Over.{slice₁, nodes, to-array, Parts, of-any, lent, Own, front-room, AtMost, calls-most, lends-front, takes-back, dropped, at-exit}
-use Rattle.held_blocks.proofs.Seen.{seen, is-seen}
-use Rattle.held_blocks.proofs.SeenEdit as S
-use Rattle.held_blocks.proofs.SeenEdit.Laws as S′
+use Rattle.test_edit_trial.proofs.Seen.{seen, is-seen}
+use Rattle.test_edit_trial.proofs.SeenEdit as S
+use Rattle.test_edit_trial.proofs.SeenEdit.Laws as S′
 use Rattle.edits.proofs.edit as edits
 use Rattle.edits.proofs.edit.Symbol as edits-def
 use Rattle.edits.proofs.edit.Symbol.{name as #edits·edit}
@@ -70,11 +70,11 @@ use Rattle.edits.proofs.edit.Met as edits-thm
 use Rattle.test_trial.proofs.at_most.Symbol as at-most-def
 use Rattle.test_trial.proofs.at_most.Symbol.{name as #trial·at-most}
 use Rattle.test_trial.proofs.at_most.Met as at-most-thm
-use Rattle.held_blocks.proofs.edit_over.Key.{name as #edit-trial·edit-over}
-use Rattle.held_blocks.proofs.edit_over as edit-over
-use Rattle.held_blocks.proofs.edit_over.Statement as stated
-use Rattle.held_blocks.proofs.edit_over.Code as code
-use Rattle.held_blocks.proofs.edit_over.Code.Mir as mir
+use Rattle.test_edit_trial.proofs.edit_over.Key.{name as #edit-trial·edit-over}
+use Rattle.test_edit_trial.proofs.edit_over as edit-over
+use Rattle.test_edit_trial.proofs.edit_over.Statement as stated
+use Rattle.test_edit_trial.proofs.edit_over.Code as code
+use Rattle.test_edit_trial.proofs.edit_over.Code.Mir as mir
 
 abbrev stayed : Stays (edit-over.ended .signature .params) (edit-over.ended .kept)
 stayed = (

@@ -1,4 +1,4 @@
--- `held_blocks::open_over` meets its contract: a walk of its MIR, by hand, as that of `open_over` is; the records are a parameter. All that is known of both callees is that each meets its contract. Assumes nothing.
+-- `test_edit_trial::open_over` meets its contract: a walk of its MIR, by hand, as that of `open_over` is; the records are a parameter. All that is known of both callees is that each meets its contract. Assumes nothing.
 use mathlib.Core.Path.{_≡_, refl, ap, subst}
 use mathlib.Core.Logic.{_↔_}
 use Prim.Native.Nat.{ℕ, _<_, _^_, min}
@@ -51,9 +51,9 @@ use Rattle.edits.specs.declared.Edited.{Edited}
 use Rattle.checker.proofs.Lent.{slice₀, to-bytes, to-nodes, shown, calls-ended}
 use Rattle.test_trial.proofs.Lent.{array, typed}
 use Rattle.test_trial.proofs.Over.{slice₁, nodes, to-array, Parts, of-any, lent, Own, front-room, AtMost, calls-most, lends-front, takes-back, dropped, at-exit}
-use Rattle.held_blocks.proofs.Seen.{seen, is-seen}
-use Rattle.held_blocks.proofs.SeenEdit as S
-use Rattle.held_blocks.proofs.SeenEdit.Laws as S′
+use Rattle.test_edit_trial.proofs.Seen.{seen, is-seen}
+use Rattle.test_edit_trial.proofs.SeenEdit as S
+use Rattle.test_edit_trial.proofs.SeenEdit.Laws as S′
 use Rattle.edits.proofs.open as opens
 use Rattle.edits.proofs.open.Symbol as opens-def
 use Rattle.edits.proofs.open.Symbol.{name as #edits·open}
@@ -61,11 +61,11 @@ use Rattle.edits.proofs.open.Met as opens-thm
 use Rattle.test_trial.proofs.at_most.Symbol as at-most-def
 use Rattle.test_trial.proofs.at_most.Symbol.{name as #trial·at-most}
 use Rattle.test_trial.proofs.at_most.Met as at-most-thm
-use Rattle.held_blocks.proofs.open_over.Key.{name as #edit-trial·open-over}
-use Rattle.held_blocks.proofs.open_over as open-over
-use Rattle.held_blocks.proofs.open_over.Statement as stated
-use Rattle.held_blocks.proofs.open_over.Code as code
-use Rattle.held_blocks.proofs.open_over.Code.Mir as mir
+use Rattle.test_edit_trial.proofs.open_over.Key.{name as #edit-trial·open-over}
+use Rattle.test_edit_trial.proofs.open_over as open-over
+use Rattle.test_edit_trial.proofs.open_over.Statement as stated
+use Rattle.test_edit_trial.proofs.open_over.Code as code
+use Rattle.test_edit_trial.proofs.open_over.Code.Mir as mir
 
 abbrev stayed : Stays (open-over.ended .signature .params) (open-over.ended .kept)
 stayed = (stay-dropped (shrSliceOf (0 ∷ []) tt (plain (λ _. u8))) yes, (stay-dropped (plain (λ _. usize)) yes, (stay-dropped (plain (λ _. array 200)) yes, (gave-slice (1 ∷ []) tt (plain (λ _. u8)), tt))))

@@ -1,0 +1,2 @@
+-- What opening or an edit over records by value leaves.
+pub mod Seen
