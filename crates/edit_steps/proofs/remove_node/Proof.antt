@@ -69,7 +69,7 @@ returns-5 c =
     let fit = unused .before in
     let named = fit .before .before .before in
     removes _ _ _ _ _ _ _ (fit .before .before .if1 .left) (fit .before .if2 .left) (fit .if3 .left)
-    (gave-up _ _ _ _ (named .lowestUser .ensures) _ _ _ _ _ (unused .if4 .left) (omega arith) (named .before .before .pre .nodes) (omega arith)
+    (gave-up _ _ _ _ (named .lowest-user .ensures) _ _ _ _ _ (unused .if4 .left) (omega arith) (named .before .before .pre .nodes) (omega arith)
     (without .without-node .ensures .0 .1) (without .without-node .ensures .1) (marks .without-marks .ensures) (moved .move-down .ensures) (c .read-marks .ensures))
 
 pub remove-node-spec : {M : Type 1} → statement M

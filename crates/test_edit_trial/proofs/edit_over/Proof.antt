@@ -68,9 +68,9 @@ use Rattle.edits.proofs.edit.Symbol as edits-def
 use Rattle.edits.proofs.edit.Symbol.{name as #edits·edit}
 use Rattle.edits.proofs.edit.Met as edits-thm
 use Rattle.test_trial.proofs.at_most.Symbol as at-most-def
-use Rattle.test_trial.proofs.at_most.Symbol.{name as #trial·at-most}
+use Rattle.test_trial.proofs.at_most.Symbol.{name as #test-trial·at-most}
 use Rattle.test_trial.proofs.at_most.Met as at-most-thm
-use Rattle.test_edit_trial.proofs.edit_over.Key.{name as #edit-trial·edit-over}
+use Rattle.test_edit_trial.proofs.edit_over.Key.{name as #test-edit-trial·edit-over}
 use Rattle.test_edit_trial.proofs.edit_over as edit-over
 use Rattle.test_edit_trial.proofs.edit_over.Statement as stated
 use Rattle.test_edit_trial.proofs.edit_over.Code as code
@@ -191,7 +191,7 @@ module _ {M : Type 1} (𝓤 : URA M) (H : Heap 𝓤) (A : Atoms 𝓤) (W : Given
       move ! (1 ∷ 0 ∷ []) $ fjoin ! $ move ! (2 ∷ 0 ∷ []) $ fjoin ! $ owned ! E.the-row (Is E.the-row) (EL.makes E.the-type E′.the-plain 𝓤 H A) edit _ is-e $ fjoin ! $
       owned ! B.the-row (Is B.the-row) (LL.makes B.the-type B′.the-plain 𝓤 H A) state _ is-s $ fjoin ! $ move ! (1 ∷ 0 ∷ []) $ join ! $ frame ! $ done !
 
-  module _ (C : Calls 𝓤 H) (Λ : Loops 𝓤 H) (fm : FmC 𝓤 H (W .laws) C) (known-most : Triple 𝓤 (C #trial·at-most) (AtMost 𝓤 H A memory run))
+  module _ (C : Calls 𝓤 H) (Λ : Loops 𝓤 H) (fm : FmC 𝓤 H (W .laws) C) (known-most : Triple 𝓤 (C #test-trial·at-most) (AtMost 𝓤 H A memory run))
       (known-edit : Triple 𝓤 (C #edits·edit) (Change 𝓤 H A memory run)) where
     module _ (l₀ l₁ l₂ l₃ l₄ l₅ l₆ l₇ l₈ l₉ l₁₀ l₁₁ l₁₂ l₁₃ l₁₄ : ℕ) where
       abbrev En : Env 𝓤 H
@@ -258,7 +258,7 @@ module _ {M : Type 1} (𝓤 : URA M) (H : Heap 𝓤) (A : Atoms 𝓤) (W : Given
         runs-on l₀ l₁ l₂ l₃ l₄ l₅ l₆ l₇ l₈ l₉ l₁₀ l₁₁ l₁₂ l₁₃ l₁₄)))))))))))))))
 
 module _ {M : Type 1} (𝓤 : URA M) (H : Heap 𝓤) (A : Atoms 𝓤) (W : Given 𝓤 H A) (memory : Memory → SProp 𝓤) (run : Routine → Fun 𝓤) where
-  edit-over-walks : (C : Calls 𝓤 H) (Λ : Loops 𝓤 H) → FmC 𝓤 H (W .laws) C → Triple 𝓤 (C #trial·at-most) (AtMost 𝓤 H A memory run) → Triple 𝓤 (C #edits·edit) (Change 𝓤 H A memory run)
+  edit-over-walks : (C : Calls 𝓤 H) (Λ : Loops 𝓤 H) → FmC 𝓤 H (W .laws) C → Triple 𝓤 (C #test-trial·at-most) (AtMost 𝓤 H A memory run) → Triple 𝓤 (C #edits·edit) (Change 𝓤 H A memory run)
       → Walks 𝓤 H A edit-over.ended stayed (WpFn 𝓤 H C Λ code.function) (edit-over.clauses 𝓤 H A memory run)
   edit-over-walks C Λ fm known-most known-edit = walked 𝓤 H A edit-over.ended stayed (edit-over.clauses 𝓤 H A memory run) (WpFn 𝓤 H C Λ code.function)
       (λ κs. (LL.vals B.the-type B′.the-laws, (EL.vals E.the-type E′.the-laws, (slice-vals, (uint-vals w64, (array-vals (LL.vals T.the-type T′.the-laws), (slice-vals, tt)))))))
@@ -268,7 +268,7 @@ module _ {M : Type 1} (𝓤 : URA M) (H : Heap 𝓤) (A : Atoms 𝓤) (W : Given
       (are .0) (are .1 .0) (are .1 .1 .0 .0 .1) (are .1 .1 .1 .0 .1) (are .1 .1 .1 .1 .0) (are .1 .1 .1 .1 .1 .0 .0 .1) C Λ fm known-most known-edit))
 
 edit-over-meets : {M : Type 1} (𝓤 : URA M) (H : Heap 𝓤) (A : Atoms 𝓤) → Given 𝓤 H A → (memory : Memory → SProp 𝓤) (run : Routine → Fun 𝓤) (𝓣 : Tables 𝓤 H)
-    → Triple 𝓤 (𝓣 .C #trial·at-most) (AtMost 𝓤 H A memory run) → Triple 𝓤 (𝓣 .C #edits·edit) (Change 𝓤 H A memory run)
+    → Triple 𝓤 (𝓣 .C #test-trial·at-most) (AtMost 𝓤 H A memory run) → Triple 𝓤 (𝓣 .C #edits·edit) (Change 𝓤 H A memory run)
     → Meets 𝓤 H A edit-over.signature (WpFn 𝓤 H (𝓣 .C) (𝓣 .Λ) code.function) (edit-over.spec 𝓤 H A memory run)
 edit-over-meets 𝓤 H A W memory run 𝓣 known-most known-edit =
     walk-meets 𝓤 H A edit-over.ended stayed W (
@@ -288,7 +288,7 @@ pub edit-over-spec : {M : Type 1} → stated.statement M
 unfolding code.routine tablesOf
 edit-over-spec 𝓤 H 𝓜 𝓖 𝓡 =
     entered 𝓤 H (tripleOf 𝓤 H (𝓖 .A) edit-over.signature (edit-over.spec 𝓤 H (𝓖 .A) (𝓜 .mem) (𝓡 .run)))
-    (tables 𝓤 H 𝓜 𝓡 code.env .C) (tables 𝓤 H 𝓜 𝓡 code.env .Λ) #edit-trial·edit-over code.function (code.unfolded 𝓤 H 𝓜 𝓡)
+    (tables 𝓤 H 𝓜 𝓡 code.env .C) (tables 𝓤 H 𝓜 𝓡 code.env .Λ) #test-edit-trial·edit-over code.function (code.unfolded 𝓤 H 𝓜 𝓡)
     (edit-over-meets 𝓤 H (𝓖 .A) (givenOf 𝓤 H 𝓜 𝓖) (𝓜 .mem) (𝓡 .run) (tablesOf 𝓤 H 𝓜 (tables 𝓤 H 𝓜 𝓡 code.env))
-    (cited 𝓤 H (AtMost 𝓤 H (𝓖 .A) (𝓜 .mem) (𝓡 .run)) 𝓜 𝓡 code.env #trial·at-most at-most-def.routine code.calls-trial·at-most (at-most-thm.met 𝓤 H 𝓜 𝓖 𝓡))
+    (cited 𝓤 H (AtMost 𝓤 H (𝓖 .A) (𝓜 .mem) (𝓡 .run)) 𝓜 𝓡 code.env #test-trial·at-most at-most-def.routine code.calls-test-trial·at-most (at-most-thm.met 𝓤 H 𝓜 𝓖 𝓡))
     (cited 𝓤 H (Change 𝓤 H (𝓖 .A) (𝓜 .mem) (𝓡 .run)) 𝓜 𝓡 code.env #edits·edit edits-def.routine code.calls-edits·edit (edits-thm.met 𝓤 H 𝓜 𝓖 𝓡)))

@@ -59,9 +59,9 @@ use Rattle.edits.proofs.open.Symbol as opens-def
 use Rattle.edits.proofs.open.Symbol.{name as #edits·open}
 use Rattle.edits.proofs.open.Met as opens-thm
 use Rattle.test_trial.proofs.at_most.Symbol as at-most-def
-use Rattle.test_trial.proofs.at_most.Symbol.{name as #trial·at-most}
+use Rattle.test_trial.proofs.at_most.Symbol.{name as #test-trial·at-most}
 use Rattle.test_trial.proofs.at_most.Met as at-most-thm
-use Rattle.test_edit_trial.proofs.open_over.Key.{name as #edit-trial·open-over}
+use Rattle.test_edit_trial.proofs.open_over.Key.{name as #test-edit-trial·open-over}
 use Rattle.test_edit_trial.proofs.open_over as open-over
 use Rattle.test_edit_trial.proofs.open_over.Statement as stated
 use Rattle.test_edit_trial.proofs.open_over.Code as code
@@ -156,7 +156,7 @@ module _ {M : Type 1} (𝓤 : URA M) (H : Heap 𝓤) (A : Atoms 𝓤) (W : Given
       qed W (Alive κ ∷ ‵ Own₀ ∷ (‵ (Own parts l κ γ) ⊛ ‵ Own₁) ∷ []) ∵ nothing ! $ move ! (3 ∷ []) $ split ! $ move ! (1 ∷ 2 ∷ []) $ fjoin ! $
       move ! (1 ∷ 0 ∷ []) $ fjoin ! $ move ! (2 ∷ 0 ∷ []) $ fjoin ! $ move ! (1 ∷ 0 ∷ []) $ join ! $ frame ! $ done !
 
-  module _ (C : Calls 𝓤 H) (Λ : Loops 𝓤 H) (fm : FmC 𝓤 H (W .laws) C) (known-most : Triple 𝓤 (C #trial·at-most) (AtMost 𝓤 H A memory run))
+  module _ (C : Calls 𝓤 H) (Λ : Loops 𝓤 H) (fm : FmC 𝓤 H (W .laws) C) (known-most : Triple 𝓤 (C #test-trial·at-most) (AtMost 𝓤 H A memory run))
       (known-open : Triple 𝓤 (C #edits·open) (Open 𝓤 H A memory run)) where
     module _ (l₀ l₁ l₂ l₃ l₄ l₅ l₆ l₇ l₈ l₉ l₁₀ l₁₁ l₁₂ : ℕ) where
       abbrev En : Env 𝓤 H
@@ -221,7 +221,7 @@ module _ {M : Type 1} (𝓤 : URA M) (H : Heap 𝓤) (A : Atoms 𝓤) (W : Given
         runs-on l₀ l₁ l₂ l₃ l₄ l₅ l₆ l₇ l₈ l₉ l₁₀ l₁₁ l₁₂)))))))))))))
 
 module _ {M : Type 1} (𝓤 : URA M) (H : Heap 𝓤) (A : Atoms 𝓤) (W : Given 𝓤 H A) (memory : Memory → SProp 𝓤) (run : Routine → Fun 𝓤) where
-  open-over-walks : (C : Calls 𝓤 H) (Λ : Loops 𝓤 H) → FmC 𝓤 H (W .laws) C → Triple 𝓤 (C #trial·at-most) (AtMost 𝓤 H A memory run) → Triple 𝓤 (C #edits·open) (Open 𝓤 H A memory run)
+  open-over-walks : (C : Calls 𝓤 H) (Λ : Loops 𝓤 H) → FmC 𝓤 H (W .laws) C → Triple 𝓤 (C #test-trial·at-most) (AtMost 𝓤 H A memory run) → Triple 𝓤 (C #edits·open) (Open 𝓤 H A memory run)
       → Walks 𝓤 H A open-over.ended stayed (WpFn 𝓤 H C Λ code.function) (open-over.clauses 𝓤 H A memory run)
   open-over-walks C Λ fm known-most known-open = walked 𝓤 H A open-over.ended stayed (open-over.clauses 𝓤 H A memory run) (WpFn 𝓤 H C Λ code.function)
       (λ κs. (slice-vals, (uint-vals w64, (array-vals (LL.vals T.the-type T′.the-laws), (slice-vals, tt)))))
@@ -231,7 +231,7 @@ module _ {M : Type 1} (𝓤 : URA M) (H : Heap 𝓤) (A : Atoms 𝓤) (W : Given
       (are .0 .0 .1) (are .1 .0 .1) (are .1 .1 .0) (are .1 .1 .1 .0 .0 .1) C Λ fm known-most known-open))
 
 open-over-meets : {M : Type 1} (𝓤 : URA M) (H : Heap 𝓤) (A : Atoms 𝓤) → Given 𝓤 H A → (memory : Memory → SProp 𝓤) (run : Routine → Fun 𝓤) (𝓣 : Tables 𝓤 H)
-    → Triple 𝓤 (𝓣 .C #trial·at-most) (AtMost 𝓤 H A memory run) → Triple 𝓤 (𝓣 .C #edits·open) (Open 𝓤 H A memory run)
+    → Triple 𝓤 (𝓣 .C #test-trial·at-most) (AtMost 𝓤 H A memory run) → Triple 𝓤 (𝓣 .C #edits·open) (Open 𝓤 H A memory run)
     → Meets 𝓤 H A open-over.signature (WpFn 𝓤 H (𝓣 .C) (𝓣 .Λ) code.function) (open-over.spec 𝓤 H A memory run)
 open-over-meets 𝓤 H A W memory run 𝓣 known-most known-open =
     walk-meets 𝓤 H A open-over.ended stayed W (
@@ -245,7 +245,7 @@ pub open-over-spec : {M : Type 1} → stated.statement M
 unfolding code.routine tablesOf
 open-over-spec 𝓤 H 𝓜 𝓖 𝓡 =
     entered 𝓤 H (tripleOf 𝓤 H (𝓖 .A) open-over.signature (open-over.spec 𝓤 H (𝓖 .A) (𝓜 .mem) (𝓡 .run)))
-    (tables 𝓤 H 𝓜 𝓡 code.env .C) (tables 𝓤 H 𝓜 𝓡 code.env .Λ) #edit-trial·open-over code.function (code.unfolded 𝓤 H 𝓜 𝓡)
+    (tables 𝓤 H 𝓜 𝓡 code.env .C) (tables 𝓤 H 𝓜 𝓡 code.env .Λ) #test-edit-trial·open-over code.function (code.unfolded 𝓤 H 𝓜 𝓡)
     (open-over-meets 𝓤 H (𝓖 .A) (givenOf 𝓤 H 𝓜 𝓖) (𝓜 .mem) (𝓡 .run) (tablesOf 𝓤 H 𝓜 (tables 𝓤 H 𝓜 𝓡 code.env))
-    (cited 𝓤 H (AtMost 𝓤 H (𝓖 .A) (𝓜 .mem) (𝓡 .run)) 𝓜 𝓡 code.env #trial·at-most at-most-def.routine code.calls-trial·at-most (at-most-thm.met 𝓤 H 𝓜 𝓖 𝓡))
+    (cited 𝓤 H (AtMost 𝓤 H (𝓖 .A) (𝓜 .mem) (𝓡 .run)) 𝓜 𝓡 code.env #test-trial·at-most at-most-def.routine code.calls-test-trial·at-most (at-most-thm.met 𝓤 H 𝓜 𝓖 𝓡))
     (cited 𝓤 H (Open 𝓤 H (𝓖 .A) (𝓜 .mem) (𝓡 .run)) 𝓜 𝓡 code.env #edits·open opens-def.routine code.calls-edits·open (opens-thm.met 𝓤 H 𝓜 𝓖 𝓡)))
