@@ -15,6 +15,7 @@ use netlists::Netlist;
 use rules::MOST_NODES;
 use rules::MOST_VARIABLES;
 use rules::Node;
+use rules::QueryOutcome;
 use rules::Refusal;
 
 // A block by value, and its marks.
@@ -37,17 +38,14 @@ fn add_offered(
     ensures { λ r. ⌜ Adds block marks node entries r (now (work .entry)) (now (work .exit)) ⌝ }
 {
     let count = block.count;
-    let needed = count + 1;
-    let bytes = 256 * needed;
-    if entries < needed {
-        return checker::refused(Refusal::FewEntries(needed));
+    match checker::slices_fit(count + 1, entries, work.len()) {
+        QueryOutcome::Refused(refusal) => checker::refused(refusal),
+        QueryOutcome::Answered => {
+            nodes::node_families(work, count, node);
+            let longer = netlists::with_node(block, node);
+            checker::read_marks(longer, marks::with_last(longer, marks, work))
+        }
     }
-    if work.len() < bytes {
-        return checker::refused(Refusal::ShortWork(bytes));
-    }
-    nodes::node_families(work, count, node);
-    let longer = netlists::with_node(block, node);
-    checker::read_marks(longer, marks::with_last(longer, marks, work))
 }
 
 // A new node at the end of a block: its record is judged before both slices.
@@ -75,23 +73,21 @@ fn remove_node(
     ensures { λ r. ⌜ Changes block marks (Edits.remove removed) entries r (now (work .entry)) (now (work .exit)) ⌝ }
 {
     let count = block.count;
-    let bytes = 256 * count;
     let by = edit_rules::lowest_user(block, removed);
     if count <= removed {
         return checker::refused(Refusal::NoSuchNode(removed));
     }
-    if entries < count {
-        return checker::refused(Refusal::FewEntries(count));
+    match checker::slices_fit(count, entries, work.len()) {
+        QueryOutcome::Refused(refusal) => checker::refused(refusal),
+        QueryOutcome::Answered => {
+            if by < count {
+                return checker::refused(Refusal::StillNamed(by));
+            }
+            edit_rules::move_down(work, removed, count);
+            let fewer = marks::without_marks(marks, removed, count);
+            checker::read_marks(edit_rules::without_node(block, removed), fewer)
+        }
     }
-    if work.len() < bytes {
-        return checker::refused(Refusal::ShortWork(bytes));
-    }
-    if by < count {
-        return checker::refused(Refusal::StillNamed(by));
-    }
-    edit_rules::move_down(work, removed, count);
-    let fewer = marks::without_marks(marks, removed, count);
-    checker::read_marks(edit_rules::without_node(block, removed), fewer)
 }
 
 // ---- an edit
