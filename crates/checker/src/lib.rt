@@ -17,7 +17,6 @@ use marks::Marks;
 use netlists::Netlist;
 use rules::Answer;
 use rules::MOST_NODES;
-use rules::Node;
 use rules::NodeRecord;
 use rules::QueryOutcome;
 use rules::Refusal;
@@ -129,13 +128,9 @@ fn reply_of(examined: Examined) -> Reply
 pub fn no_entries() -> [NodeRecord; MOST_NODES]
     ensures { λ r. ⌜ r ≡ noEntries ⌝ }
 {
+    let node = netlists::blank_node();
     [NodeRecord {
-        node: Node {
-            kind: 0,
-            first: 0,
-            second: 0,
-            set: 0,
-        },
+        node,
         settled: 0,
         glitch: 0,
     }; MOST_NODES]

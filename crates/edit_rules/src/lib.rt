@@ -144,12 +144,7 @@ pub fn without_node(block: Netlist, removed: usize) -> Netlist
         shorter.nodes[i] = renumbered(shorter.nodes[i + 1], removed);
         i += 1;
     }
-    shorter.nodes[last] = Node {
-        kind: 0,
-        first: 0,
-        second: 0,
-        set: 0,
-    };
+    shorter.nodes[last] = netlists::blank_node();
     shorter.count = last;
     shorter
 }

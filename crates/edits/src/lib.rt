@@ -21,7 +21,6 @@ use edit_steps::Loaded;
 use marks::Marks;
 use netlists::Netlist;
 use rules::MOST_NODES;
-use rules::Node;
 use rules::NodeRecord;
 use rules::Reply;
 
@@ -54,12 +53,7 @@ fn loaded_of(state: State, records: [NodeRecord; MOST_NODES], count: usize) -> L
     ensures { λ r. ⌜ r ≡ loadedFrom state count records ⌝ }
 {
     let classes = state.classes;
-    let mut nodes = [Node {
-        kind: 0,
-        first: 0,
-        second: 0,
-        set: 0,
-    }; MOST_NODES];
+    let mut nodes = [netlists::blank_node(); MOST_NODES];
     let mut settled = [0u16; MOST_NODES];
     let mut glitch = [0u16; MOST_NODES];
     let mut i = 0;

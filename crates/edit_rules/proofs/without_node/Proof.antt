@@ -49,6 +49,9 @@ loop-again c =
     let (from, most, reached) = c .before .before .before .loop .inv in
     (omega arith, omega arith, next-moved _ _ _ _ _ from reached (c .renumbered .ensures))
 
+blank-node-requires : tie.Need-blank-node-requires Inv-loop μ-loop
+blank-node-requires c κs = tt
+
 mul-t17 : tie.Need-mul-t17 Inv-loop μ-loop
 mul-t17 c = omega arith
 
@@ -57,7 +60,8 @@ element-set-from-shorter-2 c = omega arith
 
 returns : tie.Need-returns Inv-loop μ-loop
 returns c =
-    let (from, most, reached) = c .before .loop .inv in
+    let (from, most, reached) = c .before .before .loop .inv in
+    rw (c .blank-node .ensures)
     ((ap (λ (block : Value.Netlist). block .variables) reached, omega arith), all-moved _ _ _ _ (omega arith) (omega arith) reached)
 
 pub without-node-spec : {M : Type 1} → statement M
@@ -77,6 +81,7 @@ without-node-spec =
     add-i
     loop-less
     loop-again
+    blank-node-requires
     mul-t17
     element-set-from-shorter-2
     returns)
