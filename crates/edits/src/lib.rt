@@ -48,7 +48,7 @@ fn to_load(state: State, entries: usize) -> usize
 }
 
 // The block of a state, by value with its marks, from the first of some node records.
-fn loaded_of(state: State, records: [NodeRecord; MOST_NODES], count: usize) -> Loaded
+pub fn loaded_of(state: State, records: [NodeRecord; MOST_NODES], count: usize) -> Loaded
     requires { ⌜ count ≤ most-nodes ⌝ }
     ensures { λ r. ⌜ r ≡ loadedFrom state count records ⌝ }
 {
