@@ -96,7 +96,7 @@ fn opened_of(examined: Examined) -> Edited
     ensures { λ r. ⌜ r ≡ openedOf examined ⌝ }
 {
     let reply = examined.reply;
-    let state = edit_rules::state_of(examined.netlist);
+    let state = edit_steps::state_of(examined.netlist);
     Edited { reply, state }
 }
 

@@ -1,7 +1,6 @@
 -- `edit_steps::remove_node` meets its contract: each refusal is the one that the rules check first; and where none is, the families and marks that moved
 -- down are those of the netlist without the node, and the answer is read from these marks. Assumes nothing.
 use mathlib.Core.Path.{_∙_}
-use native.Mathlib.Omega.{arith}
 use borrow.Author.Needs.{needs}
 use Rattle.checker.proofs.Core.{too-short}
 use Rattle.edit_steps.proofs.Changing.{state-count, refused-early}
