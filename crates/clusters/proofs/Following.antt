@@ -1,5 +1,5 @@
--- A node's settled value follows from those of its feeding points: it is what the rules make of them. So where the counts agree on some points, they
--- agree on these and all nodes that no other point feeds. Assumes nothing.
+-- A node's settled value follows from those of its feeding points: it is what the rules make of them. So where the
+-- counts agree on some points, they agree on these and all nodes that no other point feeds. Assumes nothing.
 use Prim.Native.Nat.{ℕ}
 use mathlib.Core.Path.{_≡_, refl, sym, ap, ap₂, _∙_, subst}
 use mathlib.Core.Bool.{Bool, true, false, cond, not, xor, _&&_, _||_, Bool·beq, and-false}

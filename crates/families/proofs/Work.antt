@@ -1,5 +1,6 @@
--- What the parts of the work bytes hold: parts 2 × i and 2 × i + 1 hold just the sets of the two families of node i, and as many. By the bits of
--- the bytes, which are those of every set below 1,024; a family has no other. Assumes nothing.
+-- What the parts of the work bytes hold: parts 2 × i and 2 × i + 1 hold just the sets of the two families of node i,
+-- and as many. By the bits of the bytes, which are those of every set below 1,024; a family has no other.
+-- Assumes nothing.
 use Prim.Native.Nat.{ℕ, _+_, _*_, _/_, _%_, _^_, _≤_, _<_}
 use mathlib.Core.Path.{_≡_, sym, _∙_}
 use mathlib.Core.Logic.{⊎-elim}

@@ -1,4 +1,5 @@
--- What a search goes by, the reports of pairs by what the work bytes hold, and when a search is over. Cited by the contracts of this crate. Assumes nothing.
+-- What a search goes by, the reports of pairs by what the work bytes hold, and when a search is over.
+-- Cited by the contracts of this crate. Assumes nothing.
 use Prim.Native.Nat.{ℕ, _+_, _*_}
 use mathlib.Core.Path.{_≡_}
 use mathlib.Core.Bool.{Bool, true, false}

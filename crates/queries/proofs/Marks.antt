@@ -1,5 +1,6 @@
--- The marks on the way to the feeding points of a node. As gates hand them on, from the node down, the points that feed some marked node stay
--- those that feed the node, and the marked nodes from i on are points. So in the end the marked nodes are its feeding points. Assumes nothing.
+-- The marks on the way to the feeding points of a node. As gates hand them on, from the node down,
+-- the points that feed some marked node stay those that feed the node, and the marked nodes from i on are points.
+-- So in the end the marked nodes are its feeding points. Assumes nothing.
 use Prim.Native.Nat.{ℕ, zero, suc, _+_, _≤_, _<_}
 use mathlib.Core.Path.{_≡_, refl, sym, ap, _∙_}
 use mathlib.Core.Logic.{_⊎_, inl, inr, ⊎-elim}

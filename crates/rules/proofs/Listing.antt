@@ -1,5 +1,6 @@
--- The listing's lines node by node, which is how they are written: those of the first nodes, and one line more; and what the lines of the halves
--- name. By induction on the nodes, and by the entries of the table of families. Assumes nothing.
+-- The listing's lines node by node, which is how they are written: those of the first nodes, and one line more;
+-- and what the lines of the halves name. By induction on the nodes, and by the entries of the table of families.
+-- Assumes nothing.
 use Prim.Native.Nat.{ℕ, suc, _+_, _<_}
 use mathlib.Core.Path.{_≡_, refl, sym, _∙_}
 use mathlib.Core.List.{List, [], _∷_, _++_, append-nil, append-assoc}

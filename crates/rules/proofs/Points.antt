@@ -1,6 +1,6 @@
--- Points on which patterns are looked at: what a pattern asks of points taken together, and the law of fewer points. The count of a pattern is the
--- sum of the counts of its two extensions at a further point; so where the counts agree on some points, they agree on any points that are all among
--- them. Assumes nothing.
+-- Points on which patterns are looked at: what a pattern asks of points taken together, and the law of fewer points.
+-- The count of a pattern is the sum of the counts of its two extensions at a further point; so where the counts agree
+-- on some points, they agree on any points that are all among them. Assumes nothing.
 use Prim.Native.Nat.{ℕ, _+_}
 use mathlib.Core.Path.{_≡_, refl, sym, ap, ap₂, _∙_, subst}
 use mathlib.Core.Logic.{_⊎_, inl, inr}

@@ -1,5 +1,5 @@
--- Document 01, "Where each check is made": the refusals, with number and place, in the order of its table, and with them what a whole file
--- says. Assumes nothing.
+-- Document 01, "Where each check is made": the refusals, with number and place, in the order of its table,
+-- and with them what a whole file says. Assumes nothing.
 use Prim.Native.Nat.{ℕ, zero, suc, _+_, _*_, _^_}
 use mathlib.Core.Bool.{Bool, true, false, _&&_, _||_}
 use mathlib.Core.List.{List, [], _∷_}
@@ -45,7 +45,8 @@ overLimit v n end = false
 overLimit v n (variable c) = leb most-variables v
 overLimit v n (node c) = leb most-nodes n
 
--- a number has a bit of a variable that is not declared: with v variables the numbers of their sets are those below 2 to the power v
+-- a number has a bit of a variable that is not declared: with v variables the numbers of their sets
+-- are those below 2 to the power v
 unfoldable pub undeclared : (variables number : ℕ) → Bool
 undeclared v s = leb (2 ^ v) s
 
@@ -64,8 +65,8 @@ badOperand n end = false
 badOperand n (variable c) = false
 badOperand n (node cell) = notBelow n (operands cell)
 
--- The record of kind k with the body b, c whose kind byte stands at `here`, in a file of `total` bytes, after `v` variables and `n` nodes.
--- Row 8 stands first: where the bytes have run out there is no kind byte to judge.
+-- The record of kind k with the body b, c whose kind byte stands at `here`, in a file of `total` bytes, after `v`
+-- variables and `n` nodes. Row 8 stands first: where the bytes have run out there is no kind byte to judge.
 unfoldable pub judgedRecord : (total v n here k b c : ℕ) → Outcome Record
 judgedRecord total v n here k b c =
     let r = said k b c in

@@ -1,5 +1,6 @@
--- Lists of numbers that name each number once: what a family is (of set numbers) and what feeding points are (of node numbers); and of any list how
--- many entries pass a test, the list without an entry, and one made entry by entry. Cited by the sections' definitions. Assumes nothing.
+-- Lists of numbers that name each number once: what a family is (of set numbers) and what feeding points are (of node
+-- numbers); and of any list how many entries pass a test, the list without an entry, and one made entry by entry.
+-- Cited by the sections' definitions. Assumes nothing.
 use Prim.Native.Nat.{ℕ, zero, suc, _+_}
 use mathlib.Core.Bool.{Bool, true, false, cond, _||_}
 use mathlib.Core.List.{List, [], _∷_, _++_}

@@ -1,4 +1,5 @@
--- What the enums that are answers mean in document 01: for each case its number and values. Promises use these. Assumes nothing.
+-- What the enums that are answers mean in document 01: for each case its number and values.
+-- Promises use these. Assumes nothing.
 use Prim.Native.Nat.{ℕ}
 use mathlib.Core.Bool.{Bool}
 use mathlib.Core.List.{List}

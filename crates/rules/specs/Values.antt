@@ -1,6 +1,6 @@
--- Document 01, "Values and feeding points": settled values, feeding points, the settings of each class, patterns, and the number of mask
--- settings that give a pattern. All of it follows from the netlist by these rules, and not from anything that the checker wrote.
--- Assumes nothing.
+-- Document 01, "Values and feeding points": settled values, feeding points, the settings of each class, patterns,
+-- and the number of mask settings that give a pattern. All of it follows from the netlist by these rules, and not from
+-- anything that the checker wrote. Assumes nothing.
 use Prim.Native.Nat.{ℕ, zero, suc, _/_}
 use mathlib.Core.Path.{_≡_}
 use mathlib.Core.Bool.{Bool, true, false, not, _&&_, _||_, xor, Bool·beq}
@@ -19,7 +19,8 @@ unfoldable pub exclusiveOr : (set : ℕ) → Assignment → Bool
 exclusiveOr s [] = false
 exclusiveOr s (x ∷ xs) = xor (odd s && x) (exclusiveOr (s / 2) xs)
 
--- The settled value of an input is the exclusive-or of its variables; of a register, its operand's value; of a gate, the usual function.
+-- The settled value of an input is the exclusive-or of its variables; of a register, its operand's value;
+-- of a gate, the usual function.
 unfoldable pub valueRule : Assignment → List Bool → Cell → Bool
 valueRule x done (input s) = exclusiveOr s x
 valueRule x done (NOT a) = not (getD done a false)
@@ -32,7 +33,8 @@ valueRule x done (register a) = getD done a false
 unfoldable pub values : Netlist → Assignment → List Bool
 values n x = table (valueRule x) [] (n .nodes)
 
--- The feeding points of an input or register are itself; of a gate, all those of its operands, each named once. (The glitch-extended probe.)
+-- The feeding points of an input or register are itself; of a gate, all those of its operands, each named once.
+-- (The glitch-extended probe.)
 unfoldable pub feedingRule : List (List ℕ) → Cell → List ℕ
 feedingRule done (input s) = length done ∷ []
 feedingRule done (NOT a) = getD done a []
@@ -66,7 +68,8 @@ same public public = true
 unfoldable pub howMany : Class → List Class → ℕ
 howMany class variables = count (same class) variables
 
--- A setting of a class gives each variable of that class 0 or 1, in their order. With k of them there are 2 to the power k settings.
+-- A setting of a class gives each variable of that class 0 or 1, in their order. With k of them there
+-- are 2 to the power k settings.
 unfoldable pub settings : (k : ℕ) → List (List Bool)
 settings zero = [] ∷ []
 settings (suc k) = map (λ (s : List Bool). false ∷ s) (settings k) ++ map (λ (s : List Bool). true ∷ s) (settings k)
@@ -89,7 +92,8 @@ make (public ∷ variables) s m p = next p ∷ make variables s m (others p)
 
 -- ---- patterns
 
--- A pattern gives each of some points 0 or 1: here it is a function of the node number, and only its values at those points are looked at.
+-- A pattern gives each of some points 0 or 1: here it is a function of the node number, and only its values
+-- at those points are looked at.
 abbrev pub Pattern : Type 0
 Pattern = ℕ → Bool
 
@@ -103,8 +107,9 @@ unfoldable pub giving : Netlist → (points : List ℕ) → Pattern → (publics
 giving n points pattern p s =
     count (λ (m : List Bool). matches (values n (make (n .variables) s m p)) points pattern) (settings (howMany mask (n .variables)))
 
--- The counts agree on a set of points: for every setting of the publics, any two settings of the secrets and every pattern on the points,
--- the number of mask settings that give the pattern is the same for both settings of the secrets.
+-- The counts agree on a set of points: for every setting of the publics, any two settings of the secrets
+-- and every pattern on the points, the number of mask settings that give the pattern is the same for
+-- both settings of the secrets.
 unfoldable pub CountsAgree : Netlist → (points : List ℕ) → Type 0
 CountsAgree n points =
     (publics secrets secrets′ : List Bool) (pattern : Pattern) → giving n points pattern publics secrets ≡ giving n points pattern publics secrets′

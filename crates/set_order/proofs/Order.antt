@@ -1,5 +1,6 @@
--- The rule of the order: each ten-bit number is in it once, and what stands at a lower place is earlier. antt computes one test over the whole
--- list, that each entry is a ten-bit number and later than the one before it; the laws turn the test into the rule at each place. Assumes nothing.
+-- The rule of the order: each ten-bit number is in it once, and what stands at a lower place is earlier.
+-- antt computes one test over the whole list, that each entry is a ten-bit number and later than the one before it;
+-- the laws turn the test into the rule at each place. Assumes nothing.
 use Prim.Native.Nat.{ℕ, zero, suc, _≤_, _<_}
 use mathlib.Core.Path.{_≡_, refl, sym, subst}
 use mathlib.Core.Logic.{⊎-elim}
