@@ -1,6 +1,6 @@
 -- Clusters whose counts differ, which antt computes, so that what is said of many probes is not empty: one round a gate
 -- that is clear for settled signals and not for glitches, and one beyond a gate, in a block where every gate is clear.
--- And a gate that is clear, with no mark, in a block whose answer names another. Assumes nothing.
+-- And a gate that is clear, with no mark, in a block whose answer reports another. Assumes nothing.
 use Prim.Native.Nat.{ℕ, _*_}
 use mathlib.Core.Path.{_≡_, refl}
 use mathlib.Core.Bool.{false, true, not, xor}
@@ -148,9 +148,9 @@ b-probes-beyond anywhere = disagree p10 (feedingOf p10 cluster-b) b-points (anyw
 pub b-wires-beyond : ¬ ((n : Netlist) → read (P10 .bytes) ≡ answered n → (gate : ℕ) → ClearGate n gate → (cluster : List ℕ) → CountsAgree n cluster)
 b-wires-beyond anywhere = disagree p10 cluster-b b-wires (anywhere p10 p10-read 5 b-gate-clear cluster-b)
 
--- ---- a clear gate of a block whose answer names another
+-- ---- a clear gate of a block whose answer reports another
 
--- The answer for block A names gate 4, and its gate 3 is clear.
+-- The answer for block A reports gate 4, and its gate 3 is clear.
 pub a-answer : reply (P9 .bytes) most-nodes most-work
     ≡ answered (record { variables = 3; nodes = 5; settled = Families.clear; glitch = Families.suspectAt 4 1 })
 unfolding replyTo

@@ -18,7 +18,7 @@ use Rattle.rules.specs.Checks.{answered, read}
 use Rattle.rules.specs.Slices.{nodeRecord}
 use Rattle.rules.specs.Demands.{TestedNode}
 
--- the feeding points of a cluster, which is any list of nodes: those of all of them together, each named once
+-- the feeding points of a cluster, which is any list of nodes: those of all of them together, each listed once
 unfoldable pub feedingOf : Netlist → (cluster : List ℕ) → List ℕ
 feedingOf n [] = []
 feedingOf n (i ∷ cluster) = union (feeding n i) (feedingOf n cluster)
@@ -48,7 +48,7 @@ ManyProbesEverywhere bytes = (n : Netlist) → read bytes ≡ answered n → (ga
 
 -- ---- the wires themselves
 
--- on the nodes of every cluster round a gate, the counts agree: a pattern there names the settled values
+-- on the nodes of every cluster round a gate, the counts agree: a pattern there gives the settled values
 -- of the probed nodes themselves
 unfoldable pub WiresRound : Netlist → (gate : ℕ) → Type 0
 WiresRound n gate = (cluster : List ℕ) → Round n gate cluster → CountsAgree n cluster

@@ -1,4 +1,4 @@
--- A part of a slice of families: its members are its bits, each named once and at most 1,024 in all,
+-- A part of a slice of families: its members are its bits, each listed once and at most 1,024 in all,
 -- and `withFamily` writes one part and sees membership alone. By the entries of the slice, outside the part and in it;
 -- what a part holds, by induction on the number of sets looked at. Assumes nothing.
 use Prim.Native.Nat.{ℕ, zero, suc, _+_, _*_, _-_, _/_, _%_, _^_, _≤_, _<_}
@@ -59,7 +59,7 @@ module _ (bytes : List ℕ) (part : ℕ) where
       go false e (inl p) rest = rw (p, e, not-yet k)
       go false e (inr l) rest = rest l
 
-  -- each is named once
+  -- each is listed once
   once-below : (k : ℕ) → T (once (setsBelow bytes part k))
   unfolding once setsBelow
   once-below zero = tt

@@ -63,7 +63,7 @@ written-alike bytes part F has small =
     part-alike (withFamily bytes part F) part F
     (λ A l. sym (member-at (withFamily bytes part F) part A l) ∙ with-here bytes part F has A l) small
 
--- as many sets, where the family names each once
+-- as many sets, where the family lists each once
 part-size : (bytes : List ℕ) (part : ℕ) (F : Family) → T (once F) → Alike (familyAt bytes part) F → length (familyAt bytes part) ≡ length F
 part-size bytes part F t h = same-length (familyAt bytes part) F (once-at bytes part) t (h .same)
 

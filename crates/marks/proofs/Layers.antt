@@ -1,5 +1,5 @@
 -- Marks by value: what stands at a node's number, one mark more, what a scan that goes on has marked so far, and those
--- behind a node that is given up; over work bytes that hold the families of a netlist, they are the netlist's marks,
+-- behind a node that is removed; over work bytes that hold the families of a netlist, they are the netlist's marks,
 -- from which both halves of its answer are read. Assumes nothing.
 use Prim.Native.Nat.{ℕ, zero, suc, _+_, _-_, _≤_, _<_}
 use mathlib.Core.Path.{_≡_, refl, sym, ap, ap₂, subst, _∙_}

@@ -130,7 +130,7 @@ gated-probe probe = gated-leaks (probe gated-netlist gated-read 5 (record { ther
 
 -- ---- a refused block whose settled value gives nothing away
 
--- P12: the netlist that its bytes are. Both halves of its answer name node 4.
+-- P12: the netlist that its bytes are. Both halves of its answer report node 4.
 abbrev pub p12 : Netlist
 p12 = record { variables = secret ∷ mask ∷ []; nodes = input 3 ∷ input 2 ∷ NOT 1 ∷ AND 1 2 ∷ XOR 0 3 ∷ [] }
 

@@ -115,9 +115,9 @@ two-suspects = record {
   expected = answers (suspectAt 2 1) (suspectAt 2 1) 2 3;
 }
 
--- Two of the mistakes show in the table: a register that passed on its operand's glitch family would name a suspect in
--- P10, and the settled XOR rule between registers none in P9. The others show here, and so do a family that forgets a
--- set and a wrong choice of the reported one.
+-- Two of the mistakes show in the table: a register that passed on its operand's glitch family would report a suspect
+-- in P10, and the settled XOR rule between registers none in P9. The others show here, and so do a family that forgets
+-- a set and a wrong choice of the reported one.
 pub mistakes : Each Right (arises-twice ∷ public-beside-secret ∷ publics-alone ∷ second-operand ∷ or-gate ∷ bare-register ∷ two-suspects ∷ [])
 unfolding replyTo
 mistakes =

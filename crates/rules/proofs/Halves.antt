@@ -231,7 +231,7 @@ half-clear layer n = (λ e. subst (Says layer n) e (half-says layer n), λ h. go
     go h clear r = refl
     go h (suspectAt i A) r = absurd (T-not (suspect (n .variables) A) (h i (r .testedNode) A (r .inFamily)) (r .isSuspect))
 
--- and where it is suspect it names the lowest such node, with the set that it reports
+-- and where it is suspect it gives the lowest such node, with the set that it reports
 pub half-suspect : (layer : Families → Family) (n : Netlist) (i A : ℕ) → half layer n ≡ suspectAt i A → NamesLowest layer n i A
 half-suspect layer n i A e = subst (Says layer n) e (half-says layer n)
 

@@ -33,7 +33,7 @@ valueRule x done (register a) = getD done a false
 unfoldable pub values : Netlist → Assignment → List Bool
 values n x = table (valueRule x) [] (n .nodes)
 
--- The feeding points of an input or register are itself; of a gate, all those of its operands, each named once.
+-- The feeding points of an input or register are itself; of a gate, all those of its operands, each listed once.
 -- (The glitch-extended probe.)
 unfoldable pub feedingRule : List (List ℕ) → Cell → List ℕ
 feedingRule done (input s) = length done ∷ []
@@ -97,7 +97,7 @@ make (public ∷ variables) s m p = next p ∷ make variables s m (others p)
 abbrev pub Pattern : Type 0
 Pattern = ℕ → Bool
 
--- every point has the settled value that the pattern names
+-- every point has the settled value that the pattern gives it
 unfoldable pub matches : List Bool → List ℕ → Pattern → Bool
 matches settled [] pattern = true
 matches settled (i ∷ points) pattern = Bool·beq (getD settled i false) (pattern i) && matches settled points pattern

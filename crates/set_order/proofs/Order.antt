@@ -62,7 +62,7 @@ all-low x [] l t = all-front (λ z. z < most-sets) x [] (ltb→lt x most-sets l)
 all-low x (y ∷ ys) l t =
     all-front (λ z. z < most-sets) x (y ∷ ys) (ltb→lt x most-sets l) (all-low y ys (next-low x y ys t) (others-follow x y ys t))
 
--- so it names each once
+-- so it holds each once
 follow-once : (x : ℕ) (ys : List ℕ) → T (follow x ys) → T (once (x ∷ ys))
 unfolding once
 follow-once x [] t = single-once x
