@@ -27,7 +27,8 @@ pub extern "C" fn telgouin_derive(
     set: usize,
     steps: &mut [u8],
 ) -> usize
-    ensures reply { λ r. ⌜ r ≡ packedSteps (stepsReply (now (bytes .entry)) node layer set (length (now (steps .entry)))) ⌝ }
+    ensures reply { λ r. ⌜ r ≡
+        packedSteps (stepsReply (now (bytes .entry)) node layer set (length (now (steps .entry)))) ⌝ }
     ensures steps { λ _. ⌜ now (steps .exit) ≡ stepsAfter (now (bytes .entry)) node layer set (now (steps .entry)) ⌝ }
 {
     let reply = derivations::derive(bytes, node, layer, set, steps);

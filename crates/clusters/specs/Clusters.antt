@@ -25,7 +25,8 @@ feedingOf n (i ∷ cluster) = union (feeding n i) (feedingOf n cluster)
 
 -- the cluster lies round a gate: the feeding points of its nodes are all among the gate's
 unfoldable pub Round : Netlist → (gate : ℕ) → (cluster : List ℕ) → Type 0
-Round n gate cluster = (i : ℕ) → T (member i cluster) → (point : ℕ) → T (member point (feeding n i)) → T (member point (feeding n gate))
+Round n gate cluster =
+    (i : ℕ) → T (member i cluster) → (point : ℕ) → T (member point (feeding n i)) → T (member point (feeding n gate))
 
 -- the gate is clear for glitches: its own glitch family holds no suspect set, whatever other nodes hold
 unfoldable pub ClearGate : Netlist → (gate : ℕ) → Type 0
@@ -44,7 +45,8 @@ ManyProbes bytes = (n : Netlist) → read bytes ≡ answered n → (gate : ℕ) 
 
 -- and so they do round every gate and register of the block
 unfoldable pub ManyProbesEverywhere : List ℕ → Type 0
-ManyProbesEverywhere bytes = (n : Netlist) → read bytes ≡ answered n → (gate : ℕ) → TestedNode n gate → ProbesRound n gate
+ManyProbesEverywhere bytes =
+    (n : Netlist) → read bytes ≡ answered n → (gate : ℕ) → TestedNode n gate → ProbesRound n gate
 
 -- ---- the wires themselves
 
@@ -78,5 +80,6 @@ pub record Unmarked (count : ℕ) (nodes : List NodeRecord) (gate : ℕ) : Type 
 -- Every gate and register of the block that has no glitch mark among these node records is clear, whatever marks others
 -- have; so what is said of many probes holds round it.
 unfoldable pub RoundUnmarked : List ℕ → (nodes : List NodeRecord) → Type 0
-RoundUnmarked bytes nodes = (n : Netlist) → read bytes ≡ answered n → (gate : ℕ) → Unmarked (length (n .nodes)) nodes gate
+RoundUnmarked bytes nodes =
+    (n : Netlist) → read bytes ≡ answered n → (gate : ℕ) → Unmarked (length (n .nodes)) nodes gate
     → ClearGate n gate × ProbesRound n gate × WiresRound n gate

@@ -79,7 +79,8 @@ pub data Follows (n : Netlist) : (i : ℕ) (ℓ : Layer) (set : ℕ) → List St
   -- rule 1: an input's own set, in both layers
   own : {i : ℕ} {ℓ : Layer} {A : ℕ} → Is n i (input A) → Follows n i ℓ A (step i ℓ 1 A ∷ [])
   -- rule 2: the same set is in the family of a NOT's operand in its layer; of a register's operand in the settled layer
-  inverted : {i a : ℕ} {ℓ : Layer} {A : ℕ} {below : List Step} → Is n i (NOT a) → Follows n a ℓ A below → Follows n i ℓ A (step i ℓ 2 A ∷ below)
+  inverted : {i a : ℕ} {ℓ : Layer} {A : ℕ} {below : List Step} → Is n i (NOT a)
+      → Follows n a ℓ A below → Follows n i ℓ A (step i ℓ 2 A ∷ below)
   stored : {i a : ℕ} {ℓ : Layer} {A : ℕ} {below : List Step} → Is n i (register a) → Follows n a settled A below
       → Follows n i ℓ A (step i ℓ 2 A ∷ below)
   -- rule 3: the empty set
@@ -91,7 +92,8 @@ pub data Follows (n : Netlist) : (i : ℕ) (ℓ : Layer) (set : ℕ) → List St
   second : {i a b : ℕ} {ℓ : Layer} {A : ℕ} {below : List Step} → Spreading n i ℓ a b → Follows n b ℓ A below
       → Follows n i ℓ A (step i ℓ 5 A ∷ below)
   -- rule 6: the symmetric difference of a set of the first operand and one of the second
-  both : {i a b : ℕ} {ℓ : Layer} {B C : ℕ} {firsts seconds : List Step} → Gate n i a b → Follows n a ℓ B firsts → Follows n b ℓ C seconds
+  both : {i a b : ℕ} {ℓ : Layer} {B C : ℕ} {firsts seconds : List Step} → Gate n i a b
+      → Follows n a ℓ B firsts → Follows n b ℓ C seconds
       → Follows n i ℓ (bitXor B C) (step i ℓ 6 (bitXor B C) ∷ firsts ++ seconds)
 
 -- ---- the derivation of a set that is in the family
@@ -208,7 +210,8 @@ stepsReply file i k A bytes = andThen (derivable file i k A (fitting bytes)) (λ
 
 -- the slice at exit, which held `before`: the steps, and beyond them what stood there; on a refusal what stood there
 unfoldable pub stepsAfter : List ℕ → (node layer set : ℕ) → (before : List ℕ) → List ℕ
-stepsAfter file i k A before = filled (λ n. stepsOut (derived n i k A)) (derivable file i k A (fitting (length before))) before
+stepsAfter file i k A before =
+    filled (λ n. stepsOut (derived n i k A)) (derivable file i k A (fitting (length before))) before
 
 -- A certificate: netlist bytes, and a slice whose first steps follow from the rules for a set of
 -- a node's family in a layer.

@@ -12,7 +12,8 @@ ghost use Rattle.rules.specs.Checks.{most-work};
 ghost use Rattle.rules.specs.Slices.{entry};
 ghost use Rattle.listing_lines.specs.Text.{Appended};
 ghost use Rattle.nodes.specs.Work.{soFar, Placed};
-ghost use Rattle.derivation_rules.specs.Derivations.{familyIn, step, stepBytes, step-size, claim, claimed, lowestSet, wayOfBoth, wayOfSpread, chosen, layerOf};
+ghost use Rattle.derivation_rules.specs.Derivations.{familyIn, step, stepBytes, step-size, claim, claimed};
+ghost use Rattle.derivation_rules.specs.Derivations.{lowestSet, wayOfBoth, wayOfSpread, chosen, layerOf};
 ghost use Rattle.derivation_steps.specs.Meaning.{claimOf, wayOf, Layered, InRange};
 use families::SETS;
 use rules::Node;
@@ -42,7 +43,8 @@ pub struct Way {
 
 // Whether a claim is true, by work bytes that hold the families.
 pub fn has(work: &[u8], claim: Claim) -> bool
-    requires { ⌜ (most-work ≤ length (now work)) × (claim .node < most-nodes) × (claim .layer < 2) × (claim .set < most-sets) ⌝ }
+    requires { ⌜ (most-work ≤ length (now work))
+        × (claim .node < most-nodes) × (claim .layer < 2) × (claim .set < most-sets) ⌝ }
     ensures { λ r. ⌜ r ≡ claimed (soFar (now (work .entry)) most-nodes) (claimOf claim) ⌝ }
 {
     families::holds(work, 2 * claim.node + claim.layer, claim.set)
@@ -232,7 +234,8 @@ pub fn choose(work: &[u8], node: Node, layer: usize, set: usize) -> Way
 // Writes a step behind the first `at` steps of a slice: five bytes, node, layer, rule, set low byte first.
 // All other bytes are as they were.
 pub fn put_step(steps: &mut [u8], at: usize, claim: Claim, rule: u8)
-    requires { ⌜ (step-size * at + step-size ≤ length (now steps)) × (claim .node < most-nodes) × (claim .layer < 2) × (claim .set < most-sets) ⌝ }
+    requires { ⌜ (step-size * at + step-size ≤ length (now steps))
+        × (claim .node < most-nodes) × (claim .layer < 2) × (claim .set < most-sets) ⌝ }
     ensures { λ _. ⌜ Appended (now (steps .entry)) (now (steps .exit)) (step-size * at) (step-size * (at + 1))
         (stepBytes (step (claim .node) (layerOf (claim .layer)) rule (claim .set))) ⌝ }
 {

@@ -77,7 +77,8 @@ fn with_bit(byte: u8, k: usize) -> u8
 // Puts a set into a part, if it is not there yet.
 pub fn insert(work: &mut [u8], part: usize, set: usize)
     requires { ⌜ HasPart (now work) part × (set < most-sets) ⌝ }
-    ensures { λ _. ⌜ now (work .exit) ≡ withFamily (now (work .entry)) part (insert set (familyAt (now (work .entry)) part)) ⌝ }
+    ensures { λ _. ⌜ now (work .exit) ≡ withFamily (now (work .entry)) part
+        (insert set (familyAt (now (work .entry)) part)) ⌝ }
 {
     let at = PART * part + set / 8;
     work[at] = with_bit(work[at], set % 8);

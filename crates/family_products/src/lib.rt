@@ -22,7 +22,8 @@ use families::SETS;
 // Returns how many are listed then.
 fn list_byte(byte: u8, low: usize, sets: &mut [u16], listed: usize) -> usize
     requires { ⌜ (low + 8 ≤ most-sets) × (listed + 8 ≤ length (now sets)) ⌝ }
-    ensures { λ r. ⌜ ((bytes start : List ℕ) (part : ℕ) → BitsOf byte bytes part low → Listed bytes part low start (now (sets .entry)) listed →
+    ensures { λ r. ⌜ ((bytes start : List ℕ) (part : ℕ) → BitsOf byte bytes part low →
+        Listed bytes part low start (now (sets .entry)) listed →
         Listed bytes part (low + 8) start (now (sets .exit)) r) ⌝ }
     ensures few { λ r. ⌜ r ≤ listed + 8 ⌝ }
 {
@@ -136,7 +137,8 @@ pub fn product(work: &mut [u8], into: usize, first: usize, second: usize) -> usi
     requires { ⌜ HasPart (now work) into × (first < into) × (second < into) ⌝ }
     ensures made { λ _. ⌜ now (work .exit) ≡ withFamily (now (work .entry)) into
         (product (familyAt (now (work .entry)) first) (familyAt (now (work .entry)) second)) ⌝ }
-    ensures tried { λ r. ⌜ r ≡ length (familyAt (now (work .entry)) first) * length (familyAt (now (work .entry)) second) ⌝ }
+    ensures tried { λ r. ⌜ r ≡
+        length (familyAt (now (work .entry)) first) * length (familyAt (now (work .entry)) second) ⌝ }
 {
     let mut sets = [0u16; SETS];
     let mut others = [0u16; SETS];

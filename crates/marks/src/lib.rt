@@ -41,7 +41,8 @@ pub fn no_marks() -> Marks
 // A scan finds the lowest suspect node, and goes on behind it.
 fn layer_marks(netlist: Netlist, layer: usize, work: &[u8]) -> [u16; MOST_NODES]
     requires { ⌜ Sized netlist (length (now work)) × (layer < 2) ⌝ }
-    ensures { λ r. ⌜ ((n : Records.Netlist) → netlist ≡ flatOf n → r ≡ flatMarks (reportsIn n layer (now (work .entry)))) ⌝ }
+    ensures { λ r. ⌜ ((n : Records.Netlist) → netlist ≡ flatOf n →
+        r ≡ flatMarks (reportsIn n layer (now (work .entry)))) ⌝ }
 {
     let count = netlist.count;
     let mut marks = [0u16; MOST_NODES];
@@ -90,7 +91,8 @@ pub fn with_last(netlist: Netlist, marks: Marks, work: &[u8]) -> Marks
     requires { ⌜ Sized netlist (length (now work)) × (0 < netlist .count) ⌝ }
     ensures { λ r. ⌜ ((n : Records.Netlist) → netlist ≡ flatOf n →
         r ≡ withMarks marks (netlist .count - 1)
-        (getD (reportsIn n 0 (now (work .entry))) (netlist .count - 1) none) (getD (reportsIn n 1 (now (work .entry))) (netlist .count - 1) none)) ⌝ }
+        (getD (reportsIn n 0 (now (work .entry))) (netlist .count - 1) none)
+        (getD (reportsIn n 1 (now (work .entry))) (netlist .count - 1) none)) ⌝ }
 {
     let last = netlist.count - 1;
     let mut longer = marks;
@@ -105,7 +107,8 @@ pub fn with_last(netlist: Netlist, marks: Marks, work: &[u8]) -> Marks
 // and the last entry is 0.
 fn without_mark(marks: [u16; MOST_NODES], removed: usize, count: usize) -> [u16; MOST_NODES]
     requires { ⌜ (removed < count) × (count ≤ most-nodes) ⌝ }
-    ensures { λ r. ⌜ ((reports : List (Option ℕ)) → length reports ≡ count → marks ≡ flatMarks reports → r ≡ flatMarks (without removed reports)) ⌝ }
+    ensures { λ r. ⌜ ((reports : List (Option ℕ)) → length reports ≡ count → marks ≡ flatMarks reports →
+        r ≡ flatMarks (without removed reports)) ⌝ }
 {
     let last = count - 1;
     let mut fewer = marks;
@@ -121,7 +124,8 @@ fn without_mark(marks: [u16; MOST_NODES], removed: usize, count: usize) -> [u16;
 // The marks of both layers of `count` nodes without those of node `removed`: those behind it move down by one.
 pub fn without_marks(marks: Marks, removed: usize, count: usize) -> Marks
     requires { ⌜ (removed < count) × (count ≤ most-nodes) ⌝ }
-    ensures { λ r. ⌜ ((settled glitch : List (Option ℕ)) → length settled ≡ count → length glitch ≡ count → marks ≡ marksIn settled glitch →
+    ensures { λ r. ⌜ ((settled glitch : List (Option ℕ)) → length settled ≡ count → length glitch ≡ count →
+        marks ≡ marksIn settled glitch →
         r ≡ marksIn (without removed settled) (without removed glitch)) ⌝ }
 {
     let settled = marks.settled;

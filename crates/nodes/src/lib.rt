@@ -55,7 +55,8 @@ fn settled_family(work: &mut [u8], i: usize, node: Node)
 fn glitch_family(work: &mut [u8], i: usize, node: Node)
     requires { ⌜ HasPart (now work) (2 * i + 1) × Placed i node ⌝ }
     ensures { λ _. ⌜ ((cell : Cell) → node ≡ entry cell →
-        now (work .exit) ≡ withFamily (now (work .entry)) (2 * i + 1) (glitchRule (soFar (now (work .entry)) i) cell)) ⌝ }
+        now (work .exit) ≡ withFamily (now (work .entry)) (2 * i + 1)
+        (glitchRule (soFar (now (work .entry)) i) cell)) ⌝ }
 {
     let into = 2 * i + 1;
     let kind = node.kind;

@@ -11,7 +11,8 @@ use lib.ListN.{length, getD}
 use Rattle.rules.specs.Lists.{member, union}
 use Rattle.rules.specs.Records.{input, Netlist}
 use Rattle.rules.specs.Values.{feeding, CountsAgree}
-use Rattle.rules.specs.Families.{Family, product, familiesAt, suspect, tested, reported, Finding, clear, suspectAt, half, Findings, findings}
+use Rattle.rules.specs.Families.{Family, product, familiesAt, suspect, tested, reported}
+use Rattle.rules.specs.Families.{Finding, clear, suspectAt, half, Findings, findings}
 use Rattle.rules.specs.Checks.{Outcome, answered, refused, andThen, read, admitted}
 use Rattle.rules.specs.Demands.{TestedNode, NoSuspect}
 
@@ -86,7 +87,8 @@ onward p none looked rest = rest
 unfoldable pub searchFrom : (Pair → Option ℕ) → (limit looked : ℕ) → List Pair → Searched
 searchFrom report limit looked [] = record { found = noPair; looked = looked }
 searchFrom report limit looked (p ∷ ps) =
-    cond (ltb looked limit) (onward p (report p) (suc looked) (searchFrom report limit (suc looked) ps)) record { found = spent; looked = looked }
+    cond (ltb looked limit) (onward p (report p) (suc looked) (searchFrom report limit (suc looked) ps))
+    record { found = spent; looked = looked }
 
 -- a single suspect comes back as it is, and no pair is looked at
 unfoldable pub unlessSingle : Finding → Searched → Searched

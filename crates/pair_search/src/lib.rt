@@ -50,7 +50,8 @@ pub struct Search {
 // Copies the family of a part of the work bytes into a part of `scratch`.
 fn take_family(scratch: &mut [u8], into: usize, work: &[u8], from: usize)
     requires { ⌜ HasPart (now scratch) into × HasPart (now work) from ⌝ }
-    ensures { λ _. ⌜ now (scratch .exit) ≡ withFamily (now (scratch .entry)) into (familyAt (now (work .entry)) from) ⌝ }
+    ensures { λ _. ⌜ now (scratch .exit) ≡
+        withFamily (now (scratch .entry)) into (familyAt (now (work .entry)) from) ⌝ }
 {
     let a = PART * into;
     let b = PART * from;

@@ -15,7 +15,8 @@ ghost use Rattle.rules.specs.Demands.{GlitchClear, NothingSuspect, OneProbe};
 ghost use Rattle.rules.specs.Paper.{replyOf};
 ghost use Rattle.netlists.specs.Netlists.{flatOf, Ready, kept};
 ghost use Rattle.marks.specs.Marks.{marksOf};
-ghost use Rattle.pair_search.specs.Pairs.{noPair, unlessSingle, pairsReply, oneProbeReply, NoPair, NothingSuspectInPairs, TwoProbes};
+ghost use Rattle.pair_search.specs.Pairs.{noPair, unlessSingle, pairsReply};
+ghost use Rattle.pair_search.specs.Pairs.{oneProbeReply, NoPair, NothingSuspectInPairs, TwoProbes};
 ghost use Rattle.pair_search.specs.Meaning.{searchedOf};
 ghost use Rattle.pairs.specs.Meaning.{pairsReplyOf};
 ghost use Rattle.pairs.specs.Underway.{isDone, Underway};
@@ -84,7 +85,8 @@ fn single_or_none(reply: Reply) -> Search
 pub fn begin_pairs(examined: Examined) -> Progress
     ensures { λ r. ⌜ ((bytes : List ℕ) (entries limit : ℕ) (before work : List ℕ) →
         replyOf (examined .reply) ≡ reply bytes entries (length before) →
-        examined .netlist ≡ flatOf (kept (admitted bytes entries (length before))) → work ≡ workAfter bytes entries before →
+        examined .netlist ≡ flatOf (kept (admitted bytes entries (length before))) →
+        work ≡ workAfter bytes entries before →
         Underway bytes entries limit before (examined .netlist) work r) ⌝ }
 {
     let reply = examined.reply;
@@ -129,7 +131,8 @@ pub fn further(netlist: Netlist, work: &[u8], limit: usize, progress: Progress) 
 // The reply of one probe beside what was found so far. Once the search is done it is the reply of `check_pairs`.
 pub fn reply_after(progress: Progress) -> PairsReply
     ensures beside { λ r. ⌜ pairsReplyOf r ≡
-        andThen (replyOf (progress .reply)) (λ f. answered (record { answer = f; searched = searchedOf (progress .search) })) ⌝ }
+        andThen (replyOf (progress .reply))
+        (λ f. answered (record { answer = f; searched = searchedOf (progress .search) })) ⌝ }
     ensures done { λ r. ⌜ ((bytes : List ℕ) (entries limit : ℕ) (before : List ℕ) (netlist : Netlist) (work : List ℕ) →
         Underway bytes entries limit before netlist work progress → isDone progress ≡ true →
         pairsReplyOf r ≡ pairsReply bytes entries (length before) limit) ⌝ }
@@ -148,9 +151,12 @@ pub fn reply_after(progress: Progress) -> PairsReply
 // Checks netlist bytes as `check_pairs` does with a slice of `entries` node records: the same reply, and the same work
 // bytes at exit. In place of node records it gives what `checker::examine` gives.
 pub fn examine_pairs(bytes: &[u8], entries: usize, work: &mut [u8], limit: usize) -> ExaminedPairs
-    ensures reply { λ r. ⌜ pairsReplyOf (r .reply) ≡ pairsReply (now (bytes .entry)) entries (length (now (work .entry))) limit ⌝ }
-    ensures netlist { λ r. ⌜ r .examined .netlist ≡ flatOf (kept (admitted (now (bytes .entry)) entries (length (now (work .entry))))) ⌝ }
-    ensures marks { λ r. ⌜ r .examined .marks ≡ marksOf (kept (admitted (now (bytes .entry)) entries (length (now (work .entry))))) ⌝ }
+    ensures reply { λ r. ⌜ pairsReplyOf (r .reply) ≡
+        pairsReply (now (bytes .entry)) entries (length (now (work .entry))) limit ⌝ }
+    ensures netlist { λ r. ⌜ r .examined .netlist ≡
+        flatOf (kept (admitted (now (bytes .entry)) entries (length (now (work .entry))))) ⌝ }
+    ensures marks { λ r. ⌜ r .examined .marks ≡
+        marksOf (kept (admitted (now (bytes .entry)) entries (length (now (work .entry))))) ⌝ }
     ensures work { λ _. ⌜ now (work .exit) ≡ workAfter (now (bytes .entry)) entries (now (work .entry)) ⌝ }
     ensures clear { λ r. ⌜ GlitchClear (oneProbeReply (pairsReplyOf (r .reply))) ↔
         NothingSuspect (now (bytes .entry)) entries (length (now (work .entry))) ⌝ }
@@ -199,7 +205,8 @@ pub fn check_pairs(
         pairsReply (now (bytes .entry)) (length (now (nodes .entry))) (length (now (work .entry))) limit ⌝ }
     ensures nodes { λ _. ⌜ now (nodes .exit) ≡
         nodesAfter (now (bytes .entry)) (now (nodes .entry)) (length (now (work .entry))) ⌝ }
-    ensures work { λ _. ⌜ now (work .exit) ≡ workAfter (now (bytes .entry)) (length (now (nodes .entry))) (now (work .entry)) ⌝ }
+    ensures work { λ _. ⌜ now (work .exit) ≡
+        workAfter (now (bytes .entry)) (length (now (nodes .entry))) (now (work .entry)) ⌝ }
     ensures clear { λ r. ⌜ GlitchClear (oneProbeReply (pairsReplyOf r)) ↔
         NothingSuspect (now (bytes .entry)) (length (now (nodes .entry))) (length (now (work .entry))) ⌝ }
     ensures probe { λ r. ⌜ (GlitchClear (oneProbeReply (pairsReplyOf r)) → OneProbe (now (bytes .entry))) ⌝ }

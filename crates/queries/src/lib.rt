@@ -168,7 +168,8 @@ pub fn feeding_points(bytes: &[u8], node: usize) -> FeedingReply
 fn in_families(netlist: Netlist, node: usize, set: usize) -> MembershipReply
     requires { ⌜ Formed netlist × (node < netlist .count) × (set < most-sets) ⌝ }
     ensures { λ r. ⌜ ((n : Records.Netlist) → netlist ≡ flatOf n → (r .outcome ≡ QueryOutcome.Answered)
-        × (r .settled ≡ member set (familiesAt n node .settled)) × (r .glitch ≡ member set (familiesAt n node .glitch))) ⌝ }
+        × (r .settled ≡ member set (familiesAt n node .settled))
+        × (r .glitch ≡ member set (familiesAt n node .glitch))) ⌝ }
 {
     let mut work = [0u8; MOST_WORK];
     nodes::all_families(netlist, &mut work);

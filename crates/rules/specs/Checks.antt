@@ -5,7 +5,8 @@ use mathlib.Core.Bool.{Bool, true, false, _&&_, _||_}
 use mathlib.Core.List.{List, [], _∷_}
 use lib.Dec.{leb, ltb}
 use lib.ListN.{length, getD}
-use Rattle.rules.specs.Records.{Record, end, variable, node, Netlist, empty, withVariable, withNode, most-variables, most-nodes, last-kind, said, size, operands, setOf}
+use Rattle.rules.specs.Records.{Record, end, variable, node, Netlist, empty, withVariable, withNode}
+use Rattle.rules.specs.Records.{most-variables, most-nodes, last-kind, said, size, operands, setOf}
 
 -- something asked of the checker has an answer, or is refused with number and place
 pub data Outcome {ℓ} (A : Type ℓ) : Type ℓ where

@@ -25,7 +25,8 @@ pub record TestedNode (n : Netlist) (i : ℕ) : Type 0 where
 
 -- no tested node's glitch family holds a suspect set
 unfoldable pub NoSuspect : Netlist → Type 0
-NoSuspect n = (i : ℕ) → TestedNode n i → (A : ℕ) → T (member A (familiesAt n i .glitch)) → T (not (suspect (n .variables) A))
+NoSuspect n =
+    (i : ℕ) → TestedNode n i → (A : ℕ) → T (member A (familiesAt n i .glitch)) → T (not (suspect (n .variables) A))
 
 -- the checker refuses nothing, and the glitch families hold no suspect set at a tested node
 pub record NothingSuspect (bytes : List ℕ) (entries work : ℕ) : Type 0 where

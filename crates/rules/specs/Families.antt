@@ -10,7 +10,8 @@ use lib.Dec.{eqb, ltb}
 use lib.ListN.{length, getD}
 use Rattle.rules.specs.Lists.{insert, union}
 use Rattle.rules.specs.Tables.{table}
-use Rattle.rules.specs.Records.{Class, secret, mask, Cell, input, NOT, XOR, AND, OR, register, Netlist, odd, variableCount}
+use Rattle.rules.specs.Records.{Class, secret, mask, Netlist, odd, variableCount}
+use Rattle.rules.specs.Records.{Cell, input, NOT, XOR, AND, OR, register}
 use Rattle.rules.specs.Values.{same}
 
 -- a family of sets: their numbers, each once

@@ -43,7 +43,8 @@ unfoldable pub nodeLines : ℕ → List Cell → List Families → List ℕ
 nodeLines i [] Fs = []
 nodeLines i (c ∷ cells) [] = []
 nodeLines i (c ∷ cells) (F ∷ Fs) =
-    line (decimal i ∷ kindName c ∷ decimal (length (F .settled)) ∷ decimal (length (F .glitch)) ∷ []) ++ nodeLines (suc i) cells Fs
+    line (decimal i ∷ kindName c ∷ decimal (length (F .settled)) ∷ decimal (length (F .glitch)) ∷ [])
+    ++ nodeLines (suc i) cells Fs
 
 -- a half: `clear`, or node and set number
 unfoldable pub halfLine : List ℕ → Finding → List ℕ

@@ -7,7 +7,10 @@ use Rattle.rules.specs.declared.Half.{Half}
 use Rattle.rules.specs.declared.Half.the-variants.{Clear, Suspect}
 use Rattle.rules.specs.declared.Answer.{Answer}
 use Rattle.rules.specs.declared.Refusal.{Refusal}
-use Rattle.rules.specs.declared.Refusal.the-variants.{UnknownKind, LateVariable, OverLimit, CutShort, UnknownClass, UndeclaredSet, BadOperand, NoEnd, BytesAfterEnd, FewEntries, ShortWork, NoSuchNode, UndeclaredBit, StillNamed, TooManySteps, NotInFamily}
+use Rattle.rules.specs.declared.Refusal.the-variants.{UnknownKind, LateVariable, OverLimit, CutShort}
+use Rattle.rules.specs.declared.Refusal.the-variants.{UnknownClass, UndeclaredSet, BadOperand, NoEnd}
+use Rattle.rules.specs.declared.Refusal.the-variants.{BytesAfterEnd, FewEntries, ShortWork, NoSuchNode}
+use Rattle.rules.specs.declared.Refusal.the-variants.{UndeclaredBit, StillNamed, TooManySteps, NotInFamily}
 use Rattle.rules.specs.declared.Reply.{Reply}
 use Rattle.rules.specs.declared.Reply.the-variants.{Refused, Answered}
 use Rattle.rules.specs.declared.QueryOutcome.{QueryOutcome}

@@ -35,7 +35,8 @@ nodeRecord cell settled glitch = record { node = entry cell; settled = markNumbe
 unfoldable pub nodeRecords : Netlist → List NodeRecord
 nodeRecords n =
     tabulate
-    (λ i. nodeRecord (getD (n .nodes) i (input 0)) (getD (layerMarks (λ F. F .settled) n) i none) (getD (layerMarks (λ F. F .glitch) n) i none))
+    (λ i. nodeRecord (getD (n .nodes) i (input 0)) (getD (layerMarks (λ F. F .settled) n) i none)
+    (getD (layerMarks (λ F. F .glitch) n) i none))
     (length (n .nodes))
 
 -- a byte's worth of a family: its lowest bit is for the set A, and n bits in all

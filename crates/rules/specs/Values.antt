@@ -8,7 +8,8 @@ use mathlib.Core.List.{List, [], _∷_, _++_, map}
 use lib.ListN.{length, getD}
 use Rattle.rules.specs.Lists.{union, count}
 use Rattle.rules.specs.Tables.{table}
-use Rattle.rules.specs.Records.{Class, secret, mask, public, Cell, input, NOT, XOR, AND, OR, register, Netlist, odd}
+use Rattle.rules.specs.Records.{Class, secret, mask, public, Netlist, odd}
+use Rattle.rules.specs.Records.{Cell, input, NOT, XOR, AND, OR, register}
 
 -- An assignment gives each variable 0 or 1: here its entry v is the value of variable v.
 abbrev pub Assignment : Type 0
@@ -105,11 +106,13 @@ matches settled (i ∷ points) pattern = Bool·beq (getD settled i false) (patte
 -- the number of mask settings that give the pattern on these points, beside fixed publics and secrets
 unfoldable pub giving : Netlist → (points : List ℕ) → Pattern → (publics secrets : List Bool) → ℕ
 giving n points pattern p s =
-    count (λ (m : List Bool). matches (values n (make (n .variables) s m p)) points pattern) (settings (howMany mask (n .variables)))
+    count (λ (m : List Bool). matches (values n (make (n .variables) s m p)) points pattern)
+    (settings (howMany mask (n .variables)))
 
 -- The counts agree on a set of points: for every setting of the publics, any two settings of the secrets
 -- and every pattern on the points, the number of mask settings that give the pattern is the same for
 -- both settings of the secrets.
 unfoldable pub CountsAgree : Netlist → (points : List ℕ) → Type 0
 CountsAgree n points =
-    (publics secrets secrets′ : List Bool) (pattern : Pattern) → giving n points pattern publics secrets ≡ giving n points pattern publics secrets′
+    (publics secrets secrets′ : List Bool) (pattern : Pattern)
+    → giving n points pattern publics secrets ≡ giving n points pattern publics secrets′

@@ -48,7 +48,8 @@ pub fn variables_of(netlist: Netlist, class: u8) -> usize
 // Whether a set holds a secret and no mask and is in the part. Most sets hold a mask, so that is tested first.
 fn suspect_in(work: &[u8], part: usize, secrets: usize, masks: usize, set: usize) -> bool
     requires { ⌜ HasPart (now work) part × (set < most-sets) ⌝ }
-    ensures { λ r. ⌜ ((variables : List Class) → secrets ≡ variablesOf secret variables → masks ≡ variablesOf mask variables →
+    ensures { λ r. ⌜ ((variables : List Class) → secrets ≡ variablesOf secret variables →
+        masks ≡ variablesOf mask variables →
         r ≡ (suspect variables set && member set (familyAt (now (work .entry)) part))) ⌝ }
 {
     if set & masks != 0 {
@@ -64,7 +65,8 @@ fn suspect_in(work: &[u8], part: usize, secrets: usize, masks: usize, set: usize
 // or `SETS` if it holds none. Secrets and masks are given as sets.
 pub fn first_suspect(work: &[u8], part: usize, secrets: usize, masks: usize) -> usize
     requires { ⌜ HasPart (now work) part ⌝ }
-    ensures { λ r. ⌜ ((variables : List Class) → secrets ≡ variablesOf secret variables → masks ≡ variablesOf mask variables →
+    ensures { λ r. ⌜ ((variables : List Class) → secrets ≡ variablesOf secret variables →
+        masks ≡ variablesOf mask variables →
         reportOf r ≡ reported variables (familyAt (now (work .entry)) part)) ⌝ }
 {
     let map = suspect_maps::suspect_map(secrets, masks);
@@ -101,7 +103,8 @@ fn first_place(kind: u8, met: bool) -> usize
 // The lowest suspect node from node `from` on in a layer (settled 0, glitch 1) and the set that it reports, or clear.
 pub fn scan(netlist: Netlist, layer: usize, from: usize, work: &[u8]) -> Half
     requires { ⌜ Sized netlist (length (now work)) × (layer < 2) × (from ≤ netlist .count) ⌝ }
-    ensures { λ r. ⌜ ((n : Records.Netlist) → netlist ≡ flatOf n → findingOf r ≡ foundFrom from (reportsIn n layer (now (work .entry)))) ⌝ }
+    ensures { λ r. ⌜ ((n : Records.Netlist) → netlist ≡ flatOf n →
+        findingOf r ≡ foundFrom from (reportsIn n layer (now (work .entry)))) ⌝ }
     ensures within { λ r. ⌜ Within from (netlist .count) r ⌝ }
 {
     let secrets = variables_of(netlist, 0);
