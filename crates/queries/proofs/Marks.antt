@@ -64,7 +64,8 @@ cleared-cases [] i q t = absurd t
 cleared-cases (x ∷ marks) zero zero t = absurd t
 cleared-cases (x ∷ marks) zero (suc q) t = (λ e. omega arith, t)
 cleared-cases (x ∷ marks) (suc i) zero t = (λ e. omega arith, t)
-cleared-cases (x ∷ marks) (suc i) (suc q) t = let (other, m) = cleared-cases marks i q t in (λ e. other (omega arith), m)
+cleared-cases (x ∷ marks) (suc i) (suc q) t =
+    let (other, m) = cleared-cases marks i q t in (λ e. other (omega arith), m)
 
 -- ---- marks for some nodes
 
