@@ -12,12 +12,11 @@ ghost use Rattle.rules.specs.Demands.{GlitchClear, NothingSuspect, OneProbe};
 ghost use Rattle.rules.specs.Paper.{replyOf};
 ghost use Rattle.netlists.specs.Netlists.{flatOf, Formed, Ready, kept};
 ghost use Rattle.marks.specs.Marks.{marksOf};
-ghost use Rattle.checker.specs.Work.{NothingKept, Examines, ReadsMarks, recordIn, stored, unwritten, noEntries};
+ghost use Rattle.checker.specs.Work.{NothingKept, Examines, ReadsMarks, JudgesSlices, recordIn, stored, unwritten, noEntries};
 use marks::Marks;
 use netlists::Netlist;
 use rules::Answer;
 use rules::MOST_NODES;
-use rules::Node;
 use rules::NodeRecord;
 use rules::QueryOutcome;
 use rules::Refusal;
@@ -73,21 +72,31 @@ fn answer(netlist: Netlist, work: &mut [u8]) -> Examined
     read_marks(netlist, marks::all_marks(netlist, work))
 }
 
+// Whether slices of so many entries and so many work bytes hold so many nodes: refusals 10 and 11, in this order.
+pub fn slices_fit(count: usize, entries: usize, work: usize) -> QueryOutcome
+    requires { ⌜ count ≤ most-nodes ⌝ }
+    ensures { λ r. ⌜ JudgesSlices count entries work r ⌝ }
+{
+    let bytes = 256 * count;
+    if entries < count {
+        return QueryOutcome::Refused(Refusal::FewEntries(count));
+    }
+    if work < bytes {
+        return QueryOutcome::Refused(Refusal::ShortWork(bytes));
+    }
+    QueryOutcome::Answered
+}
+
 // The answer for a netlist that was read, or the refusal of slices that are too short for it.
 fn admit(netlist: Netlist, entries: usize, work: &mut [u8]) -> Examined
     requires { ⌜ Formed netlist ⌝ }
     ensures { λ r. ⌜ ((n : Records.Netlist) → netlist ≡ flatOf n →
         Examines (slicesFit entries (length (now (work .entry))) n) r (now (work .entry)) (now (work .exit))) ⌝ }
 {
-    let count = netlist.count;
-    let bytes = 256 * count;
-    if entries < count {
-        return refused(Refusal::FewEntries(count));
+    match slices_fit(netlist.count, entries, work.len()) {
+        QueryOutcome::Refused(refusal) => refused(refusal),
+        QueryOutcome::Answered => answer(netlist, work),
     }
-    if work.len() < bytes {
-        return refused(Refusal::ShortWork(bytes));
-    }
-    answer(netlist, work)
 }
 
 // The same as `check` for a slice of so many entries, with the netlist and its marks by value.
@@ -129,13 +138,9 @@ fn reply_of(examined: Examined) -> Reply
 pub fn no_entries() -> [NodeRecord; MOST_NODES]
     ensures { λ r. ⌜ r ≡ noEntries ⌝ }
 {
+    let node = netlists::blank_node();
     [NodeRecord {
-        node: Node {
-            kind: 0,
-            first: 0,
-            second: 0,
-            set: 0,
-        },
+        node,
         settled: 0,
         glitch: 0,
     }; MOST_NODES]

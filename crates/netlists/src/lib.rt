@@ -6,7 +6,7 @@ ghost use Rattle.rules.specs.Records as Records;
 ghost use Rattle.rules.specs.Slices.{entry};
 ghost use Rattle.rules.specs.Checks as Checks;
 ghost use Rattle.rules.specs.Paper.{numberOf, placeOf};
-ghost use Rattle.netlists.specs.Netlists.{flatOf, Reads};
+ghost use Rattle.netlists.specs.Netlists.{blank, flatOf, Reads};
 use records::Found;
 use rules::MOST_NODES;
 use rules::MOST_VARIABLES;
@@ -31,6 +31,18 @@ pub struct ReadFile {
     pub netlist: Netlist,
 }
 
+// The node record of no node, which stands beyond the count.
+pub fn blank_node() -> Node
+    ensures { λ r. ⌜ r ≡ blank ⌝ }
+{
+    Node {
+        kind: 0,
+        first: 0,
+        second: 0,
+        set: 0,
+    }
+}
+
 // The netlist of no records.
 pub fn no_records() -> Netlist
     ensures { λ r. ⌜ r ≡ flatOf empty ⌝ }
@@ -39,12 +51,7 @@ pub fn no_records() -> Netlist
         variables: 0,
         count: 0,
         classes: [0u8; MOST_VARIABLES],
-        nodes: [Node {
-            kind: 0,
-            first: 0,
-            second: 0,
-            set: 0,
-        }; MOST_NODES],
+        nodes: [blank_node(); MOST_NODES],
     }
 }
 
