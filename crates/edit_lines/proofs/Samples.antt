@@ -6,7 +6,7 @@ use Rattle.rules.specs.Records.{kindOf, operands, body, recordBytes}
 use Rattle.read_words.specs.Numbers.{allDigits, valueBehind, numberBehind, numberIn}
 use Rattle.read_words.specs.Words.{closed, wordsBehind, words, same, cut, withOperand, withTwo, forms, readBy, recordIn}
 use Rattle.edit_rules.specs.Edits.{add, remove}
-use Rattle.edit_lines.specs.Asks.{none, changes, lists, writes, quits, noEdit, addition, only, givenUp, written, alone, asked, stuck, unlessStuck, asksIn}
+use Rattle.edit_lines.specs.Asks.{none, changes, lists, writes, quits, noEdit, addition, only, removal, written, alone, asked, stuck, unlessStuck, asksIn}
 
 -- edits of every kind, and a line that asks nothing
 edits : (asksIn (word "add xor 3 4") ≡ changes (add (4 ∷ 3 ∷ 4 ∷ [])))
@@ -17,14 +17,14 @@ edits : (asksIn (word "add xor 3 4") ≡ changes (add (4 ∷ 3 ∷ 4 ∷ [])))
     × (asksIn (word "quit # at last") ≡ quits)
     × (asksIn (word "  ") ≡ none)
     × (asksIn (word "# add xor 3 4") ≡ none)
-unfolding asksIn unlessStuck stuck asked word words wordsBehind closed same addition only givenUp written alone recordIn readBy forms withOperand withTwo cut numberIn numberBehind allDigits valueBehind recordBytes kindOf operands body
+unfolding asksIn unlessStuck stuck asked word words wordsBehind closed same addition only removal written alone recordIn readBy forms withOperand withTwo cut numberIn numberBehind allDigits valueBehind recordBytes kindOf operands body
 edits = (refl, refl, refl, refl, refl, refl, refl, refl)
 
 -- a comment that is stuck to a word: nothing is written, and every other edit stays
 comments : (asksIn (word "remove 4#gone") ≡ changes (remove 4))
     × (asksIn (word "write o#1") ≡ noEdit)
     × (asksIn (word "write o # now") ≡ writes (word "o"))
-unfolding asksIn unlessStuck stuck asked word words wordsBehind closed same only givenUp written numberIn numberBehind allDigits valueBehind
+unfolding asksIn unlessStuck stuck asked word words wordsBehind closed same only removal written numberIn numberBehind allDigits valueBehind
 comments = (refl, refl, refl)
 
 -- what is no edit: a word missing, a word too many, no record, no number, or no word of an edit
@@ -36,5 +36,5 @@ no-edits : (asksIn (word "add") ≡ noEdit)
     × (asksIn (word "add xor 3") ≡ noEdit)
     × (asksIn (word "remove x") ≡ noEdit)
     × (asksIn (word "Quit") ≡ noEdit)
-unfolding asksIn unlessStuck stuck asked word words wordsBehind closed same addition only givenUp written alone recordIn readBy forms withTwo numberIn numberBehind allDigits valueBehind
+unfolding asksIn unlessStuck stuck asked word words wordsBehind closed same addition only removal written alone recordIn readBy forms withTwo numberIn numberBehind allDigits valueBehind
 no-edits = (refl, refl, refl, refl, refl, refl, refl, refl)

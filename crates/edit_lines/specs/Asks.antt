@@ -29,9 +29,9 @@ only (one ∷ []) = one
 only (one ∷ other ∷ others) = []
 
 -- `remove` and a number
-unfoldable pub givenUp : Number → Asks
-givenUp (Number.Is node) = changes (remove node)
-givenUp Number.None = noEdit
+unfoldable pub removal : Number → Asks
+removal (Number.Is node) = changes (remove node)
+removal Number.None = noEdit
 
 -- `write` and a name
 unfoldable pub written : (name : List ℕ) → Asks
@@ -48,7 +48,7 @@ unfoldable pub asked : (line : List (List ℕ)) → Asks
 asked [] = none
 asked (name ∷ behind) =
     cond (same name (word "add")) (addition behind)
-    (cond (same name (word "remove")) (givenUp (numberIn (only behind)))
+    (cond (same name (word "remove")) (removal (numberIn (only behind)))
     (cond (same name (word "write")) (written (only behind))
     (cond (same name (word "list")) (alone lists behind)
     (cond (same name (word "quit")) (alone quits behind) noEdit))))

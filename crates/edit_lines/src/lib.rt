@@ -7,7 +7,7 @@ ghost use lib.ListN.{length, drop};
 ghost use Rattle.read_words.specs.Numbers.{numberIn};
 ghost use Rattle.read_words.specs.Scans.{part};
 ghost use Rattle.read_words.specs.Words.{words};
-ghost use Rattle.edit_lines.specs.Asks.{addition, only, givenUp, written, alone, asked, stuck, unlessStuck, asksIn};
+ghost use Rattle.edit_lines.specs.Asks.{addition, only, removal, written, alone, asked, stuck, unlessStuck, asksIn};
 ghost use Rattle.edit_lines.specs.Meaning.{asksOf, Within};
 use read_words::Fault;
 use read_words::Number;
@@ -68,7 +68,7 @@ fn added(line: &[u8], at: usize) -> Asked
 // A node to give up.
 fn removed(line: &[u8], at: usize) -> Asked
     requires { ⌜ at ≤ length (now line) ⌝ }
-    ensures { λ r. ⌜ asksOf r (now (line .entry)) ≡ givenUp (numberIn (only (words (drop at (now (line .entry)))))) ⌝ }
+    ensures { λ r. ⌜ asksOf r (now (line .entry)) ≡ removal (numberIn (only (words (drop at (now (line .entry)))))) ⌝ }
     ensures within { λ r. ⌜ Within r (length (now (line .entry))) ⌝ }
 {
     let word = only_word(line, at);

@@ -10,13 +10,13 @@ use Rattle.read_words.specs.Numbers.{allDigits, valueBehind, numberBehind, numb
 use Rattle.read_words.specs.Words.{closed, wordsBehind, words, same, cut, withOperand, withOne, withTwo, forms, readBy, recordIn}
 use Rattle.edit_rules.specs.Edits.{otherwise, netlistAfter}
 use Rattle.edit_rules.proofs.Blocks.{editedTo}
-use Rattle.edit_lines.specs.Asks.{addition, only, removedIfUnused, written, alone, asked, stuck, unlessStuck, asksIn}
+use Rattle.edit_lines.specs.Asks.{addition, only, removal, written, alone, asked, stuck, unlessStuck, asksIn}
 use Rattle.edit_turns.specs.Turns.{Standing, begun, oneMore, turnedAway, afterEdit, failed, afterAsks, afterLine, unlessWritten, Event, line, unread, afterEvent, afterEvents, NothingAtFault}
 
 -- to unfold it is to compute it
 unfoldable ran : Standing → List Event → Standing
 unfolding editedTo word kindOf allDigits valueBehind numberBehind numberIn closed wordsBehind words same cut withOperand withOne withTwo forms readBy recordIn
-    otherwise netlistAfter addition only removedIfUnused written alone asked stuck unlessStuck asksIn
+    otherwise netlistAfter addition only removal written alone asked stuck unlessStuck asksIn
     begun oneMore turnedAway afterEdit failed afterAsks afterLine unlessWritten afterEvent afterEvents
 ran s events = afterEvents s events
 

@@ -1,16 +1,20 @@
-// An open block written out as netlist bytes: the records of its variables, those of its nodes, and the end. What is written, read again, is
-// the block (`write-read` of `rules/proofs/Written`). After any run of edits a check of it gives what both slices hold, and answers as the
-// last edit that was made (`any-run` and `last-reply` of `edits/proofs/Runs`).
+// A netlist written out as bytes: the records of its variables, those of its nodes, and the end. What is written, read
+// again, is the netlist (`write-read` of `rules/proofs/Written`). Of an open block, after any run of edits, a check of it
+// gives what both slices hold, and answers as the last edit that was made (`any-run` and `last-reply` of
+// `edits/proofs/Runs`). It touches nothing but the array that it is lent; the program and `write_words` use it.
 ghost use mathlib.Core.Path.{_≡_};
 ghost use mathlib.Core.List.{List, [], _∷_, _++_};
-ghost use Prim.Native.Nat.{ℕ, _+_, _*_, _≤_, min};
+ghost use Prim.Native.Nat.{ℕ, _+_, _*_, _≤_};
 ghost use lib.ListN.{length, drop};
 ghost use Rattle.rules.specs.Records as Records;
-ghost use Rattle.rules.specs.Records.{Cell, WellFormed, recordBytes, variablesOut, nodesOut, writtenOut, most-variables, most-nodes, most-record, most-bytes};
+ghost use Rattle.rules.specs.Records.{Cell, WellFormed, recordBytes, variablesOut, nodesOut, writtenOut};
+ghost use Rattle.rules.specs.Records.{most-variables, most-nodes, most-record, most-bytes};
 ghost use Rattle.rules.specs.Slices.{entry};
 ghost use Rattle.listing_lines.specs.Text.{Appended};
-ghost use Rattle.edit_rules.specs.Meaning.{stateOf, IsOpen};
+ghost use Rattle.netlists.specs.Netlists.{flatOf};
+ghost use Rattle.edit_rules.specs.Meaning.{IsOpen};
 use edit_rules::State;
+use netlists::Netlist;
 use rules::MOST_NODES;
 use rules::MOST_VARIABLES;
 use rules::Node;
@@ -18,16 +22,6 @@ use rules::NodeRecord;
 
 // At most 10 variable records of two bytes, 200 node records of three, and the end.
 pub const MOST_WRITTEN: usize = 2 * MOST_VARIABLES + 3 * MOST_NODES + 1;
-
-// The lower of two numbers.
-fn lower(a: usize, b: usize) -> usize
-    ensures { λ r. ⌜ r ≡ min a b ⌝ }
-{
-    if a < b {
-        return a;
-    }
-    b
-}
 
 // ---- one record
 
@@ -51,7 +45,8 @@ fn put_three(out: &mut [u8], at: usize, kind: u8, first: u8, second: u8) -> usiz
     at + 3
 }
 
-// A node's record: an input's set in two bytes, low first; else its operands, one of a NOT or a register and two of an XOR, AND or OR.
+// A node's record: an input's set in two bytes, low first; else its operands, one of a NOT or a register and two of an
+// XOR, AND or OR.
 fn put_node(out: &mut [u8], at: usize, node: Node) -> usize
     requires { ⌜ at + most-record ≤ length (now out) ⌝ }
     ensures { λ r. ⌜ ((cell : Cell) → node ≡ entry cell →
@@ -71,37 +66,35 @@ fn put_node(out: &mut [u8], at: usize, node: Node) -> usize
 
 // ---- all records
 
-// The records of the variables, at the front. No more are written than there may be.
-fn put_variables(out: &mut [u8], state: State) -> usize
-    requires { ⌜ most-bytes ≤ length (now out) ⌝ }
-    ensures { λ r. ⌜ ((n : Records.Netlist) → WellFormed n → state ≡ stateOf n →
+// The records of the variables, at the front.
+fn put_variables(out: &mut [u8], netlist: Netlist) -> usize
+    requires { ⌜ (most-bytes ≤ length (now out)) × (netlist .variables ≤ most-variables) ⌝ }
+    ensures { λ r. ⌜ ((n : Records.Netlist) → netlist ≡ flatOf n →
         Appended (now (out .entry)) (now (out .exit)) 0 r (variablesOut (n .variables))) ⌝ }
     ensures few { λ r. ⌜ r ≤ 2 * most-variables ⌝ }
 {
-    let few = lower(state.variables, MOST_VARIABLES);
-    let classes = state.classes;
+    let count = netlist.variables;
     let mut at = 0;
     let mut i = 0;
-    while i < few {
-        at = put_two(out, at, 1, classes[i]);
+    while i < count {
+        at = put_two(out, at, 1, netlist.classes[i]);
         i += 1;
     }
     at
 }
 
-// The records of the nodes, behind those. No more are written than there may be.
-fn put_nodes(out: &mut [u8], at: usize, state: State, nodes: [NodeRecord; MOST_NODES]) -> usize
-    requires { ⌜ (most-bytes ≤ length (now out)) × (at ≤ 2 * most-variables) ⌝ }
-    ensures { λ r. ⌜ ((n : Records.Netlist) (work : List ℕ) → IsOpen n state nodes work →
+// The records of the nodes, behind those.
+fn put_nodes(out: &mut [u8], at: usize, netlist: Netlist) -> usize
+    requires { ⌜ (most-bytes ≤ length (now out)) × (at ≤ 2 * most-variables) × (netlist .count ≤ most-nodes) ⌝ }
+    ensures { λ r. ⌜ ((n : Records.Netlist) → netlist ≡ flatOf n →
         Appended (now (out .entry)) (now (out .exit)) at r (nodesOut (n .nodes))) ⌝ }
     ensures few { λ r. ⌜ r ≤ at + most-record * most-nodes ⌝ }
 {
-    let few = lower(state.count, MOST_NODES);
+    let count = netlist.count;
     let mut next = at;
     let mut i = 0;
-    while i < few {
-        let taken = nodes[i];
-        next = put_node(out, next, taken.node);
+    while i < count {
+        next = put_node(out, next, netlist.nodes[i]);
         i += 1;
     }
     next
@@ -109,8 +102,28 @@ fn put_nodes(out: &mut [u8], at: usize, state: State, nodes: [NodeRecord; MOST_N
 
 // ---- the block
 
-// Writes the bytes of an open block to the front of `out`, and answers how many they are; beyond them `out` is as it was. Of a state and
-// node records that are no open block's, the bytes are left open: the call returns, and answers no more than `out` has.
+// Writes the bytes of a netlist to the front of `out`, and answers how many they are; beyond them `out` is as it was.
+// Of a value that is no netlist's, the bytes are left open: the call returns, and answers no more than `out` has.
+pub fn write_netlist(netlist: Netlist, out: &mut [u8; MOST_WRITTEN]) -> usize
+    ensures long { λ r. ⌜ ((n : Records.Netlist) → WellFormed n → netlist ≡ flatOf n → r ≡ length (writtenOut n)) ⌝ }
+    ensures bytes { λ r. ⌜ ((n : Records.Netlist) → WellFormed n → netlist ≡ flatOf n →
+        now (out .exit) ≡ writtenOut n ++ drop r (now (out .entry))) ⌝ }
+    ensures most { λ r. ⌜ r ≤ most-bytes ⌝ }
+{
+    if netlist.variables > MOST_VARIABLES {
+        return 0;
+    }
+    if netlist.count > MOST_NODES {
+        return 0;
+    }
+    let first = put_variables(out, netlist);
+    let end = put_nodes(out, first, netlist);
+    out[end] = 0;
+    end + 1
+}
+
+// The same for an open block, of its state and node records. Of a state and node records that are no open block's, the
+// bytes are left open: the call returns, and answers no more than `out` has.
 pub fn write_out(
     state: State,
     nodes: [NodeRecord; MOST_NODES],
@@ -121,8 +134,10 @@ pub fn write_out(
         now (out .exit) ≡ writtenOut n ++ drop r (now (out .entry))) ⌝ }
     ensures most { λ r. ⌜ r ≤ most-bytes ⌝ }
 {
-    let first = put_variables(out, state);
-    let end = put_nodes(out, first, state, nodes);
-    out[end] = 0;
-    end + 1
+    if state.count > MOST_NODES {
+        return 0;
+    }
+    let loaded = edits::loaded_of(state, nodes, state.count);
+    let block = loaded.block;
+    write_netlist(block, out)
 }

@@ -1,28 +1,32 @@
-// An open block written out in words: the lines of its variables, those of its nodes, and the end. What is written, read again, is the
-// block (`words-again` of `proofs/ReadAgain`). Each function but the last puts lines behind the first `at` bytes of a text, or at its
-// front, and answers where the next ones go; its caller shows that there is room.
+// A netlist written out in words: the lines of its variables, those of its nodes, and the end. What is written, read
+// again, is the netlist (`words-again` of `proofs/ReadAgain`). It touches nothing but the text that it is lent; the
+// program uses it. Each function that is not public puts lines behind the first `at` bytes of a text, or at its front,
+// and answers where the next ones go; its caller shows that there is room.
 ghost use mathlib.Core.Path.{_≡_};
 ghost use mathlib.Core.List.{List, [], _∷_, _++_, map};
 ghost use Prim.Native.Nat.{ℕ, _+_, _*_, _≤_};
-ghost use lib.ListN.{length, take, drop};
+ghost use lib.ListN.{length, drop};
 ghost use Rattle.rules.specs.Records as Records;
-ghost use Rattle.rules.specs.Records.{Class, Cell, classByte, most-variables, most-nodes};
+ghost use Rattle.rules.specs.Records.{Class, Cell, WellFormed, classByte, most-variables, most-nodes};
 ghost use Rattle.rules.specs.Listing.{word, decimal, line};
-ghost use Rattle.rules.specs.Slices.{entry, nodeRecords};
+ghost use Rattle.rules.specs.Slices.{entry};
 ghost use Rattle.listing_lines.specs.Text.{Room, Appended};
-ghost use Rattle.edit_rules.specs.Meaning.{stateOf, IsOpen};
-ghost use Rattle.write_words.specs.Worded.{variablesBelow, recordLine, recordLines, wordedOut, most-variable-line, most-node-line, most-words};
+ghost use Rattle.netlists.specs.Netlists.{flatOf};
+ghost use Rattle.edit_rules.specs.Meaning.{IsOpen};
+ghost use Rattle.write_words.specs.Worded.{variablesBelow, recordLine, recordLines, wordedOut};
+ghost use Rattle.write_words.specs.Worded.{most-variable-line, most-node-line, most-words};
 use edit_rules::State;
 use listing_lines::put_byte;
 use listing_lines::put_field;
 use listing_lines::put_word;
+use netlists::Netlist;
 use rules::MOST_NODES;
 use rules::MOST_VARIABLES;
 use rules::Node;
 use rules::NodeRecord;
 
-// At most 10 lines of variables, the longest of which is `secret` with its line feed, 200 of nodes, the longest of which is an input
-// of ten variables, and `end`.
+// At most 10 lines of variables, the longest of which is `secret` with its line feed, 200 of nodes, the longest of which
+// is an input of ten variables, and `end`.
 pub const MOST_WORDS: usize = 7 * MOST_VARIABLES + 23 * MOST_NODES + 4;
 
 // ---- one line
@@ -104,35 +108,34 @@ fn put_node(text: &mut [u8], at: usize, node: Node) -> usize
 // ---- all lines
 
 // The lines of the variables, at the front.
-fn put_variables(text: &mut [u8], state: State) -> usize
-    requires { ⌜ Room (now text) 0 most-words × (state .variables ≤ most-variables) ⌝ }
-    ensures { λ r. ⌜ ((n : Records.Netlist) → state ≡ stateOf n →
+fn put_variables(text: &mut [u8], netlist: Netlist) -> usize
+    requires { ⌜ Room (now text) 0 most-words × (netlist .variables ≤ most-variables) ⌝ }
+    ensures { λ r. ⌜ ((n : Records.Netlist) → netlist ≡ flatOf n →
         Appended (now (text .entry)) (now (text .exit)) 0 r (recordLines (map Records.variable (n .variables)))) ⌝ }
     ensures few { λ r. ⌜ r ≤ most-variable-line * most-variables ⌝ }
 {
-    let count = state.variables;
-    let classes = state.classes;
+    let count = netlist.variables;
     let mut at = 0;
     let mut i = 0;
     while i < count {
-        at = put_class(text, at, classes[i]);
+        at = put_class(text, at, netlist.classes[i]);
         i += 1;
     }
     at
 }
 
-// The lines of so many nodes, behind those.
-fn put_nodes(text: &mut [u8], at: usize, count: usize, nodes: [NodeRecord; MOST_NODES]) -> usize
-    requires { ⌜ Room (now text) 0 most-words × (at ≤ most-variable-line * most-variables) × (count ≤ most-nodes) ⌝ }
-    ensures { λ r. ⌜ ((n : Records.Netlist) → count ≡ length (n .nodes) → take count nodes ≡ nodeRecords n →
+// The lines of the nodes, behind those.
+fn put_nodes(text: &mut [u8], at: usize, netlist: Netlist) -> usize
+    requires { ⌜ Room (now text) 0 most-words × (at ≤ most-variable-line * most-variables) × (netlist .count ≤ most-nodes) ⌝ }
+    ensures { λ r. ⌜ ((n : Records.Netlist) → netlist ≡ flatOf n →
         Appended (now (text .entry)) (now (text .exit)) at r (recordLines (map Records.node (n .nodes)))) ⌝ }
     ensures few { λ r. ⌜ r ≤ at + most-node-line * most-nodes ⌝ }
 {
+    let count = netlist.count;
     let mut next = at;
     let mut i = 0;
     while i < count {
-        let taken = nodes[i];
-        next = put_node(text, next, taken.node);
+        next = put_node(text, next, netlist.nodes[i]);
         i += 1;
     }
     next
@@ -140,8 +143,27 @@ fn put_nodes(text: &mut [u8], at: usize, count: usize, nodes: [NodeRecord; MOST_
 
 // ---- the block
 
-// Writes an open block in words to the front of `text`, and answers how many bytes they are; beyond them `text` is as it was. Of a state
-// and node records that are no open block's, the words are left open: the call returns, and answers no more than `text` has.
+// Writes a netlist in words to the front of `text`, and answers how many bytes they are; beyond them `text` is as it was.
+// Of a value that is no netlist's, the words are left open: the call returns, and answers no more than `text` has.
+pub fn word_netlist(netlist: Netlist, text: &mut [u8; MOST_WORDS]) -> usize
+    ensures long { λ r. ⌜ ((n : Records.Netlist) → WellFormed n → netlist ≡ flatOf n → r ≡ length (wordedOut n)) ⌝ }
+    ensures words { λ r. ⌜ ((n : Records.Netlist) → WellFormed n → netlist ≡ flatOf n →
+        now (text .exit) ≡ wordedOut n ++ drop r (now (text .entry))) ⌝ }
+    ensures most { λ r. ⌜ r ≤ most-words ⌝ }
+{
+    if netlist.variables > MOST_VARIABLES {
+        return 0;
+    }
+    if netlist.count > MOST_NODES {
+        return 0;
+    }
+    let first = put_variables(text, netlist);
+    let end = put_nodes(text, first, netlist);
+    put_word(text, end, b"end\n")
+}
+
+// The same for an open block, of its state and node records. Of a state and node records that are no open block's, the
+// words are left open: the call returns, and answers no more than `text` has.
 pub fn write_words(
     state: State,
     nodes: [NodeRecord; MOST_NODES],
@@ -152,13 +174,10 @@ pub fn write_words(
         now (text .exit) ≡ wordedOut n ++ drop r (now (text .entry))) ⌝ }
     ensures most { λ r. ⌜ r ≤ most-words ⌝ }
 {
-    if state.variables > MOST_VARIABLES {
-        return 0;
-    }
     if state.count > MOST_NODES {
         return 0;
     }
-    let first = put_variables(text, state);
-    let end = put_nodes(text, first, state.count, nodes);
-    put_word(text, end, b"end\n")
+    let loaded = edits::loaded_of(state, nodes, state.count);
+    let block = loaded.block;
+    word_netlist(block, text)
 }

@@ -5,7 +5,7 @@ use lib.ListN.{drop}
 use denote.Ref.{now}
 use Rattle.read_words.specs.Words.{words}
 use Rattle.read_words.specs.Numbers.{numberIn}
-use Rattle.edit_lines.specs.Asks.{only, givenUp}
+use Rattle.edit_lines.specs.Asks.{only, removal}
 use Rattle.edit_lines.proofs.removed.Statement.{statement}
 use Rattle.edit_lines.proofs.removed.Tie as tie
 
@@ -35,15 +35,15 @@ enum-told : tie.Need-enum-told
 enum-told c = search needs
 
 returns : tie.Need-returns
-unfolding givenUp
+unfolding removal
 returns c = (rw (← known (c .before .before .before), c .before .enum-told .given .1), tt)
 
 returns-2 : tie.Need-returns-2
-unfolding givenUp
+unfolding removal
 returns-2 c = (rw (← known (c .before .before .before), c .before .node .given .1), tt)
 
 returns-3 : tie.Need-returns-3
-unfolding givenUp
+unfolding removal
 returns-3 c = (rw (← known (c .before .before .before), c .before .enum-told .given .1), tt)
 
 pub removed-spec : {M : Type 1} → statement M

@@ -66,7 +66,7 @@ use Rattle.edit_rules.proofs.Edit as D
 use Rattle.edit_rules.proofs.Edit.Laws as D′
 use Rattle.edit_steps.proofs.change as change
 use Rattle.edit_steps.proofs.change.Symbol as change-def
-use Rattle.edit_steps.proofs.change.Symbol.{name as #changes·change}
+use Rattle.edit_steps.proofs.change.Symbol.{name as #edit-steps·change}
 use Rattle.edit_steps.proofs.change.Met as change-thm
 use Rattle.edits.proofs.Edited as R
 use Rattle.edits.proofs.Edited.Laws as R′
@@ -208,7 +208,7 @@ module _ {M : Type 1} (𝓤 : URA M) (H : Heap 𝓤) (A : Atoms 𝓤) (W : Given
   goes-edited examined u is-examined =
       qed W [] ∵ nothing ! $ nothing ! $ owned ! E.the-row (Is E.the-row) makes-examined examined _ is-examined $ fjoin ! $ owned ! S.the-row (Is S.the-row) makes-state state _ is-state $ fjoin ! $ move ! (1 ∷ 0 ∷ []) $ join ! $ frame ! $ done !
 
-  module _ (C : Calls 𝓤 H) (Λ : Loops 𝓤 H) (fm : FmC 𝓤 H (W .laws) C) (known-load : Triple 𝓤 (C #edits·load) (Load 𝓤 H A mem run)) (known-change : Triple 𝓤 (C #changes·change) (Change 𝓤 H A mem run))
+  module _ (C : Calls 𝓤 H) (Λ : Loops 𝓤 H) (fm : FmC 𝓤 H (W .laws) C) (known-load : Triple 𝓤 (C #edits·load) (Load 𝓤 H A mem run)) (known-change : Triple 𝓤 (C #edit-steps·change) (Change 𝓤 H A mem run))
       (known-store : Triple 𝓤 (C #checker·store) (Store 𝓤 H A mem run)) (known-edited : Triple 𝓤 (C #edits·edited-of) (EditedOf 𝓤 H A mem run)) where
     module _ (l₀ l₁ l₂ l₃ l₄ l₅ l₆ l₇ l₈ l₉ l₁₀ l₁₁ l₁₂ l₁₃ l₁₄ l₁₅ : ℕ) where
       abbrev En : Env 𝓤 H
@@ -303,7 +303,7 @@ module _ {M : Type 1} (𝓤 : URA M) (H : Heap 𝓤) (A : Atoms 𝓤) (W : Given
         starts l₀ l₁ l₂ l₃ l₄ l₅ l₆ l₇ l₈ l₉ l₁₀ l₁₁ l₁₂ l₁₃ l₁₄ l₁₅))))))))))))))))
 
 module _ {M : Type 1} (𝓤 : URA M) (H : Heap 𝓤) (A : Atoms 𝓤) (W : Given 𝓤 H A) (mem : Memory → SProp 𝓤) (run : Routine → Fun 𝓤) where
-  edit-walks : (C : Calls 𝓤 H) (Λ : Loops 𝓤 H) → FmC 𝓤 H (W .laws) C → Triple 𝓤 (C #edits·load) (Load 𝓤 H A mem run) → Triple 𝓤 (C #changes·change) (Change 𝓤 H A mem run)
+  edit-walks : (C : Calls 𝓤 H) (Λ : Loops 𝓤 H) → FmC 𝓤 H (W .laws) C → Triple 𝓤 (C #edits·load) (Load 𝓤 H A mem run) → Triple 𝓤 (C #edit-steps·change) (Change 𝓤 H A mem run)
       → Triple 𝓤 (C #checker·store) (Store 𝓤 H A mem run) → Triple 𝓤 (C #edits·edited-of) (EditedOf 𝓤 H A mem run) → Walks 𝓤 H A edit.ended stayed (WpFn 𝓤 H C Λ code.function) (edit.clauses 𝓤 H A mem run)
   edit-walks C Λ fm known-load known-change known-store known-edited = walked 𝓤 H A edit.ended stayed (edit.clauses 𝓤 H A mem run) (WpFn 𝓤 H C Λ code.function)
       (λ κs. (LL.vals S.the-type S′.the-laws, (EL.vals D.the-type D′.the-laws, (slice-vals, (slice-vals, (slice-vals, tt))))))
@@ -313,7 +313,7 @@ module _ {M : Type 1} (𝓤 : URA M) (H : Heap 𝓤) (A : Atoms 𝓤) (W : Given
       (LL.val S.the-type S′.the-laws (a .0)) (EL.val D.the-type D′.the-laws (a .1 .0)) (are .0) (are .1 .0) (are .1 .1 .0 .0 .1) (are .1 .1 .1 .0 .0 .1) (are .1 .1 .1 .1 .0 .0 .1) C Λ fm known-load known-change known-store known-edited))
 
 edit-meets : {M : Type 1} (𝓤 : URA M) (H : Heap 𝓤) (A : Atoms 𝓤) → Given 𝓤 H A → (mem : Memory → SProp 𝓤) (run : Routine → Fun 𝓤) (𝓣 : Tables 𝓤 H)
-    → Triple 𝓤 (𝓣 .C #edits·load) (Load 𝓤 H A mem run) → Triple 𝓤 (𝓣 .C #changes·change) (Change 𝓤 H A mem run) → Triple 𝓤 (𝓣 .C #checker·store) (Store 𝓤 H A mem run)
+    → Triple 𝓤 (𝓣 .C #edits·load) (Load 𝓤 H A mem run) → Triple 𝓤 (𝓣 .C #edit-steps·change) (Change 𝓤 H A mem run) → Triple 𝓤 (𝓣 .C #checker·store) (Store 𝓤 H A mem run)
     → Triple 𝓤 (𝓣 .C #edits·edited-of) (EditedOf 𝓤 H A mem run) → Meets 𝓤 H A edit.signature (WpFn 𝓤 H (𝓣 .C) (𝓣 .Λ) code.function) (edit.spec 𝓤 H A mem run)
 edit-meets 𝓤 H A W mem run 𝓣 known-load known-change known-store known-edited =
     walk-meets 𝓤 H A edit.ended stayed W
@@ -328,6 +328,6 @@ edit-spec 𝓤 H 𝓜 𝓖 𝓡 =
     (tables 𝓤 H 𝓜 𝓡 code.env .C) (tables 𝓤 H 𝓜 𝓡 code.env .Λ) #edits·edit code.function (code.unfolded 𝓤 H 𝓜 𝓡)
     (edit-meets 𝓤 H (𝓖 .A) (givenOf 𝓤 H 𝓜 𝓖) (𝓜 .mem) (𝓡 .run) (tablesOf 𝓤 H 𝓜 (tables 𝓤 H 𝓜 𝓡 code.env))
     (cited 𝓤 H (Load 𝓤 H (𝓖 .A) (𝓜 .mem) (𝓡 .run)) 𝓜 𝓡 code.env #edits·load load-def.routine code.calls-edits·load (load-thm.met 𝓤 H 𝓜 𝓖 𝓡))
-    (cited 𝓤 H (Change 𝓤 H (𝓖 .A) (𝓜 .mem) (𝓡 .run)) 𝓜 𝓡 code.env #changes·change change-def.routine code.calls-changes·change (change-thm.met 𝓤 H 𝓜 𝓖 𝓡))
+    (cited 𝓤 H (Change 𝓤 H (𝓖 .A) (𝓜 .mem) (𝓡 .run)) 𝓜 𝓡 code.env #edit-steps·change change-def.routine code.calls-edit-steps·change (change-thm.met 𝓤 H 𝓜 𝓖 𝓡))
     (cited 𝓤 H (Store 𝓤 H (𝓖 .A) (𝓜 .mem) (𝓡 .run)) 𝓜 𝓡 code.env #checker·store store-def.routine code.calls-checker·store (store-thm.met 𝓤 H 𝓜 𝓖 𝓡))
     (cited 𝓤 H (EditedOf 𝓤 H (𝓖 .A) (𝓜 .mem) (𝓡 .run)) 𝓜 𝓡 code.env #edits·edited-of edited-of-def.routine code.calls-edits·edited-of (edited-of-thm.met 𝓤 H 𝓜 𝓖 𝓡)))

@@ -51,7 +51,7 @@ use Rattle.checker.proofs.node_at.Symbol as node-at-def
 use Rattle.checker.proofs.node_at.Symbol.{name as #checker·node-at}
 use Rattle.checker.proofs.node_at.Met as node-at-thm
 use Rattle.test_trial.proofs.Lent.{array, beside, typed, apart, emptied}
-use Rattle.test_trial.proofs.entry_at.Key.{name as #trial·entry-at}
+use Rattle.test_trial.proofs.entry_at.Key.{name as #test-trial·entry-at}
 use Rattle.test_trial.proofs.entry_at as entry-at
 use Rattle.test_trial.proofs.entry_at.Statement as stated
 use Rattle.test_trial.proofs.entry_at.Code as code
@@ -185,6 +185,6 @@ pub entry-at-spec : {M : Type 1} → stated.statement M
 unfolding code.routine tablesOf
 entry-at-spec 𝓤 H 𝓜 𝓖 𝓡 =
     entered 𝓤 H (tripleOf 𝓤 H (𝓖 .A) entry-at.signature (entry-at.spec 𝓤 H (𝓖 .A) (𝓜 .mem) (𝓡 .run)))
-    (tables 𝓤 H 𝓜 𝓡 code.env .C) (tables 𝓤 H 𝓜 𝓡 code.env .Λ) #trial·entry-at code.function (code.unfolded 𝓤 H 𝓜 𝓡)
+    (tables 𝓤 H 𝓜 𝓡 code.env .C) (tables 𝓤 H 𝓜 𝓡 code.env .Λ) #test-trial·entry-at code.function (code.unfolded 𝓤 H 𝓜 𝓡)
     (entry-at-meets 𝓤 H (𝓖 .A) (givenOf 𝓤 H 𝓜 𝓖) (𝓜 .mem) (𝓡 .run) (tablesOf 𝓤 H 𝓜 (tables 𝓤 H 𝓜 𝓡 code.env))
     (cited 𝓤 H (NodeAt 𝓤 H (𝓖 .A) (𝓜 .mem) (𝓡 .run)) 𝓜 𝓡 code.env #checker·node-at node-at-def.routine code.calls-checker·node-at (node-at-thm.met 𝓤 H 𝓜 𝓖 𝓡)))

@@ -6,34 +6,32 @@ use native.Mathlib.Omega.{arith}
 use borrow.Author.Needs.{needs}
 use lib.ListN.{length, take}
 use lib.Seq.{take-all}
-use Rattle.rules.specs.Records.{Netlist, nodesOut, most-variables, most-nodes, most-record}
-use Rattle.rules.specs.Slices.{nodeRecords}
+use Rattle.rules.specs.Records.{Netlist, nodesOut, most-record}
+use Rattle.netlists.specs.Netlists.{flatOf}
+use Rattle.netlists.proofs.Netlists.{value-count, value-entry}
 use Rattle.listing_lines.specs.Text.{Appended}
 use Rattle.listing_lines.proofs.Text.{appended-none, appended-more, appended-as}
-use Rattle.write_bytes.proofs.Records.{nodes-more, node-at, state-count}
+use Rattle.write_bytes.proofs.Records.{nodes-more}
 use Rattle.write_bytes.proofs.put_nodes.Statement.{statement}
 use Rattle.write_bytes.proofs.put_nodes.Tie as tie
 
 abbrev Inv-loop : tie.InvT-loop
-Inv-loop out₀ at nodes few next₀ i₀ out next i =
-    (i ≤ few) × (few ≤ most-nodes) × (at ≤ 2 * most-variables) × (next ≤ at + most-record * i) × (length out ≡ length out₀)
-    × ((n : Netlist) → few ≡ length (n .nodes) → take (length (n .nodes)) nodes ≡ nodeRecords n → Appended out₀ out at next (nodesOut (take i (n .nodes))))
+Inv-loop out₀ at netlist count next₀ i₀ out next i =
+    (i ≤ count) × (next ≤ at + most-record * i) × (length out ≡ length out₀)
+    × ((n : Netlist) → netlist ≡ flatOf n → Appended out₀ out at next (nodesOut (take i (n .nodes))))
 
 abbrev μ-loop : tie.MeasureT-loop
-μ-loop out₀ at nodes few next₀ i₀ out next i = few - i
-
-lower-requires : tie.Need-lower-requires Inv-loop μ-loop
-lower-requires c κs = search needs
+μ-loop out₀ at netlist count next₀ i₀ out next i = count - i
 
 loop-holds : tie.Need-loop-holds Inv-loop μ-loop
 unfolding nodesOut
-loop-holds c = (omega arith, omega arith, omega arith, omega arith, refl, λ n e f. appended-none _ _)
+loop-holds c = (omega arith, omega arith, refl, λ n e. appended-none _ _)
 
-mul-taken : tie.Need-mul-taken Inv-loop μ-loop
-mul-taken c = omega arith
+mul-put-node : tie.Need-mul-put-node Inv-loop μ-loop
+mul-put-node c = omega arith
 
-array-copy-out-taken : tie.Need-array-copy-out-taken Inv-loop μ-loop
-array-copy-out-taken c = omega arith
+element-copy-out-put-node : tie.Need-element-copy-out-put-node Inv-loop μ-loop
+element-copy-out-put-node c = omega arith
 
 put-node-requires : tie.Need-put-node-requires Inv-loop μ-loop
 put-node-requires c κs = search needs
@@ -51,11 +49,10 @@ loop-again c =
       omega arith,
       omega arith,
       omega arith,
-      omega arith,
-      omega arith,
-      λ n e f.
-          let h : i < length (n .nodes) = omega arith in
-          appended-as (nodes-more n i h) (appended-more (turn .loop .inv .5 n e f) (c .before .before .put-node .ensures .0 _ (node-at n _ f i _ h))),
+      λ n e.
+          let h : i < length (n .nodes) = omega (arith, value-count n e) in
+          appended-as (nodes-more n i h)
+          (appended-more (turn .loop .inv .3 n e) (c .before .before .put-node .ensures .0 _ (value-entry n e i (omega arith)))),
     )
 
 same-length : tie.Need-same-length Inv-loop μ-loop
@@ -63,10 +60,9 @@ same-length c = search needs
 
 returns : tie.Need-returns Inv-loop μ-loop
 returns c = (
-  λ n work opened.
-      let h = state-count n (opened .itsState) in
-      let few : c .before .before .lower .result ≡ length (n .nodes) = omega (arith, opened .obeys .few-nodes) in
-      appended-as (ap nodesOut (take-all (c .before .loop .i) (n .nodes) (omega arith))) (c .before .loop .inv .5 n few (opened .holds .records)),
+  λ n e.
+      let all : length (n .nodes) ≤ c .before .loop .i = omega (arith, value-count n e) in
+      appended-as (ap nodesOut (take-all (c .before .loop .i) (n .nodes) all)) (c .before .loop .inv .3 n e),
   omega arith,
 )
 
@@ -76,10 +72,9 @@ put-nodes-spec =
     (tie.spec
     Inv-loop
     μ-loop
-    lower-requires
     loop-holds
-    mul-taken
-    array-copy-out-taken
+    mul-put-node
+    element-copy-out-put-node
     put-node-requires
     add-i
     loop-less

@@ -7,31 +7,28 @@ use borrow.Author.Needs.{needs}
 use lib.ListN.{length, take}
 use lib.Seq.{take-all}
 use Rattle.rules.specs.Records.{Netlist, recordBytes, variablesOut, most-variables}
-use Rattle.edit_rules.specs.declared.State.{State}
-use Rattle.edit_rules.specs.Meaning.{stateOf}
+use Rattle.netlists.specs.Netlists.{flatOf}
+use Rattle.netlists.proofs.Netlists.{flat-class-at, value-variables}
 use Rattle.listing_lines.specs.Text.{Appended}
 use Rattle.listing_lines.proofs.Text.{appended-none, appended-more, appended-as}
-use Rattle.write_bytes.proofs.Records.{variables-more, class-at, state-variables}
+use Rattle.write_bytes.proofs.Records.{variables-more}
 use Rattle.write_bytes.proofs.put_variables.Statement.{statement}
 use Rattle.write_bytes.proofs.put_variables.Tie as tie
 
 abbrev Inv-loop : tie.InvT-loop
-Inv-loop out₀ few classes at₀ i₀ out at i =
-    (i ≤ few) × (few ≤ most-variables) × (at ≤ 2 * i) × (length out ≡ length out₀)
-    × ((n : Netlist) → few ≡ length (n .variables) → classes ≡ stateOf n .classes → Appended out₀ out 0 at (variablesOut (take i (n .variables))))
+Inv-loop out₀ netlist count at₀ i₀ out at i =
+    (i ≤ count) × (at ≤ 2 * i) × (length out ≡ length out₀)
+    × ((n : Netlist) → netlist ≡ flatOf n → Appended out₀ out 0 at (variablesOut (take i (n .variables))))
 
 abbrev μ-loop : tie.MeasureT-loop
-μ-loop out₀ few classes at₀ i₀ out at i = few - i
-
-lower-requires : tie.Need-lower-requires Inv-loop μ-loop
-lower-requires c κs = search needs
+μ-loop out₀ netlist count at₀ i₀ out at i = count - i
 
 loop-holds : tie.Need-loop-holds Inv-loop μ-loop
 unfolding variablesOut
-loop-holds c = (omega arith, omega arith, omega arith, refl, λ n e f. appended-none _ 0)
+loop-holds c = (omega arith, omega arith, refl, λ n e. appended-none _ 0)
 
-array-read-put-two : tie.Need-array-read-put-two Inv-loop μ-loop
-array-read-put-two c = omega arith
+element-copy-out-put-two : tie.Need-element-copy-out-put-two Inv-loop μ-loop
+element-copy-out-put-two c = omega arith
 
 put-two-requires : tie.Need-put-two-requires Inv-loop μ-loop
 put-two-requires c κs = search needs
@@ -45,16 +42,15 @@ loop-less c = omega arith
 loop-again : tie.Need-loop-again Inv-loop μ-loop
 unfolding recordBytes
 loop-again c =
-    let turn = c .before .before .before .before .before in
+    let turn = c .before .before .before .before .before .before in
     let i = turn .loop .i in
     let stored = c .before .before .put-two .ensures in (
       omega arith,
-      omega arith,
       omega (arith, stored .place),
       omega arith,
-      λ n e f.
-          let h : i < length (n .variables) = omega arith in
-          appended-as (rw (class-at n f i h) (variables-more n i h)) (appended-more (turn .loop .inv .4 n e f) stored),
+      λ n e.
+          let h : i < length (n .variables) = omega (arith, value-variables n e) in
+          appended-as (rw (e, flat-class-at n i h) (variables-more n i h)) (appended-more (turn .loop .inv .3 n e) stored),
     )
 
 same-length : tie.Need-same-length Inv-loop μ-loop
@@ -62,10 +58,9 @@ same-length c = search needs
 
 returns : tie.Need-returns Inv-loop μ-loop
 returns c = (
-  λ n formed e.
-      let h = state-variables n e in
-      let few : c .before .before .before .lower .result ≡ length (n .variables) = omega (arith, formed .few-variables) in
-      appended-as (ap variablesOut (take-all (c .before .loop .i) (n .variables) (omega arith))) (c .before .loop .inv .4 n few (ap (λ (s : State). s .classes) e)),
+  λ n e.
+      let all : length (n .variables) ≤ c .before .loop .i = omega (arith, value-variables n e) in
+      appended-as (ap variablesOut (take-all (c .before .loop .i) (n .variables) all)) (c .before .loop .inv .3 n e),
   omega arith,
 )
 
@@ -75,9 +70,8 @@ put-variables-spec =
     (tie.spec
     Inv-loop
     μ-loop
-    lower-requires
     loop-holds
-    array-read-put-two
+    element-copy-out-put-two
     put-two-requires
     add-i
     loop-less

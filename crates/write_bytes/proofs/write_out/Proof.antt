@@ -1,43 +1,44 @@
--- `write_bytes::write_out` meets its contract: the records of the variables, those of the nodes and the end are stored one behind the other.
--- Assumes nothing.
-use Prim.Native.Nat.{ℕ, _+_}
-use mathlib.Core.Path.{refl}
+-- `write_bytes::write_out` meets its contract: what is loaded of an open block is its netlist by value. Assumes nothing.
+use Prim.Native.Nat.{ℕ}
+use mathlib.Core.Path.{_≡_, ap, _∙_}
 use mathlib.Core.List.{List}
 use native.Mathlib.Omega.{arith}
 use borrow.Author.Needs.{needs}
-use lib.ListN.{set}
-use denote.Ref.{now}
-use Rattle.rules.specs.Records.{Netlist, recordBytes, writtenOut}
+use Rattle.rules.specs.Records.{Netlist}
+use Rattle.netlists.specs.Netlists.{flatOf}
 use Rattle.edit_rules.specs.Meaning.{IsOpen}
-use Rattle.listing_lines.specs.Text.{Appended}
-use Rattle.listing_lines.proofs.Text.{appended-byte, appended-more, appended-size, appended-whole}
+use Rattle.edit_steps.specs.declared.Loaded.{Loaded}
+use Rattle.edit_steps.proofs.Changing.{state-count}
+use Rattle.write_bytes.proofs.Records.{open-block}
 use Rattle.write_bytes.proofs.write_out.Statement.{statement}
 use Rattle.write_bytes.proofs.write_out.Tie as tie
 
-put-variables-requires : tie.Need-put-variables-requires
-put-variables-requires c κs = search needs
-
-put-nodes-requires : tie.Need-put-nodes-requires
-put-nodes-requires c κs = search needs
-
-element-write-out : tie.Need-element-write-out
-element-write-out c = search needs
-
-add-result : tie.Need-add-result
-add-result c = search needs
-
 returns : tie.Need-returns
-unfolding writtenOut recordBytes
-returns c = (λ n work opened. appended-size (wholly n work opened), (λ n work opened. appended-whole (wholly n work opened), omega arith))
+returns c = (λ n work opened. absurd (none n work opened), (λ n work opened. absurd (none n work opened), omega arith))
   where
-    before : List ℕ
-    before = now (c .before .before .before .before .args .out)
+    none : (n : Netlist) (work : List ℕ) → IsOpen n (c .before .before .args .state) (c .before .before .args .nodes) work → ⊥
+    none n work opened = omega (arith, state-count n (opened .itsState), opened .obeys .few-nodes)
 
-    wholly : (n : Netlist) (work : List ℕ) → IsOpen n (c .before .before .before .before .args .state) (c .before .before .before .before .args .nodes) work
-        → Appended before (set (c .put-nodes .last .0) (c .put-nodes .result) 0) 0 (c .put-nodes .result + 1) (writtenOut n)
-    wholly n work opened =
-        appended-more (appended-more (c .before .before .put-variables .ensures .0 n (opened .obeys) (opened .itsState)) (c .put-nodes .ensures .0 n work opened))
-        (appended-byte _ _ 0 (omega arith))
+loaded-of-requires : tie.Need-loaded-of-requires
+loaded-of-requires c κs = search needs
+
+write-netlist-requires : tie.Need-write-netlist-requires
+write-netlist-requires c κs = search needs
+
+returns-2 : tie.Need-returns-2
+returns-2 c = (
+  λ n work opened. c .write-netlist .ensures .0 n (opened .obeys) (flat n work opened),
+  (λ n work opened. c .write-netlist .ensures .1 .0 n (opened .obeys) (flat n work opened), omega arith),
+)
+  where
+    loaded : tie.After-loaded-of
+    loaded = c .before .before .before
+
+    start : tie.Start
+    start = loaded .before .before .before
+
+    flat : (n : Netlist) (work : List ℕ) → IsOpen n (start .args .state) (start .args .nodes) work → loaded .loaded-of .result .block ≡ flatOf n
+    flat n work opened = ap (λ (l : Loaded). l .block) (loaded .loaded-of .ensures) ∙ open-block opened (omega arith)
 
 pub write-out-spec : {M : Type 1} → statement M
-write-out-spec = tie.close (tie.spec put-variables-requires put-nodes-requires element-write-out add-result returns)
+write-out-spec = tie.close (tie.spec returns loaded-of-requires write-netlist-requires returns-2)

@@ -8,33 +8,32 @@ use borrow.Author.Needs.{needs}
 use lib.ListN.{length, take}
 use lib.Seq.{take-all}
 use Rattle.rules.specs.Records.{Netlist, Cell, input, node}
-use Rattle.rules.specs.Slices.{nodeRecords}
+use Rattle.netlists.specs.Netlists.{flatOf}
+use Rattle.netlists.proofs.Netlists.{value-count, value-entry}
 use Rattle.listing_lines.specs.Text.{Appended}
 use Rattle.listing_lines.proofs.Text.{appended-none, appended-more, appended-as}
-use Rattle.write_bytes.proofs.Records.{node-at}
 use Rattle.write_words.specs.Worded.{recordLines, most-node-line}
 use Rattle.write_words.proofs.Worded.{lines-more}
 use Rattle.write_words.proofs.put_nodes.Statement.{statement}
 use Rattle.write_words.proofs.put_nodes.Tie as tie
 
 abbrev Inv-loop : tie.InvT-loop
-Inv-loop text₀ at count nodes next₀ i₀ text next i =
+Inv-loop text₀ at netlist count next₀ i₀ text next i =
     (i ≤ count) × (next ≤ at + most-node-line * i) × (length text ≡ length text₀)
-    × ((n : Netlist) → count ≡ length (n .nodes) → take count nodes ≡ nodeRecords n
-    → Appended text₀ text at next (recordLines (map node (take i (n .nodes)))))
+    × ((n : Netlist) → netlist ≡ flatOf n → Appended text₀ text at next (recordLines (map node (take i (n .nodes)))))
 
 abbrev μ-loop : tie.MeasureT-loop
-μ-loop text₀ at count nodes next₀ i₀ text next i = count - i
+μ-loop text₀ at netlist count next₀ i₀ text next i = count - i
 
 loop-holds : tie.Need-loop-holds Inv-loop μ-loop
 unfolding recordLines
-loop-holds c = (omega arith, omega arith, refl, λ n e f. appended-none _ _)
+loop-holds c = (omega arith, omega arith, refl, λ n e. appended-none _ _)
 
-mul-taken : tie.Need-mul-taken Inv-loop μ-loop
-mul-taken c = omega arith
+mul-put-node : tie.Need-mul-put-node Inv-loop μ-loop
+mul-put-node c = omega arith
 
-array-copy-out-taken : tie.Need-array-copy-out-taken Inv-loop μ-loop
-array-copy-out-taken c = omega arith
+element-copy-out-put-node : tie.Need-element-copy-out-put-node Inv-loop μ-loop
+element-copy-out-put-node c = omega arith
 
 put-node-requires : tie.Need-put-node-requires Inv-loop μ-loop
 put-node-requires c κs = search needs
@@ -52,10 +51,10 @@ loop-again c =
       omega arith,
       omega arith,
       omega arith,
-      λ n e f.
-          let h : i < length (n .nodes) = omega arith in
+      λ n e.
+          let h : i < length (n .nodes) = omega (arith, value-count n e) in
           appended-as (lines-more node (n .nodes) i (input 0) h)
-          (appended-more (turn .loop .inv .3 n e f) (c .before .before .put-node .ensures .0 _ (node-at n _ (rw e at f) i _ h))),
+          (appended-more (turn .loop .inv .3 n e) (c .before .before .put-node .ensures .0 _ (value-entry n e i (omega arith)))),
     )
 
 same-length : tie.Need-same-length Inv-loop μ-loop
@@ -63,8 +62,9 @@ same-length c = search needs
 
 returns : tie.Need-returns Inv-loop μ-loop
 returns c = (
-  λ n e f.
-      appended-as (ap (λ (nodes : List Cell). recordLines (map node nodes)) (take-all (c .before .loop .i) (n .nodes) (omega arith))) (c .before .loop .inv .3 n e f),
+  λ n e.
+      let all : length (n .nodes) ≤ c .before .loop .i = omega (arith, value-count n e) in
+      appended-as (ap (λ (nodes : List Cell). recordLines (map node nodes)) (take-all (c .before .loop .i) (n .nodes) all)) (c .before .loop .inv .3 n e),
   omega arith,
 )
 
@@ -75,8 +75,8 @@ put-nodes-spec =
     Inv-loop
     μ-loop
     loop-holds
-    mul-taken
-    array-copy-out-taken
+    mul-put-node
+    element-copy-out-put-node
     put-node-requires
     add-i
     loop-less

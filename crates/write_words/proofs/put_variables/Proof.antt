@@ -7,32 +7,30 @@ use native.Mathlib.Omega.{arith}
 use borrow.Author.Needs.{needs}
 use lib.ListN.{length, take}
 use lib.Seq.{take-all}
-use Rattle.rules.specs.Records.{Netlist, Class, public, variable, most-variables}
-use Rattle.edit_rules.specs.declared.State.{State}
-use Rattle.edit_rules.specs.Meaning.{stateOf}
+use Rattle.rules.specs.Records.{Netlist, Class, public, variable}
+use Rattle.netlists.specs.Netlists.{flatOf}
+use Rattle.netlists.proofs.Netlists.{flat-class-at, value-variables}
 use Rattle.listing_lines.specs.Text.{Appended}
 use Rattle.listing_lines.proofs.Text.{appended-none, appended-more, appended-as}
-use Rattle.write_bytes.proofs.Records.{class-at, state-variables}
 use Rattle.write_words.specs.Worded.{recordLines, most-variable-line}
 use Rattle.write_words.proofs.Worded.{lines-more}
 use Rattle.write_words.proofs.put_variables.Statement.{statement}
 use Rattle.write_words.proofs.put_variables.Tie as tie
 
 abbrev Inv-loop : tie.InvT-loop
-Inv-loop text₀ count classes at₀ i₀ text at i =
-    (i ≤ count) × (count ≤ most-variables) × (at ≤ most-variable-line * i) × (length text ≡ length text₀)
-    × ((n : Netlist) → count ≡ length (n .variables) → classes ≡ stateOf n .classes
-    → Appended text₀ text 0 at (recordLines (map variable (take i (n .variables)))))
+Inv-loop text₀ netlist count at₀ i₀ text at i =
+    (i ≤ count) × (at ≤ most-variable-line * i) × (length text ≡ length text₀)
+    × ((n : Netlist) → netlist ≡ flatOf n → Appended text₀ text 0 at (recordLines (map variable (take i (n .variables)))))
 
 abbrev μ-loop : tie.MeasureT-loop
-μ-loop text₀ count classes at₀ i₀ text at i = count - i
+μ-loop text₀ netlist count at₀ i₀ text at i = count - i
 
 loop-holds : tie.Need-loop-holds Inv-loop μ-loop
 unfolding recordLines
-loop-holds c = (omega arith, omega arith, omega arith, refl, λ n e f. appended-none _ 0)
+loop-holds c = (omega arith, omega arith, refl, λ n e. appended-none _ 0)
 
-array-read-put-class : tie.Need-array-read-put-class Inv-loop μ-loop
-array-read-put-class c = omega arith
+element-copy-out-put-class : tie.Need-element-copy-out-put-class Inv-loop μ-loop
+element-copy-out-put-class c = omega arith
 
 put-class-requires : tie.Need-put-class-requires Inv-loop μ-loop
 put-class-requires c κs = search needs
@@ -45,16 +43,16 @@ loop-less c = omega arith
 
 loop-again : tie.Need-loop-again Inv-loop μ-loop
 loop-again c =
-    let turn = c .before .before .before .before .before in
+    let turn = c .before .before .before .before .before .before in
     let i = turn .loop .i in
     let put = c .before .before .put-class .ensures in (
       omega arith,
       omega arith,
       omega arith,
-      omega arith,
-      λ n e f.
-          let h : i < length (n .variables) = omega arith in
-          appended-as (lines-more variable (n .variables) i public h) (appended-more (turn .loop .inv .4 n e f) (put .0 _ (class-at n f i h))),
+      λ n e.
+          let h : i < length (n .variables) = omega (arith, value-variables n e) in
+          appended-as (lines-more variable (n .variables) i public h)
+          (appended-more (turn .loop .inv .3 n e) (put .0 _ (rw e (flat-class-at n i h)))),
     )
 
 same-length : tie.Need-same-length Inv-loop μ-loop
@@ -63,9 +61,9 @@ same-length c = search needs
 returns : tie.Need-returns Inv-loop μ-loop
 returns c = (
   λ n e.
-      let h = state-variables n e in
-      appended-as (ap (λ (variables : List Class). recordLines (map variable variables)) (take-all (c .before .loop .i) (n .variables) (omega arith)))
-      (c .before .loop .inv .4 n h (ap (λ (s : State). s .classes) e)),
+      let all : length (n .variables) ≤ c .before .loop .i = omega (arith, value-variables n e) in
+      appended-as (ap (λ (variables : List Class). recordLines (map variable variables)) (take-all (c .before .loop .i) (n .variables) all))
+      (c .before .loop .inv .3 n e),
   omega arith,
 )
 
@@ -76,7 +74,7 @@ put-variables-spec =
     Inv-loop
     μ-loop
     loop-holds
-    array-read-put-class
+    element-copy-out-put-class
     put-class-requires
     add-i
     loop-less

@@ -1,12 +1,12 @@
--- `edit_rules::without_node` meets its contract. The loop's invariant: of the node records behind the one that is removed those up to `i` have
+-- `edit_steps::without_node` meets its contract. The loop's invariant: of the node records behind the one that is removed those up to `i` have
 -- moved down by one, renumbered, and all others stand. The measure is what is left of the records. Assumes nothing.
 use Prim.Native.Nat.{_-_, _≤_}
 use mathlib.Core.Path.{ap}
 use native.Mathlib.Omega.{arith}
 use Rattle.netlists.specs.declared.Netlist as Value
-use Rattle.edit_rules.proofs.Removing.{Reached, none-moved, next-moved, all-moved}
-use Rattle.edit_rules.proofs.without_node.Statement.{statement}
-use Rattle.edit_rules.proofs.without_node.Tie as tie
+use Rattle.edit_steps.proofs.MovesDown.{Reached, none-moved, next-moved, all-moved}
+use Rattle.edit_steps.proofs.without_node.Statement.{statement}
+use Rattle.edit_steps.proofs.without_node.Tie as tie
 
 abbrev Inv-loop : tie.InvT-loop
 Inv-loop removed last shorter₀ i₀ shorter i = (removed ≤ i) × (i ≤ last) × Reached shorter₀ shorter removed i
@@ -49,6 +49,9 @@ loop-again c =
     let (from, most, reached) = c .before .before .before .loop .inv in
     (omega arith, omega arith, next-moved _ _ _ _ _ from reached (c .renumbered .ensures))
 
+blank-node-requires : tie.Need-blank-node-requires Inv-loop μ-loop
+blank-node-requires c κs = tt
+
 mul-t17 : tie.Need-mul-t17 Inv-loop μ-loop
 mul-t17 c = omega arith
 
@@ -57,7 +60,8 @@ element-set-from-shorter-2 c = omega arith
 
 returns : tie.Need-returns Inv-loop μ-loop
 returns c =
-    let (from, most, reached) = c .before .loop .inv in
+    let (from, most, reached) = c .before .before .loop .inv in
+    rw (c .blank-node .ensures)
     ((ap (λ (block : Value.Netlist). block .variables) reached, omega arith), all-moved _ _ _ _ (omega arith) (omega arith) reached)
 
 pub without-node-spec : {M : Type 1} → statement M
@@ -77,6 +81,7 @@ without-node-spec =
     add-i
     loop-less
     loop-again
+    blank-node-requires
     mul-t17
     element-set-from-shorter-2
     returns)

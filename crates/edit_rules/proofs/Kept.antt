@@ -1,23 +1,26 @@
 -- What an edit keeps: the netlist that it makes obeys the record rules, and both slices have room for it. So the netlist, written out, is read
 -- and checked afresh in the same slices with the same reply and the same contents. Assumes nothing.
-use Prim.Native.Nat.{ℕ, _≤_}
+use Prim.Native.Nat.{ℕ, _*_, _≤_}
 use mathlib.Core.Path.{_≡_, refl, sym, subst, _∙_}
 use mathlib.Core.List.{List, [], _∷_}
 use native.Mathlib.Omega.{arith}
 use borrow.Author.Tests.{ltb-false}
-use lib.ListN.{length, length-append}
+use lib.ListN.{length, take, drop, length-append}
+use lib.Seq.{take-at}
 use Rattle.rules.specs.declared.NodeRecord.{NodeRecord}
 use Rattle.rules.specs.Records.{Netlist, WellFormed, withNode, writtenOut}
 use Rattle.rules.specs.Families.{families, findings}
 use Rattle.rules.specs.Checks.{Outcome, answered, refused, andThen, judged, slicesFit, admitted, nodeCheck}
 use Rattle.rules.specs.Slices.{nodeRecords, workBytes, filled, nodesAfter, workAfter, reply}
 use Rattle.rules.proofs.Records.{passes, answer}
+use Rattle.rules.proofs.Exit.{families-length}
+use Rattle.rules.proofs.Packing.{work-length}
 use Rattle.rules.proofs.Room.{Room, has-room}
 use Rattle.rules.proofs.Room as Room
 use Rattle.rules.proofs.Written.{write-read}
 use Rattle.edit_rules.specs.Edits.{Edit, add, remove, offered, withoutNode, removedIfUnused, fits, edited, replyAfter, recordsAfter, bytesAfter}
 use Rattle.edit_rules.proofs.Adding.{offered-well-formed}
 use Rattle.edit_rules.proofs.Removal.{lowered-most, Unused, removed-length, removed-well-formed}
 
 -- an outcome that is answered goes on from an answer
 record Through {A B : Type 0} (o : Outcome A) (f : A → Outcome B) (b : B) : Type 0 where
@@ -76,6 +79,17 @@ fits-room n (add bytes) entries work m e =
 fits-room n (remove i) entries work m e =
     let t = through (judged (nodeCheck i n ∷ []) n) (slicesFit entries work) m e in
     subst (Room entries work) (sym (answer _ n (t .answer) (t .first))) (has-room entries work (t .answer) m (t .then) .1)
+
+-- ---- the families in the work bytes
+
+pub families-bytes : (n : Netlist) → length (workBytes (families n)) ≡ 256 * length (n .nodes)
+families-bytes n = omega (arith, work-length (families n), families-length n)
+
+-- where they are written, they stand at the front
+pub written-families : (n : Netlist) (before : List ℕ)
+    → take (256 * length (n .nodes)) (filled (λ m. workBytes (families m)) (answered n) before) ≡ workBytes (families n)
+unfolding filled
+written-families n before = take-at (workBytes (families n)) (drop (length (workBytes (families n))) before) _ (families-bytes n)
 
 -- ---- a fresh check of what is made
 

@@ -11,10 +11,10 @@ use Rattle.rules.specs.Slices.{workBytes}
 use Rattle.rules.specs.Checks.{Outcome, answered, refused}
 use Rattle.rules.specs.Paper.{numberOf, placeOf}
 use Rattle.netlists.specs.declared.Netlist as Value
 use Rattle.edit_rules.specs.declared.State.{State}
-use Rattle.edit_rules.specs.declared.Offer.{Offer}
-use Rattle.edit_rules.specs.declared.Offer.the-variants as Offer
+use Rattle.edit_steps.specs.declared.Offer.{Offer}
+use Rattle.edit_steps.specs.declared.Offer.the-variants as Offer
 use Rattle.edit_rules.specs.Edits.{lowered}
 
 -- what is offered: a node record, or a refusal
 abbrev pub offeredOf : Offer → Outcome Node
