@@ -2,7 +2,6 @@
 ghost use Prim.Native.Nat.{_≤_};
 ghost use Rattle.derivation_rules.specs.Derivations.{most-steps};
 ghost use Rattle.derivations.specs.Written.{Known};
-use crate::nodes::operands_of;
 use crate::nodes::say_kind;
 use crate::say::say;
 use crate::say::say_number;
@@ -10,6 +9,7 @@ use crate::say::say_set;
 use crate::steps::step_at;
 use derivations::Derived;
 use derivations::MOST_BYTES;
+use listing_lines::operands_of;
 use marks::Marks;
 use netlists::Netlist;
 use rules::Answer;
