@@ -1,7 +1,8 @@
--- `edits::edit` meets its contract: a walk of its MIR, by hand. All that it knows of `load`, `change`, `store` and `edited_of` is that each meets its contract; what follows for an edit is `promises`.
--- The node records are lent to `load` as a shared slice, for a lifetime that is made for the call, and come back as they were (`Shared.antt`). Then each lent slice is passed on at its own lifetime, share and
--- ghost name, so what a callee says of the last list is said of the slice's, and the borrow is given up for good (`gave-slice`).
--- Assumes nothing.
+-- `edits::edit` meets its contract: a walk of its MIR, by hand. All that it knows of `load`, `change`, `store` and
+-- `edited_of` is that each meets its contract; what follows for an edit is `promises`. The node records are lent to
+-- `load` as a shared slice, for a lifetime that is made for the call, and come back as they were (`Shared.antt`). Then
+-- each lent slice is passed on at its own lifetime, share and ghost name, so what a callee says of the last list is
+-- said of the slice's, and the borrow is given up for good (`gave-slice`). Assumes nothing.
 use mathlib.Core.Path.{_≡_, refl, sym, subst}
 use Prim.Native.Nat.{ℕ}
 use mathlib.Core.List.{List, [], _∷_}
@@ -16,7 +17,7 @@ use prog.Memory.{Memory}
 use prog.Routine.{Routine}
 use prog.Wp.{Heap, Calls, Loops, WpFn, Tables}
 use ghost.Atoms.{Atoms, sem}
-use contract.Monad.{Fun, fact}
+use contract.Monad.{Fun}
 use contract.Running.{givenOf, tables, tablesOf}
 use types.Kit.{Given, ‵, raw, _⊛_, some, later, ⋆, _$_, _∵_, !, qed, by, move, drop, use1, use2, use3, split, join, pick, fsplit, fjoin, feqL, suffices, frame, await, done}
 use types.Run.{look, init, forget, stop, hop, fld, from, load as reads, addr, of-opd, and-then, no-more, assigns, land, returns, enter, alloc1, alloc0, params1, pass1, pass0}
@@ -28,7 +29,7 @@ use denote.Plain.{uint-makes}
 use denote.Builtin.{usize}
 use denote.Ref.{RefT}
 use denote.Slice.{ShrSlice}
-use denote.Steps.{owned, peeks, facts, heard, nothing}
+use denote.Steps.{owned, peeks, facts, nothing}
 use denote.Struct.Laws as LL
 use denote.Enum.Laws as EL
 use denote.Triple.Entry.{onEntry}
@@ -116,7 +117,8 @@ module _ {M : Type 1} (𝓤 : URA M) (H : Heap 𝓤) (A : Atoms 𝓤) (W : Given
   abbrev Lender : ℕ → Fml
   Lender ν = keptS T.the-row (o .κ₁) (o .q₁) (ν ∷ []) (o .nodes .name) (o .nodes .now) (o .nodes .ptr .0) (o .nodes .ptr .1)
 
-  -- the edit that is asked for; the block of the state, and what `change` says where it gets that block, gives examined and leaves ws
+  -- the edit that is asked for; the block of the state, and what `change` says where it gets that block, gives examined
+  -- and leaves ws
   abbrev e : Edits.Edit
   e = editOf asked (o .bytes .now)
 
@@ -186,7 +188,8 @@ module _ {M : Type 1} (𝓤 : URA M) (H : Heap 𝓤) (A : Atoms 𝓤) (W : Given
         use1 W (‵ (flft (ν ∷ []) fullShare) ⊛ ‵ ftrue) (id⊢ 𝓤 _) $ split ! $ lft-end ! tt $ move ! (0 ∷ 2 ∷ []) $ use2 W (later (‵ (Own₁ o) ⊛ ‵ (flft (o .κ₁) (o .q₁))))
         (comes-back-same 𝓤 H A W T.the-row (o .κ₁) (ν ∷ []) (o .q₁) (o .nodes .name) (o .nodes .ptr .0) (o .nodes .ptr .1) (named 1) (named 0) (o .nodes .now)) $ await ! tt $ split ! $
         move ! (2 ∷ []) $ drop ! $ move ! (2 ∷ 3 ∷ 4 ∷ 1 ∷ 0 ∷ []) $
-        -- [Alive; what bytes and work own; the nodes' token; what nodes owns; what bytes owns; the locals]: the block is changed
+        -- [Alive; what bytes and work own; the nodes' token; what nodes owns; what bytes owns; the locals]: the block
+        -- is changed
         assigns ! (of-opd ! (reads ! (from ! (fld ! refl (stop !))) (look-in ! 28 (sub ! 1 refl (whole !))))) (from ! (stop !)) (init ! 16 refl (tt, record { fits = o .room₁ .0 })) $
         assigns ! (addr ! (from ! (fld ! refl (hop ! (look-in ! 26 (sub ! 0 refl (whole !))) (stop !))))) (from ! (stop !)) (init ! 14 refl (tt, tt)) $
         assigns ! (agg ! (and-then ! (reads ! (from ! (stop !)) (look ! 14 refl)) (and-then ! (reads ! (from ! (fld ! refl (stop !))) (look-in ! 26 (sub ! 1 refl (whole !)))) (no-more !)))) (from ! (stop !)) (init ! 12 refl (tt, (tt, (record { fits = o .room₂ .0 }, tt)))) $
@@ -196,7 +199,8 @@ module _ {M : Type 1} (𝓤 : URA M) (H : Heap 𝓤) (A : Atoms 𝓤) (W : Given
         hears W ! (Changed block examined (ws .1 .1 .1 .1 .0) ∷ []) (id⊢ 𝓤 _) (λ changed. fsplit ! $ drop ! $ fsplit ! $ drop ! $ fsplit ! $ drop ! $ fsplit ! $ drop ! $ fsplit ! $ fsplit ! $ move ! (1 ∷ []) $ feqL ! (λ l₂.
         move ! (2 ∷ []) $ facts ! E.the-row (Is E.the-row) (shows 𝓤 H A E.the-row) examined (u ∷ []) (λ is-examined. move ! (2 ∷ []) $ use1 W (Alive o 𝓤) (id⊢ 𝓤 _) $ move ! (2 ∷ []) $ drop ! $
         land ! (from ! (stop !)) (init ! 21 refl (LL.lawful E.the-type E′.the-laws 𝓤 H A W .typed examined _ is-examined .0)) $
-        -- [Alive; the work's last list; the nodes' token; what nodes owns; what bytes owns; the locals]: the records are stored, and what the edit gives is returned
+        -- [Alive; the work's last list; the nodes' token; what nodes owns; what bytes owns; the locals]: the records
+        -- are stored, and what the edit gives is returned
         assigns ! (addr ! (from ! (fld ! refl (hop ! (look-in ! 27 (sub ! 0 refl (whole !))) (stop !))))) (from ! (stop !)) (init ! 7 refl (tt, tt)) $
         assigns ! (agg ! (and-then ! (reads ! (from ! (stop !)) (look ! 7 refl)) (and-then ! (reads ! (from ! (fld ! refl (stop !))) (look-in ! 27 (sub ! 1 refl (whole !)))) (no-more !)))) (from ! (stop !)) (init ! 5 refl (tt, (tt, (record { fits = o .room₁ .0 }, tt)))) $
         move ! (2 ∷ 3 ∷ []) $ calls-stores 𝓤 H A W mem run o examined u is-examined ! fm known-store (changed .contained .few-entries, changed .contained .few-nodes)
