@@ -1,32 +1,33 @@
--- What the core's functions cite: each way through reading and the slices examines the outcome that the rules give, and from that follow the
--- promises of `examine`. Assumes nothing.
+-- What the core's functions cite: each way through reading and the slices examines the outcome that the rules give,
+-- and from that follow the promises of `examine`. Assumes nothing.
 use mathlib.Core.Path.{_≡_, refl, sym, subst, _∙_}
 use mathlib.Core.Logic.{_↔_}
 use mathlib.Core.List.{List, _++_, map}
-use Prim.Native.Nat.{ℕ, _*_, _<_, _≤_}
+use Prim.Native.Nat.{ℕ}
 use native.Mathlib.Omega.{arith}
 use lib.ListN.{length, take, drop}
-use borrow.Author.Tests.{lt-ltb, le-ltb}
 use Rattle.rules.specs.Records.{Netlist}
 use Rattle.rules.specs.Families.{families, lowest, half, findings}
 use Rattle.rules.specs.Slices.{markOf, workBytes, filled, workAfter, reply}
-use Rattle.rules.specs.Checks.{answered, refused, andThen, judged, read, slicesFit, admitted}
+use Rattle.rules.specs.Checks.{answered, refused, andThen, read, slicesFit, admitted}
 use Rattle.rules.specs.Demands.{GlitchClear, NothingSuspect, OneProbe}
 use Rattle.rules.specs.Paper.{numberOf, placeOf, findingOf, replyOf}
 use Rattle.rules.specs.declared.Half.{Half}
 use Rattle.rules.specs.declared.Refusal.{Refusal}
-use Rattle.rules.specs.declared.Refusal.the-variants.{FewEntries, ShortWork}
+use Rattle.rules.specs.declared.QueryOutcome.{QueryOutcome}
+use Rattle.rules.specs.declared.QueryOutcome.the-variants as Query
 use Rattle.rules.specs.declared.Reply.the-variants.{Refused, Answered}
 use Rattle.rules.proofs.Halves.{exactly-when}
 use Rattle.rules.proofs.Probe.{one-probe}
+use Rattle.rules.proofs.Room.{fits}
 use Rattle.netlists.specs.declared.Netlist as Value
 use Rattle.netlists.specs.Netlists.{flatOf, kept}
-use Rattle.netlists.proofs.Netlists.{value-variables, value-count}
+use Rattle.netlists.proofs.Netlists.{value-variables, value-count, query-refused}
 use Rattle.marks.specs.declared.Marks.{Marks}
 use Rattle.marks.specs.Marks.{marksOf}
 use Rattle.marks.proofs.Layers.{halves}
 use Rattle.checker.specs.declared.Examined.{Examined}
-use Rattle.checker.specs.Work.{NothingKept, Examines, ReadsMarks}
+use Rattle.checker.specs.Work.{NothingKept, Examines, ReadsMarks, JudgesSlices}
 
 -- a refusal, with nothing kept and nothing written
 pub refusal : (r : Refusal) (k p : ℕ) (examined : Examined) (work : List ℕ) → numberOf r ≡ k → placeOf r ≡ p
@@ -65,22 +66,15 @@ unfolding andThen kept filled
 answers value n e marks m examined before w l =
     record { reply = l .finds n e m; netlist = l .netlist ∙ e; marks = l .itsMarks ∙ m; work = w }
 
--- the slices are too short, or hold a netlist of so many nodes
-module _ (entries count : ℕ) (n : Netlist) (examined : Examined) (before : List ℕ) (same : count ≡ length (n .nodes)) where
-  pub few-entries : entries < count → examined .reply ≡ Refused (FewEntries count) → NothingKept examined
-      → Examines (slicesFit entries (length before) n) examined before before
-  unfolding slicesFit judged
-  few-entries h r t = rw (← same, lt-ltb _ _ h) (refusal _ _ _ examined before refl refl r t)
+-- what is told of slices for so many nodes: they are too short for a netlist of these, or hold it
+module _ {count entries work : ℕ} {told : QueryOutcome} (fit : JudgesSlices count entries work told) (n : Netlist) (same : count ≡ length (n .nodes)) where
+  pub too-short : {r : Refusal} → told ≡ Query.Refused r → slicesFit entries work n ≡ refused (numberOf r) (placeOf r)
+  too-short {r} is = query-refused (slicesFit entries work n) r (fit .says n same) is
 
-  pub short-work : count ≤ entries → length before < 256 * count → examined .reply ≡ Refused (ShortWork (256 * count)) → NothingKept examined
-      → Examines (slicesFit entries (length before) n) examined before before
-  unfolding slicesFit judged
-  short-work h l r t = rw (← same, le-ltb _ _ h, lt-ltb _ _ l) (refusal _ _ _ examined before refl refl r t)
-
-  pub both-fit : count ≤ entries → 256 * count ≤ length before → (after : List ℕ) → Examines (answered n) examined before after
-      → Examines (slicesFit entries (length before) n) examined before after
-  unfolding slicesFit judged
-  both-fit h l after e = rw (← same, le-ltb _ _ h, le-ltb _ _ l) e
+  pub both-hold : told ≡ Query.Answered → slicesFit entries work n ≡ answered n
+  both-hold is =
+      let (few, enough) = fit .room is in
+      fits entries work n (record { enough-entries = rw (← same) few; enough-work = rw (← same) enough })
 
 module _ (bytes : List ℕ) (entries : ℕ) where
   -- a file that is read, and one that is refused

@@ -1,4 +1,5 @@
--- Steps of the walks that pass lent slices on: a clause that is shown, what is had at exit, a call by what the callee's contract says, and the calls of `examine` and of `store`. Assumes nothing.
+-- Steps of the walks that pass lent slices on: a clause that is shown, what is had at exit, a call by what the callee's
+-- contract says, and the calls of `examine` and of `store`. Assumes nothing.
 use mathlib.Core.Path.{_≡_, refl, sym, _∙_, subst}
 use mathlib.Core.Logic.{_↔_}
 use Prim.Native.Nat.{ℕ, _≤_, _<_, _^_}
@@ -72,7 +73,8 @@ to-nodes = tyRef erased mut (pointee (T.the-row .written))
 pub shown : {M : Type 1} {𝓤 : URA M} {H : Heap 𝓤} {A : Atoms 𝓤} {K : Type 0} {W : Given 𝓤 H A} {Γ : List (Item 𝓤)} {G : Goal 𝓤 H} → K → {φ : Type 0} → φ → Step K W (raw (fact 𝓤 φ) ∷ Γ) G Γ G
 shown {𝓤 = 𝓤} {W = W} t {φ} x = use0 W (raw (fact 𝓤 φ)) (factI 𝓤 φ (emp 𝓤) x)
 
--- what is had at exit, put in order: what the slices leave, bytes, nodes and work, in front of what the parameters behind them own
+-- what is had at exit, put in order: what the slices leave, bytes, nodes and work, in front of what
+-- the parameters behind them own
 pub slices-left : {M : Type 1} {𝓤 : URA M} {H : Heap 𝓤} {A : Atoms 𝓤} {K : Type 0} {W : Given 𝓤 H A} {Γ : List (Item 𝓤)} {G : Goal 𝓤 H} → K → {others nodes work bytes : Fml} {result token tokens : Item 𝓤}
     → Step K W (‵ (fsep bytes (fsep nodes (fsep work others))) ∷ result ∷ token ∷ tokens ∷ Γ) G (‵ others ∷ result ∷ token ∷ ‵ nodes ∷ tokens ∷ ‵ work ∷ ‵ bytes ∷ Γ) G
 slices-left t = step (λ s. move t (5 ∷ 0 ∷ []) $ fjoin t $ move t (3 ∷ 0 ∷ []) $ fjoin t $ move t (4 ∷ 0 ∷ []) $ fjoin t $ s)
@@ -97,7 +99,8 @@ pub goes-one : {M : Type 1} (𝓤 : URA M) (H : Heap 𝓤) (A : Atoms 𝓤) → 
 goes-one 𝓤 H A W R makes x vs is = qed W [] ∵ nothing ! $ nothing ! $ owned ! R (Is R) makes x vs is $ fjoin ! $ move ! (1 ∷ 0 ∷ []) $ join ! $ frame ! $ done !
 
 module _ {M : Type 1} (𝓤 : URA M) (H : Heap 𝓤) (A : Atoms 𝓤) (W : Given 𝓤 H A) (T : Ended) (c : Clauses 𝓤 T) (y : tripleOf 𝓤 H A (T .signature) (closing 𝓤 H A T c) .Ghost) where
-  -- the callee's contract, its result, what its clauses say, the last values, the parameters at exit, what the result owns, and the tokens
+  -- the callee's contract, its result, what its clauses say, the last values, the parameters at exit,
+  -- what the result owns, and the tokens
   abbrev Cited : Contract 𝓤
   Cited = tripleOf 𝓤 H A (T .signature) (closing 𝓤 H A T c)
 
@@ -159,7 +162,8 @@ module _ {M : Type 1} (𝓤 : URA M) (H : Heap 𝓤) (A : Atoms 𝓤) (W : Given
       qed W (‵ (flft κ q) ∷ ‵ Own₁ ∷ []) ∵ says ! few $ nothing ! $ move ! (1 ∷ 0 ∷ []) $ join ! $ frame ! $
       nothing ! $ owned ! E.the-row (Is E.the-row) (LL.makes E.the-type E′.the-plain 𝓤 H A) e _ is-e $ fjoin ! $ move ! (1 ∷ 0 ∷ []) $ fjoin ! $ done !
 
-  -- the call of `store` with what was examined: the borrow of nodes is passed on, and its last list has the records at its front
+  -- the call of `store` with what was examined: the borrow of nodes is passed on, and its last list
+  -- has the records at its front
   pub calls-stores : {K : Type 0} {Γ : List (Item 𝓤)} {En : Env 𝓤 H} {C : Calls 𝓤 H} {f : Name} {os : List Opd} {Λ : Loops 𝓤 H} {Q : Post 𝓤 H} {d : Place} {rest : Body} → K → FmC 𝓤 H (W .laws) C → Triple 𝓤 (C f) (Store 𝓤 H A mem run)
       → (e .netlist .count ≤ length ys) × (e .netlist .count ≤ most-nodes) → Opds K W (raw (Store 𝓤 H A mem run .pre to-store) ∷ Γ) En os (s₁ ∷ v ∷ [])
       → ((o : Val) (ns : List NodeRecord) → Holds (hasTy tyUnit o) × WT o → ns ≡ stored (recordIn e) ys (e .netlist .count) → length ns ≡ length ys

@@ -1,5 +1,7 @@
--- The walk that `check` shares with each function of other crates that examines netlist bytes, stores the node records and gives what another function makes of what was examined: the body, and that it meets what is
--- asked at exit. Each lent slice is passed on at its own lifetime, share and ghost name, so what a callee says of the last list is said of the slice's. Assumes nothing.
+-- The walk that `check` shares with each function of other crates that examines netlist bytes, stores the node records
+-- and gives what another function makes of what was examined: the body, and that it meets what is asked at exit.
+-- Each lent slice is passed on at its own lifetime, share and ghost name, so what a callee says of the last list is
+-- said of the slice's. Assumes nothing.
 use mathlib.Core.Path.{_≡_, refl}
 use Prim.Native.Nat.{ℕ}
 use mathlib.Core.List.{List, [], _∷_}

@@ -1,5 +1,5 @@
--- What an answer of `derive` is: the netlist was read, the set is in the family, its derivation fits; so the slice that it is copied to is a certificate, and
--- beyond it as it was. A refusal leaves the slice as it was. Assumes nothing.
+-- What an answer of `derive` is: the netlist was read, the set is in the family, its derivation fits; so the slice that
+-- it is copied to is a certificate, and beyond it as it was. A refusal leaves the slice as it was. Assumes nothing.
 use Prim.Native.Nat.{ℕ, _*_, _/_, _≤_, _<_}
 use mathlib.Core.Path.{_≡_, refl, sym, ap, _∙_}
 use mathlib.Core.Bool.{Bool, true, false, not, cond}
@@ -22,7 +22,8 @@ use Rattle.derivation_rules.proofs.Follows.{derivation-follows, out-length}
 use Rattle.derivations.specs.declared.Derived.{Derived}
 use Rattle.derivations.specs.declared.Derived.the-variants.{Refused, Steps}
 use Rattle.derivations.specs.Meaning.{derivedOf}
-use Rattle.derivations.specs.Written.{Told}
+use Rattle.derivations.specs.Written.{derivableIn, Told}
+use Rattle.derivations.proofs.Told.{derivable-in}
 
 -- ---- an answer
 
@@ -77,28 +78,17 @@ fitting-few bytes = go (ltb most-steps (bytes / step-size)) refl
     go true e = (omega arith, omega (arith, ltb-true most-steps (bytes / step-size) e))
     go false e = (ltb-false _ _ e, omega arith)
 
-module _ (file : List ℕ) (i k A : ℕ) (before found : List ℕ) (r : Derived)
-    (told : Told (derivable file i k A (fitting (length before))) (record { node = i; layer = k; set = A }) (fitting (length before)) r found) where
-  abbrev outcome : Outcome Netlist
-  outcome = derivable file i k A (fitting (length before))
-
-  pub reply-told : derivedOf r ≡ stepsReply file i k A (length before)
-  unfolding stepsReply
-  reply-told = told .reply
-
+module _ (outcome : Outcome Netlist) (i k A : ℕ) (before found : List ℕ) (r : Derived)
+    (told : Told outcome (record { node = i; layer = k; set = A }) (fitting (length before)) r found) where
   -- a refusal leaves it as it was
-  module _ (refusal : Refusal) (is : r ≡ Refused refusal) where
-    pub slice-kept : before ≡ stepsAfter file i k A before
-    unfolding stepsAfter filled andThen
-    slice-kept = go outcome (ap derivedOf (sym is) ∙ told .reply)
-      where
-        go : (o : Outcome Netlist) → refused (numberOf refusal) (placeOf refusal) ≡ andThen o (λ n. answered (length (derived n i k A)))
-            → before ≡ filled (λ n. stepsOut (derived n i k A)) o before
-        go (answered n) e = let no : _≡_ {A = ℕ} 0 1 = cc in absurd (omega arith)
-        go (refused number place) e = refl
-
-    pub no-answer : (count : ℕ) → derivedOf r ≡ answered count → ⊥
-    no-answer count e = let no : _≡_ {A = ℕ} 0 1 = cc in absurd (omega arith)
+  pub slice-kept : (refusal : Refusal) → r ≡ Refused refusal → before ≡ filled (λ n. stepsOut (derived n i k A)) outcome before
+  unfolding filled andThen
+  slice-kept refusal is = go outcome (ap derivedOf (sym is) ∙ told .reply)
+    where
+      go : (o : Outcome Netlist) → refused (numberOf refusal) (placeOf refusal) ≡ andThen o (λ n. answered (length (derived n i k A)))
+          → before ≡ filled (λ n. stepsOut (derived n i k A)) o before
+      go (answered n) e = let no : _≡_ {A = ℕ} 0 1 = cc in absurd (omega arith)
+      go (refused number place) e = refl
 
   -- an answer: the steps, and beyond them what stood there
   module _ (count : ℕ) (is : r ≡ Steps count) where
@@ -110,19 +100,44 @@ module _ (file : List ℕ) (i k A : ℕ) (before found : List ℕ) (r : Derived)
     pub count-few : count ≤ fitting (length before)
     count-few = let (n, from, many) = answer-of in rw many at (told .few n from)
 
-    module _ (after : List ℕ) (copied : after ≡ take (step-size * count) found ++ drop (step-size * count) before) where
-      written : (n : Netlist) → outcome ≡ answered n → length (derived n i k A) ≡ count
-          → after ≡ stepsOut (derived n i k A) ++ drop (step-size * count) before
-      written n from many = rw (copied, ← many, told .bytes n from)
+    pub slice-written : (after : List ℕ) → after ≡ take (step-size * count) found ++ drop (step-size * count) before
+        → after ≡ filled (λ n. stepsOut (derived n i k A)) outcome before
+    unfolding filled
+    slice-written after copied = let (n, from, many) = answer-of in rw (from, out-length (derived n i k A)) (go n from many)
+      where
+        go : (n : Netlist) → outcome ≡ answered n → length (derived n i k A) ≡ count
+            → after ≡ stepsOut (derived n i k A) ++ drop (step-size * length (derived n i k A)) before
+        go n from many = rw (copied, ← many, told .bytes n from)
 
-      pub slice-written : after ≡ stepsAfter file i k A before
-      unfolding stepsAfter filled
-      slice-written =
-          let (n, from, many) = answer-of in
-          rw (from, out-length (derived n i k A), many) (written n from many)
+-- ---- what is promised
 
-      pub slice-certificate : (steps : ℕ) → _≡_ {A = Outcome ℕ} (answered count) (answered steps) → Certificate file i k A steps after
-      slice-certificate steps e =
-          let (n, from, many) = answer-of in
-          let same : length (derived n i k A) ≡ steps = many ∙ cc e in
-          rw (← same) (certificate file i k A _ n from after _ (written n from many))
+-- of netlist bytes that are read as a netlist: the reply, and the slice at exit
+module _ (file : List ℕ) (n : Netlist) (is : read file ≡ answered n) (i k A : ℕ) (before : List ℕ) where
+  pub reply-read : (said : Outcome ℕ) → said ≡ andThen (derivableIn n i k A (fitting (length before))) (λ n. answered (length (derived n i k A)))
+      → said ≡ stepsReply file i k A (length before)
+  unfolding stepsReply
+  reply-read said e = rw (derivable-in n i k A (fitting (length before)) file is) e
+
+  pub slice-read : (after : List ℕ) → after ≡ filled (λ n. stepsOut (derived n i k A)) (derivableIn n i k A (fitting (length before))) before
+      → after ≡ stepsAfter file i k A before
+  unfolding stepsAfter
+  slice-read after e = rw (derivable-in n i k A (fitting (length before)) file is) e
+
+-- of a query that is refused
+pub query-refused : (file : List ℕ) (i k A number place : ℕ) → queriedWith file i A ≡ refused number place → (before : List ℕ)
+    → (refused number place ≡ stepsReply file i k A (length before)) × (before ≡ stepsAfter file i k A before)
+unfolding stepsReply stepsAfter derivable filled andThen
+query-refused file i k A number place e before = (rw e, rw e)
+
+-- no refusal is an answer
+pub no-answer : {number place count : ℕ} → refused number place ≡ answered count → ⊥
+no-answer e = let no : _≡_ {A = ℕ} 0 1 = cc in absurd (omega arith)
+
+-- a reply and a slice at exit, where they are those of netlist bytes, are a certificate
+pub certified : (file : List ℕ) (i k A : ℕ) (before after : List ℕ) (said : Outcome ℕ) → said ≡ stepsReply file i k A (length before)
+    → after ≡ stepsAfter file i k A before → (count : ℕ) → said ≡ answered count → Certificate file i k A count after
+unfolding stepsReply stepsAfter filled
+certified file i k A before after said reply slice count is =
+    let (n, from, e) = leads (derivable file i k A (fitting (length before))) _ count (sym reply ∙ is) in
+    let same : length (derived n i k A) ≡ count = cc e in
+    rw (← same) (certificate file i k A _ n from after _ (rw from at slice))

@@ -1,7 +1,7 @@
--- What is known of a claim that is to be explained: it is true of the netlist that the work bytes hold the families of, its set is one of those that there
--- may be, its node's record can be looked at; and the way that is chosen by the bytes is the first rule that works, whose needs are such claims
--- again. Assumes nothing.
-use Prim.Native.Nat.{ℕ, _+_, _≤_, _<_}
+-- What is known of a claim that is to be explained: it is true of the netlist that the work bytes hold the families of,
+-- its set is one of those that there may be, its node's record can be looked at; and the way that is chosen by the
+-- bytes is the first rule that works, whose needs are such claims again. Assumes nothing.
+use Prim.Native.Nat.{ℕ, _≤_, _<_}
 use mathlib.Core.Path.{_≡_, sym, ap, _∙_}
 use mathlib.Core.Bool.{true}
 use mathlib.Core.List.{List, _∷_, _++_}

@@ -1,26 +1,46 @@
--- What comes of a claim: the rows of refusals 16 and 15 passed or not, and the steps that a slice then holds at its front. Assumes nothing.
+-- What comes of a claim: the rows of refusals 12, 13, 16 and 15 passed or not, and the steps that a slice then
+-- holds at its front. Assumes nothing.
 use Prim.Native.Nat.{ℕ, _*_, _≤_, _<_}
 use mathlib.Core.Path.{_≡_, sym, _∙_}
 use mathlib.Core.Logic.{_⊎_, inl, inr}
 use mathlib.Core.Bool.{true, false}
-use mathlib.Core.List.{List}
+use mathlib.Core.List.{List, [], _∷_}
 use native.Mathlib.Nat.{zero-add}
 use native.Mathlib.Omega.{arith}
 use borrow.Author.Tests.{lt-ltb, le-ltb}
 use lib.ListN.{length, take}
 use Rattle.rules.specs.Records.{Netlist}
-use Rattle.rules.specs.Checks.{Outcome, answered, refused, andThen, judged}
+use Rattle.rules.specs.Checks.{Outcome, answered, refused, andThen, Check, judged, read, nodeCheck, numberCheck, queriedWith}
 use Rattle.rules.proofs.Tests.{lt-or-le}
+use Rattle.query_netlists.proofs.Asking.{rows-refuse, rows-pass}
 use Rattle.derivation_steps.specs.declared.Claim.{Claim}
-use Rattle.derivation_rules.specs.Derivations.{Step, step-size, stepsOut, inFamily, derived, setCheck, stepsCheck, explainable}
+use Rattle.derivation_rules.specs.Derivations.{Step, step-size, stepsOut, inFamily, derived, setCheck, stepsCheck, explainable, derivable}
 use Rattle.derivations.specs.declared.Derived.{Derived}
 use Rattle.derivations.specs.declared.Derived.the-variants.{Steps}
 use Rattle.derivations.specs.Meaning.{derivedOf}
-use Rattle.derivations.specs.Written.{Written, Told}
+use Rattle.derivations.specs.Written.{Written, derivableIn, Told}
 
 -- ---- the rows
 
 module _ (n : Netlist) (i k A room : ℕ) where
+  -- those of the node and of the set
+  abbrev rows : List Check
+  rows = nodeCheck i n ∷ numberCheck A n ∷ []
+
+  pub judged-refused : (number place : ℕ) → _≡_ {A = Outcome (Unit {0})} (refused number place) (judged rows tt)
+      → derivableIn n i k A room ≡ refused number place
+  unfolding derivableIn andThen
+  judged-refused number place e = rw (rows-refuse rows n number place e)
+
+  pub judged-passed : _≡_ {A = Outcome (Unit {0})} (answered tt) (judged rows tt) → derivableIn n i k A room ≡ explainable i k A room n
+  unfolding derivableIn andThen
+  judged-passed e = rw (rows-pass rows n e)
+
+  -- and behind a file that is read as the netlist
+  pub derivable-in : (file : List ℕ) → read file ≡ answered n → derivable file i k A room ≡ derivableIn n i k A room
+  unfolding derivable derivableIn queriedWith andThen
+  derivable-in file e = rw e
+
   -- a set that is not in the family
   pub not-in-family : inFamily n i k A ≡ false → explainable i k A room n ≡ refused 16 A
   unfolding explainable setCheck judged

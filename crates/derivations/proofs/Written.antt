@@ -1,5 +1,5 @@
--- Steps behind the front of a slice that takes so many: none, one that does not fit, one with others behind it, and two runs of them, one behind the
--- other. Assumes nothing.
+-- Steps behind the front of a slice that takes so many: none, one that does not fit, one with others behind it,
+-- and two runs of them, one behind the other. Assumes nothing.
 use Prim.Native.Nat.{ℕ, _+_, _*_, _≤_, _<_}
 use mathlib.Core.Path.{_≡_, refl, sym}
 use mathlib.Core.Logic.{_⊎_, inl, inr}

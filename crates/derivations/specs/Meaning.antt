@@ -1,4 +1,5 @@
--- What the reply of this crate means in change request A5: for each case its number and values. Promises use this. Assumes nothing.
+-- What the reply of this crate means in change request A5: for each case its number and values.
+-- Promises use this. Assumes nothing.
 use Prim.Native.Nat.{ℕ}
 use Rattle.rules.specs.Checks.{Outcome, answered, refused}
 use Rattle.rules.specs.Paper.{numberOf, placeOf}

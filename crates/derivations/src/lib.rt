@@ -1,17 +1,20 @@
-// Change request A5: how a set got into a node's family, as steps of five bytes. Explaining a node's set explains those of its operands that its
-// rule needs, and each of them in turn; the steps go into an array of this crate's own, which has room for as many as there may be, and from
-// there to the lent slice.
+// Change request A5: how a set got into a node's family, as steps of five bytes: `derive` of netlist bytes,
+// `derive_held` of a netlist whose families are at hand. Explaining a node's set explains those of its
+// operands that its rule needs, and each of them in turn; the steps go into an array of this crate's own,
+// which has room for as many as there may be, and from there to the lent slice, the only thing that is written to.
+// For `desk`, and for callers of the library.
 ghost use mathlib.Core.Path.{_≡_};
+ghost use mathlib.Core.List.{List};
 ghost use Prim.Native.Nat.{ℕ, _*_, _<_, _≤_};
 ghost use lib.ListN.{length};
 ghost use Rattle.rules.specs.Records as Records;
 ghost use Rattle.rules.specs.Records.{most-sets};
 ghost use Rattle.rules.specs.Checks.{answered};
-ghost use Rattle.netlists.specs.Netlists.{flatOf, Formed};
-ghost use Rattle.derivation_rules.specs.Derivations.{step-size, derivation, explained, layerOf, inFamily, most-steps, fitting, explainable, derivable, stepsReply, stepsAfter, Certificate};
+ghost use Rattle.netlists.specs.Netlists.{flatOf};
+ghost use Rattle.derivation_rules.specs.Derivations.{step-size, derivation, explained, layerOf, inFamily, most-steps, fitting, stepsReply, stepsAfter, Certificate};
 ghost use Rattle.derivation_steps.specs.Meaning.{needsOf};
 ghost use Rattle.derivations.specs.Meaning.{derivedOf};
-ghost use Rattle.derivations.specs.Written.{Known, Held, HeldEach, Written, Told};
+ghost use Rattle.derivations.specs.Written.{Known, Held, HeldEach, Written, derivableIn, Told, ReadAs};
 use derivation_steps::Claim;
 use derivation_steps::Needs;
 use derivation_steps::STEP;
@@ -20,7 +23,7 @@ use rules::MOST_WORK;
 use rules::QueryOutcome;
 use rules::Refusal;
 
-// At most so many steps, and how many bytes they have.
+// The most steps that a derivation has, and how many bytes those are.
 pub const MOST_STEPS: usize = 512;
 
 pub const MOST_BYTES: usize = STEP * MOST_STEPS;
@@ -31,8 +34,8 @@ pub enum Derived {
     Steps(usize),
 }
 
-// Explains a claim: the first rule that works is its step, and then its operands are explained. There are `at` steps so far, and room for
-// `room`; the reply is how many there are then, or more than `room` once they do not fit.
+// Explains a claim: the first rule that works is its step, and then its operands are explained. There are `at` steps so
+// far, and room for `room`; the reply is how many there are then, or more than `room` once they do not fit.
 fn explain_cell(
     netlist: Netlist,
     work: &[u8],
@@ -99,41 +102,60 @@ fn in_family(netlist: Netlist, work: &[u8], claim: Claim) -> bool
     claim.layer < 2 && derivation_steps::has(work, claim)
 }
 
-// Explains a claim of a netlist that was read, in a slice that has room for so many steps: refusal 16, and last 15.
-fn explain(netlist: Netlist, claim: Claim, steps: &mut [u8], room: usize) -> Derived
-    requires { ⌜ Formed netlist × (claim .node < netlist .count) × (claim .set < most-sets) × (step-size * room ≤ length (now steps)) × (room ≤ most-steps) ⌝ }
+// Explains a claim in a slice that has room for so many steps: refusals 12 and 13 of its node and its set, then 16,
+// and last 15. The steps of a refusal may stand there, as many as fit.
+fn explain(netlist: Netlist, work: &[u8], claim: Claim, steps: &mut [u8], room: usize) -> Derived
+    requires { ⌜ Known netlist (now work) × (step-size * room ≤ length (now steps)) × (room ≤ most-steps) ⌝ }
     ensures { λ r. ⌜ ((n : Records.Netlist) → netlist ≡ flatOf n →
-        Told (explainable (claim .node) (claim .layer) (claim .set) room n) claim room r (now (steps .exit))) ⌝ }
+        Told (derivableIn n (claim .node) (claim .layer) (claim .set) room) claim room r (now (steps .exit))) ⌝ }
 {
-    let mut work = [0u8; MOST_WORK];
-    nodes::all_families(netlist, &mut work);
-    if !in_family(netlist, &work, claim) {
+    if let QueryOutcome::Refused(refusal) = query_netlists::judge(netlist, claim.node, claim.set) {
+        return Derived::Refused(refusal);
+    }
+    if !in_family(netlist, work, claim) {
         return Derived::Refused(Refusal::NotInFamily(claim.set));
     }
-    let count = explain_cell(netlist, &work, claim, steps, 0, room);
+    let count = explain_cell(netlist, work, claim, steps, 0, room);
     if room < count {
         return Derived::Refused(Refusal::TooManySteps(room));
     }
     Derived::Steps(count)
 }
 
-// The same of netlist bytes, with the refusals of a query of a node and a set before.
-fn explain_file(bytes: &[u8], claim: Claim, steps: &mut [u8], room: usize) -> Derived
-    requires { ⌜ (step-size * room ≤ length (now steps)) × (room ≤ most-steps) ⌝ }
-    ensures { λ r. ⌜ Told (derivable (now (bytes .entry)) (claim .node) (claim .layer) (claim .set) room) claim room r (now (steps .exit)) ⌝ }
+// What `derive` does, for whoever holds the netlist with its families: `work` has room for every netlist
+// and begins with the families of this one. What is promised is what `derive` promises of all netlist bytes
+// that are read as this netlist.
+pub fn derive_held(
+    netlist: Netlist,
+    work: &[u8],
+    node: usize,
+    layer: usize,
+    set: usize,
+    steps: &mut [u8],
+) -> Derived
+    requires { ⌜ Known netlist (now work) ⌝ }
+    ensures reply { λ r. ⌜ ((bytes : List ℕ) → ReadAs netlist bytes →
+        derivedOf r ≡ stepsReply bytes node layer set (length (now (steps .entry)))) ⌝ }
+    ensures steps { λ _. ⌜ ((bytes : List ℕ) → ReadAs netlist bytes →
+        now (steps .exit) ≡ stepsAfter bytes node layer set (now (steps .entry))) ⌝ }
+    ensures follows { λ r. ⌜ ((bytes : List ℕ) → ReadAs netlist bytes → (count : ℕ) → derivedOf r ≡ answered count →
+        Certificate bytes node layer set count (now (steps .exit))) ⌝ }
+    ensures most { λ r. ⌜ ((count : ℕ) → derivedOf r ≡ answered count → count ≤ most-steps) ⌝ }
 {
-    let file = query_netlists::ask_with(bytes, claim.node, claim.set);
-    let outcome = file.outcome;
-    let netlist = file.netlist;
-    match outcome {
-        QueryOutcome::Refused(refusal) => Derived::Refused(refusal),
-        QueryOutcome::Answered => explain(netlist, claim, steps, room),
+    let mut found = [0u8; MOST_BYTES];
+    let claim = Claim { node, layer, set };
+    let room = fitting(steps.len());
+    let reply = explain(netlist, work, claim, &mut found, room);
+    if let Derived::Steps(count) = reply {
+        bytes::copy(&found[..STEP * count], steps);
     }
+    reply
 }
 
-// Writes the derivation of a set in the family of a node in a layer, 0 for settled signals and 1 for glitching ones, to the front of `steps`, five bytes
-// a step. Replies with the number of steps; a refusal leaves the slice as it was. `MOST_BYTES` bytes are enough for every derivation that
-// is not refused.
+// Writes the derivation of a set in the family of a node in a layer, 0 for settled signals and 1 for glitching ones,
+// to the front of `steps`, five bytes a step. Replies with the number of steps; a refusal leaves the slice as it was.
+// `MOST_BYTES` bytes are enough for every derivation that is not refused. No family is worked out
+// for a query that is refused.
 pub fn derive(bytes: &[u8], node: usize, layer: usize, set: usize, steps: &mut [u8]) -> Derived
     ensures reply { λ r. ⌜ derivedOf r ≡ stepsReply (now (bytes .entry)) node layer set (length (now (steps .entry))) ⌝ }
     ensures steps { λ _. ⌜ now (steps .exit) ≡ stepsAfter (now (bytes .entry)) node layer set (now (steps .entry)) ⌝ }
@@ -141,12 +163,15 @@ pub fn derive(bytes: &[u8], node: usize, layer: usize, set: usize, steps: &mut [
         Certificate (now (bytes .entry)) node layer set count (now (steps .exit))) ⌝ }
     ensures most { λ r. ⌜ ((count : ℕ) → derivedOf r ≡ answered count → count ≤ most-steps) ⌝ }
 {
-    let mut found = [0u8; MOST_BYTES];
-    let claim = Claim { node, layer, set };
-    let room = fitting(steps.len());
-    let reply = explain_file(bytes, claim, &mut found, room);
-    if let Derived::Steps(count) = reply {
-        bytes::copy(&found[..STEP * count], steps);
+    let file = query_netlists::ask_with(bytes, node, set);
+    let outcome = file.outcome;
+    let netlist = file.netlist;
+    match outcome {
+        QueryOutcome::Refused(refusal) => Derived::Refused(refusal),
+        QueryOutcome::Answered => {
+            let mut work = [0u8; MOST_WORK];
+            nodes::all_families(netlist, &mut work);
+            derive_held(netlist, &work, node, layer, set, steps)
+        }
     }
-    reply
 }

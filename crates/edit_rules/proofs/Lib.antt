@@ -1,9 +1,9 @@
--- The law of removals; the record of a new node, the search for a node that names another, and what moves down over a node that is given up.
+-- The law of removals, the search for a node that uses another, a new node, and what an edit keeps.
 pub mod Removal
-pub mod Adding
 pub mod Used
-pub mod Removing
--- What antt computes: edits of two blocks, one whose counts differ, and a node that is named.
+pub mod Adding
+pub mod Kept
+-- What antt computes: edits of two blocks, one whose counts differ, and a node that is used;
 pub mod Blocks
--- and a run of edits in slices of many lengths
+-- and a run of edits in slices of many lengths.
 pub mod LentRuns

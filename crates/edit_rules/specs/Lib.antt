@@ -1,4 +1,3 @@
--- Change request A3 as definitions, and what the enum of edits means in it; then what the contracts below the entry points cite.
+-- Change request A3 as definitions, and what the types of this crate mean in it.
 pub mod Edits
 pub mod Meaning
-pub mod Work

@@ -5,16 +5,17 @@ use mathlib.Core.Path.{_≡_, refl, sym, ap, ap₂, _∙_}
 use mathlib.Core.List.{List, [], _∷_, _++_}
 use mathlib.Core.Option.{none}
 use native.Mathlib.Omega.{arith}
-use borrow.Author.Tests.{le-ltb}
 use lib.ListN.{length, getD, drop, set, length-append, take-append-drop}
 use lib.Seq.{take-at, getD-at}
 use Rattle.rules.specs.declared.Node.{Node}
+use Rattle.rules.specs.declared.QueryOutcome.{QueryOutcome}
+use Rattle.rules.specs.declared.QueryOutcome.the-variants as Query
 use Rattle.rules.specs.declared.Refusal.{Refusal}
 use Rattle.rules.specs.declared.Reply.the-variants.{Refused}
 use Rattle.rules.specs.Records.{Cell, input, Netlist, WellFormed, withNode, most-variables, most-nodes}
 use Rattle.rules.specs.Families.{Family, Families, familiesRule, families, layerMarks}
 use Rattle.rules.specs.Slices.{entry, markNumber, workBytes}
-use Rattle.rules.specs.Checks.{Outcome, answered, refused, andThen, judged, slicesFit}
+use Rattle.rules.specs.Checks.{Outcome, answered, refused, andThen, slicesFit}
 use Rattle.rules.specs.Paper.{numberOf, placeOf}
 use Rattle.rules.proofs.Marks.{layer-marks-length}
 use Rattle.netlists.specs.declared.Netlist as Value
@@ -28,13 +29,14 @@ use Rattle.marks.specs.declared.Marks.{Marks}
 use Rattle.marks.specs.Marks.{flatMarks, marksIn, marksOf, withMarks}
 use Rattle.marks.proofs.Layers.{flat-more}
 use Rattle.checker.specs.declared.Examined.{Examined}
-use Rattle.checker.specs.Work.{NothingKept, Examines, ReadsMarks}
-use Rattle.checker.proofs.Core.{answers, both-fit}
+use Rattle.checker.specs.Work.{NothingKept, Examines, ReadsMarks, JudgesSlices}
+use Rattle.checker.proofs.Core.{refusal, answers, too-short, both-hold}
 use Rattle.edit_rules.specs.Edits.{judgedNode, offered, add, fits, edited}
 use Rattle.edit_rules.specs.Meaning.{stateOf}
-use Rattle.edit_rules.proofs.Adding.{OffersNode, offers-none, offered-lower, offered-small, offered-well-formed, marks-added}
+use Rattle.edit_rules.proofs.Adding.{offered-lower, offered-small, offered-well-formed, marks-added}
+use Rattle.edit_steps.proofs.Offers.{OffersNode, offers-none}
 use Rattle.edit_steps.proofs.Changing.{value-state, state-count, state-variables, contained-refused, contained-looks, refused-early}
-use Rattle.edit_rules.specs.Work.{stateIn, HoldsFamilies}
+use Rattle.edit_steps.specs.Work.{stateIn, HoldsFamilies}
 use Rattle.edit_steps.specs.Changes.{Adds, Changes}
 
 -- a node that is offered can stand at its number
@@ -84,42 +86,42 @@ marked n cell rest e formed =
         ∙ flat-more (layerMarks layer n) own (omega (arith, one-more n cell refl, formed .few-nodes))
         ∙ ap flatMarks (sym (marks-added layer n cell))
 
-module _ (block : Value.Netlist) (marks : Marks) (e : Node) (entries : ℕ) (examined : Examined) (before : List ℕ) where
-  -- slices that are too short for one node more
-  pub too-short : NothingKept examined
-      → ((n : Netlist) (cell : Cell) → block .count + 1 ≡ length (withNode n cell .nodes)
-      → Examines (slicesFit entries (length before) (withNode n cell)) examined before before)
-      → Adds block marks e entries examined before before
+-- what is told of the slices for one node more
+module _ (block : Value.Netlist) (marks : Marks) (e : Node) (entries : ℕ) (examined : Examined) (before : List ℕ) {told : QueryOutcome}
+    (fit : JudgesSlices (block .count + 1) entries (length before) told) where
+  -- they are too short
+  pub no-room : {r : Refusal} → told ≡ Query.Refused r → examined .reply ≡ Refused r → NothingKept examined → Adds block marks e entries examined before before
   unfolding andThen
-  too-short nothing examines =
-      record {
-        contained = contained-refused entries examined before nothing;
-        early = λ n cell same k p short. rw short at (examines n cell (one-more n cell same) .reply);
-        made = λ n cell formed same known its holds. examines n cell (one-more n cell (value-count n same));
-      }
+  no-room {r} is reply nothing = record {
+    contained = contained-refused entries examined before nothing;
+    early = λ n cell same k p short. rw short at (examines n cell same .reply);
+    made = λ n cell formed same known its holds. examines n cell (value-count n same);
+  }
+    where
+      examines : (n : Netlist) (cell : Cell) → block .count ≡ length (n .nodes) → Examines (slicesFit entries (length before) (withNode n cell)) examined before before
+      examines n cell same =
+          rw (too-short fit (withNode n cell) (one-more n cell same) is) (refusal r (numberOf r) (placeOf r) examined before refl refl reply nothing)
 
-  -- what is read from the marks with those of one node more, which are found over the work bytes with its families
-  pub looked : (value : Value.Netlist) (longer : Marks) (after : List ℕ) → block .count < most-nodes → block .count + 1 ≤ entries
-      → 256 * (block .count + 1) ≤ length before → value .count ≡ block .count + 1
+  -- they hold it: what is read from the marks with its own, which are found over the work bytes with its families
+  pub looked : (value : Value.Netlist) (longer : Marks) (after : List ℕ) → told ≡ Query.Answered → block .count < most-nodes → value .count ≡ block .count + 1
       → ((n : Netlist) (cell : Cell) → block ≡ flatOf n → e ≡ entry cell → value ≡ flatOf (withNode n cell))
       → ((cell : Cell) → e ≡ entry cell → after ≡ withFamilies before (block .count) (familiesRule (soFar before (block .count)) cell))
       → ((n : Netlist) → value ≡ flatOf n
       → longer ≡ withMarks marks (value .count - 1) (getD (reportsIn n 0 after) (value .count - 1) none) (getD (reportsIn n 1 after) (value .count - 1) none))
       → ReadsMarks value longer examined → Adds block marks e entries examined before after
-  unfolding slicesFit judged
-  looked value longer after room few enough more with-it written found looks =
+  looked value longer after holds-it few more with-it written found looks =
       record {
-        contained = contained-looks entries value longer examined before after (omega arith) (omega arith) looks;
-        early = λ n cell same k p short.
-            let no = rw (← one-more n cell same, le-ltb entries (block .count + 1) few, le-ltb (length before) (256 * (block .count + 1)) enough) at short in
-            cc;
+        contained = contained-looks entries value longer examined before after (omega (arith, fit .room holds-it .0)) (omega arith) looks;
+        early = λ n cell same k p short. cc (fits-it n cell same);
         made = λ n cell formed same known its holds.
             let is = with-it n cell same its in
             let work = written cell its ∙ added n cell before (value-count n same) formed holds in
             let own : longer ≡ marksOf (withNode n cell) = found (withNode n cell) is ∙ rw (known, work) (marked n cell _ (omega (arith, value-count n same)) formed) in
-            both-fit entries (block .count + 1) (withNode n cell) examined before (one-more n cell (value-count n same)) few enough after
-            (answers value (withNode n cell) is longer own examined before work looks);
+            rw (fits-it n cell (value-count n same)) (answers value (withNode n cell) is longer own examined before work looks);
       }
+    where
+      fits-it : (n : Netlist) (cell : Cell) → block .count ≡ length (n .nodes) → slicesFit entries (length before) (withNode n cell) ≡ answered (withNode n cell)
+      fits-it n cell same = both-hold fit (withNode n cell) (one-more n cell same) holds-it
 
 -- what is offered to a block by value: it goes by its counts
 abbrev pub offeredTo : Value.Netlist → (bytes : List ℕ) → Outcome Cell

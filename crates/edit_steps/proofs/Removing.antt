@@ -7,6 +7,8 @@ use mathlib.Core.Option.{Option}
 use native.Mathlib.Omega.{arith}
 use lib.ListN.{length}
 use borrow.Author.Tests.{lt-ltb, le-ltb, le-leb, lt-leb}
+use Rattle.rules.specs.declared.QueryOutcome.{QueryOutcome}
+use Rattle.rules.specs.declared.QueryOutcome.the-variants as Query
 use Rattle.rules.specs.declared.Refusal.the-variants.{StillNamed}
 use Rattle.rules.specs.declared.Reply.the-variants.{Refused}
 use Rattle.rules.specs.Lists.{without}
@@ -19,11 +21,11 @@ use Rattle.netlists.proofs.Netlists.{value-count}
 use Rattle.marks.specs.declared.Marks.{Marks}
 use Rattle.marks.specs.Marks.{marksIn, marksOf}
 use Rattle.checker.specs.declared.Examined.{Examined}
-use Rattle.checker.specs.Work.{NothingKept, Examines, ReadsMarks}
-use Rattle.checker.proofs.Core.{refusal, answers}
+use Rattle.checker.specs.Work.{NothingKept, Examines, ReadsMarks, JudgesSlices}
+use Rattle.checker.proofs.Core.{refusal, answers, both-hold}
 use Rattle.edit_rules.specs.Edits.{remove, withoutNode, lowestUser, removedIfUnused, fits, edited}
-use Rattle.edit_rules.specs.Work.{movedDown, HoldsFamilies}
-use Rattle.edit_rules.proofs.Removing.{moved-families}
+use Rattle.edit_steps.specs.Work.{movedDown, HoldsFamilies}
+use Rattle.edit_steps.proofs.MovesDown.{moved-families}
 use Rattle.edit_steps.specs.Changes.{Contained, Changes}
 use Rattle.edit_steps.proofs.Changing.{state-count, contained-refused, contained-looks}
 use Rattle.edit_rules.proofs.Removal.{Unused, marks-removed}
@@ -79,26 +81,18 @@ module _ (count removed entries work : ℕ) (n : Netlist) (same : count ≡ leng
   unfolding fits nodeCheck judged andThen
   no-such-node h = rw (← same, le-leb _ _ h)
 
-  pub few-entries : removed < count → entries < count → fits n (remove removed) entries work ≡ refused 10 count
-  unfolding fits nodeCheck slicesFit judged andThen
-  few-entries there h = rw (← same, lt-leb _ _ there, ← same, lt-ltb _ _ h)
-
-  pub short-work : removed < count → count ≤ entries → work < 256 * count → fits n (remove removed) entries work ≡ refused 11 (256 * count)
-  unfolding fits nodeCheck slicesFit judged andThen
-  short-work there h l = rw (← same, lt-leb _ _ there, ← same, le-ltb _ _ h, lt-ltb _ _ l)
-
-  fits-removal : removed < count → count ≤ entries → 256 * count ≤ work → fits n (remove removed) entries work ≡ answered n
-  unfolding fits nodeCheck slicesFit judged andThen
-  fits-removal there h l = rw (← same, lt-leb _ _ there, ← same, le-ltb _ _ h, le-ltb _ _ l)
+  pub by-slices : removed < count → fits n (remove removed) entries work ≡ slicesFit entries work n
+  unfolding fits nodeCheck judged andThen
+  by-slices there = rw (← same, lt-leb _ _ there)
 
 -- both slices hold the nodes, and the node is given up or still named
-pub removes : (block : Value.Netlist) (marks : Marks) (removed entries : ℕ) (examined : Examined) (before after : List ℕ) → removed < block .count
-    → block .count ≤ entries → 256 * block .count ≤ length before → GivesUp block marks removed examined before after
+pub removes : (block : Value.Netlist) (marks : Marks) (removed entries : ℕ) (examined : Examined) (before after : List ℕ) {told : QueryOutcome} → removed < block .count
+    → JudgesSlices (block .count) entries (length before) told → told ≡ Query.Answered → GivesUp block marks removed examined before after
     → Changes block marks (remove removed) entries examined before after
 unfolding edited andThen
-removes block marks removed entries examined before after there few room given = record {
+removes block marks removed entries examined before after there slices holds-them given = record {
   contained = record {
-    few-entries = omega (arith, given .contained .few-entries);
+    few-entries = omega (arith, given .contained .few-entries, slices .room holds-them .0);
     few-nodes = given .contained .few-nodes;
     unchanged = given .contained .unchanged;
   };
@@ -107,4 +101,4 @@ removes block marks removed entries examined before after there few room given =
 }
   where
     fit : (n : Netlist) → block .count ≡ length (n .nodes) → fits n (remove removed) entries (length before) ≡ answered n
-    fit n same = fits-removal (block .count) removed entries (length before) n same there few room
+    fit n same = by-slices (block .count) removed entries (length before) n same there ∙ both-hold slices n same holds-them

@@ -17,7 +17,7 @@ use Rattle.checker.specs.declared.Examined.{Examined}
 use Rattle.checker.specs.Work.{Examines}
 use Rattle.edit_rules.specs.Edits.{Edit, fits, edited}
 use Rattle.edit_rules.specs.Meaning.{stateOf}
-use Rattle.edit_rules.specs.Work.{stateIn, HoldsFamilies}
+use Rattle.edit_steps.specs.Work.{stateIn, HoldsFamilies}
 
 -- a block by value has no more variables and nodes than there may be
 pub record Limited (block : Value.Netlist) : Type 0 where

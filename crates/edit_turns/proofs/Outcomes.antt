@@ -14,12 +14,12 @@ use Rattle.rules.specs.Checks.{Outcome, answered, refused, andThen, admitted, m
 use Rattle.rules.specs.Slices.{reply}
 use Rattle.rules.specs.Paper.{findingsOf, replyOf}
 use Rattle.edit_rules.specs.Edits.{Edit, edited, otherwise, netlistAfter, replyAfter}
-use Rattle.edit_rules.specs.Meaning.{IsOpen}
-use Rattle.held_blocks.specs.declared.Held.{Held}
+use Rattle.checker.specs.declared.Examined.{Examined}
+use Rattle.held_blocks.specs.Held.{IsHeld}
 use Rattle.edit_lines.specs.Asks.{Asks, changes}
 use Rattle.edit_turns.specs.declared.Turn.{Turn}
 use Rattle.edit_turns.specs.Turns.{Standing, oneMore, turnedAway, afterEdit, afterAsks, replyTo}
-use Rattle.edit_turns.specs.Meaning.{Stands, Answers, turnedOf, unchangedOf}
+use Rattle.edit_turns.specs.Meaning.{Stands, Answers, turnedBy, turnedOf, unchangedOf}
 
 -- ---- an opening
 
@@ -27,23 +27,27 @@ use Rattle.edit_turns.specs.Meaning.{Stands, Answers, turnedOf, unchange
 pub answered-not-refused : (a : Answer) (k p : ℕ) → replyOf (Answered a) ≡ refused k p → ⊥
 answered-not-refused a k p says = let z : _≡_ {A = ℕ} 0 1 = cc in omega arith
 
-module _ (bytes : List ℕ) (n : Netlist) (admits : admitted bytes most-nodes most-work ≡ answered n) where
-  pub opened-answer : (a : Answer) → replyOf (Answered a) ≡ reply bytes most-nodes most-work → findingsOf a ≡ findings n
-  unfolding reply andThen
-  opened-answer a says = let known : replyOf (Answered a) ≡ answered (findings n) = says ∙ rw admits in cc
+-- an answer at hand is the netlist's
+pub opened-answer : (n : Netlist) (a : Answer) → replyOf (Answered a) ≡ answered (findings n) → findingsOf a ≡ findings n
+opened-answer n a says = cc
 
-  pub not-opened : (r : Refusal) → replyOf (Refused r) ≡ reply bytes most-nodes most-work → ⊥
-  unfolding reply andThen
-  not-opened r says = let known : replyOf (Refused r) ≡ answered (findings n) = says ∙ rw admits in let z : _≡_ {A = ℕ} 0 1 = cc in omega arith
+-- a block that is admitted is answered
+pub admitted-reply : (bytes : List ℕ) (entries work : ℕ) (n : Netlist) → admitted bytes entries work ≡ answered n → reply bytes entries work ≡ answered (findings n)
+unfolding reply andThen
+admitted-reply bytes entries work n admits = rw admits
+
+-- and not refused
+pub not-opened : (n : Netlist) (r : Refusal) → replyOf (Refused r) ≡ answered (findings n) → ⊥
+not-opened n r says = let z : _≡_ {A = ℕ} 0 1 = cc in omega arith
 
 -- ---- an edit
 
-module _ (s : Standing) (turn : Turn) (held : Held) (before after : List ℕ) (stands : Stands s turn before) where
+module _ (s : Standing) (turn : Turn) (changed : Examined) (before after : List ℕ) (stands : Stands s turn before) where
   -- by what the edit comes to
   stands-after : (o : Outcome Netlist) (r : Reply) → replyOf r ≡ andThen o (λ m. answered (findings m))
-      → IsOpen (otherwise (s .netlist) o) (held .state) (held .nodes) after
+      → IsHeld (otherwise (s .netlist) o) (changed .netlist) (changed .marks) after
       → Stands (record { netlist = otherwise (s .netlist) o; faulty = s .faulty || turnedAway o; made = cond (turnedAway o) (s .made) (oneMore (s .made)) })
-      (turnedOf turn held r) after
+      (turnedBy r turn changed) after
   unfolding andThen otherwise turnedAway
   stands-after (answered m) (Answered a) says is =
       record { is = is; answers = cc; faults = stands .faults ∙ sym (or-false (s .faulty)); counts = ap oneMore (stands .counts) }
@@ -52,11 +56,11 @@ module _ (s : Standing) (turn : Turn) (held : Held) (before after : List ℕ) (s
   stands-after (answered m) (Refused r) says is = let z : _≡_ {A = ℕ} 0 1 = cc in absurd (omega arith)
   stands-after (refused k p) (Answered a) says is = let z : _≡_ {A = ℕ} 0 1 = cc in absurd (omega arith)
 
-  pub turned-answers : (e : Edit) (r : Reply) → replyOf r ≡ replyAfter (s .netlist) e most-nodes most-work
-      → IsOpen (netlistAfter (s .netlist) e most-nodes most-work) (held .state) (held .nodes) after
-      → Answers s (changes e) (record { turn = turnedOf turn held r; reply = r }) after
+  pub turned-answers : (e : Edit) → replyOf (changed .reply) ≡ replyAfter (s .netlist) e most-nodes most-work
+      → IsHeld (netlistAfter (s .netlist) e most-nodes most-work) (changed .netlist) (changed .marks) after
+      → Answers s (changes e) (record { turn = turnedOf turn changed; reply = changed .reply }) after
   unfolding afterAsks afterEdit replyTo replyAfter netlistAfter
-  turned-answers e r says is = record { stands = stands-after (edited (s .netlist) e most-nodes most-work) r says is; replies = says }
+  turned-answers e says is = record { stands = stands-after (edited (s .netlist) e most-nodes most-work) (changed .reply) says is; replies = says }
 
 -- ---- no edit
 

@@ -1,15 +1,17 @@
 -- A run of edits: it is told event by event, what was at fault stays told, and a clear answer at its end says what it should of the block as it is
 -- now. Assumes nothing.
-use Prim.Native.Nat.{ℕ}
+use Prim.Native.Nat.{ℕ, _*_}
+use native.Mathlib.Nat.{le-refl}
 use mathlib.Core.Path.{_≡_, refl, sym, ap, subst, _∙_}
 use mathlib.Core.Bool.{Bool, true, false, cond, false≢true}
 use mathlib.Core.List.{List, [], _∷_, _++_}
+use lib.ListN.{length}
 use Rattle.rules.specs.Families.{Findings, clear, findings}
 use Rattle.rules.specs.Demands.{GlitchClear, NoSuspect}
 use Rattle.rules.specs.Paper.{findingOf}
 use Rattle.rules.proofs.Halves.{half-clear}
 use Rattle.rules.proofs.Probe.{one-probe}
-use Rattle.edits.proofs.Runs.{as-checked}
+use Rattle.rules.proofs.Room.{full-answer}
 use Rattle.edit_lines.specs.Asks.{Asks, none, changes, lists, writes, quits, noEdit}
 use Rattle.edit_turns.specs.declared.Turn.{Turn}
 use Rattle.edit_turns.specs.Turns.{Standing, afterEdit, failed, afterAsks, afterLine, unlessWritten, Event, line, unread, ended, afterEvent, afterEvents, NothingAtFault}
@@ -89,14 +91,14 @@ pub earned : {s : Standing} {turn : Turn} {work : List ℕ} → Stands s turn wo
 unfolding findings NoSuspect GlitchClear
 earned {s} {turn} {work} stands none-told is-clear =
     let n = s .netlist in
-    let open-block = stands .is in
+    let obeys = stands .is .obeys in
     let now-clear : findings n .glitch ≡ clear = sym (ap (λ (f : Findings). f .glitch) (stands .answers)) ∙ is-clear in
-    let checked = as-checked n _ work (open-block .obeys) (open-block .holds) in
+    let whole = full-answer n (length (n .nodes)) (256 * length (n .nodes)) obeys (record { enough-entries = le-refl _; enough-work = le-refl _ }) in
     record {
       noFault = sym (stands .faults) ∙ none-told;
-      obeys = open-block .obeys;
+      obeys = obeys;
       noSuspect = half-clear (λ F. F .glitch) n .0 now-clear;
-      probe = one-probe _ _ _ (subst GlitchClear (sym (checked .answers)) now-clear);
+      probe = one-probe _ _ _ (subst GlitchClear (sym whole) now-clear);
     }
 
 -- of a run: nothing was at fault, from its first event to its last

@@ -1,5 +1,5 @@
-// Edits of an open block that is held by value, a line each: what a line does to the block, whether it was at fault, and the reply. Nothing is
-// printed or written here.
+// Edits of a block that is held by value, a line each: what a line does to the block, whether it was at fault, and the
+// reply. Of lent slices it touches the work bytes alone, and it prints and writes nothing. The program uses it.
 ghost use mathlib.Core.Path.{_≡_};
 ghost use mathlib.Core.Bool.{true};
 ghost use mathlib.Core.List.{List};
@@ -7,31 +7,38 @@ ghost use Prim.Native.Nat.{ℕ, _≤_};
 ghost use lib.ListN.{length, take};
 ghost use Rattle.rules.specs.Records as Records;
 ghost use Rattle.rules.specs.Records.{most-nodes};
+ghost use Rattle.rules.specs.Families.{findings};
 ghost use Rattle.rules.specs.Checks.{answered, refused, admitted, most-work};
 ghost use Rattle.rules.specs.Slices.{reply};
 ghost use Rattle.rules.specs.Paper.{replyOf};
 ghost use Rattle.edit_rules.specs.Meaning.{editOf};
+ghost use Rattle.held_blocks.specs.Held.{IsHeld};
 ghost use Rattle.edit_lines.specs.Asks.{changes, asksIn};
 ghost use Rattle.edit_lines.specs.Meaning.{asksOf, Within};
 ghost use Rattle.edit_turns.specs.Turns.{Standing, begun, oneMore, failed};
 ghost use Rattle.edit_turns.specs.Meaning.{Stands, Answers, turnedOf, unchangedOf};
+use checker::Examined;
 use edit_lines::Asked;
 use edit_rules::Edit;
-use held_blocks::Held;
+use marks::Marks;
+use netlists::Netlist;
 use rules::Answer;
 use rules::Half;
 use rules::MOST_WORK;
 use rules::Reply;
 
-// Between two lines: the open block and its answer, whether something was at fault so far, and how many edits were made.
+// Between two lines: the netlist and its marks, its answer, whether something was at fault so far, and how many edits
+// were made.
 pub struct Turn {
-    pub held: Held,
+    pub netlist: Netlist,
+    pub marks: Marks,
     pub answer: Answer,
     pub faulty: bool,
     pub made: usize,
 }
 
-// The turn after a line or an opening, and the reply: to an edit or an opening its own, and else the answer for the block as it is.
+// The turn after a line or an opening, and the reply: to an edit or an opening its own, and else the answer for the
+// block as it is.
 pub struct Told {
     pub turn: Turn,
     pub reply: Reply,
@@ -55,16 +62,17 @@ fn no_answer() -> Answer {
     }
 }
 
-// Opens a block. Where it is refused, the turn is at fault, and its block and answer are left open.
-pub fn begin(bytes: &[u8], work: &mut [u8; MOST_WORK]) -> Told
-    ensures reply { λ r. ⌜ replyOf (r .reply) ≡ reply (now (bytes .entry)) most-nodes most-work ⌝ }
-    ensures stands { λ r. ⌜ ((n : Records.Netlist) → admitted (now (bytes .entry)) most-nodes most-work ≡ answered n →
-        Stands (begun n) (r .turn) (now (work .exit))) ⌝ }
+// The turn of a block that was opened, and the reply to that. Where it was refused, the turn is at fault, and its
+// netlist, marks and answer are left open.
+pub fn begin_with(opened: Examined) -> Told
+    ensures reply { λ r. ⌜ r .reply ≡ opened .reply ⌝ }
+    ensures stands { λ r. ⌜ ((n : Records.Netlist) (work : List ℕ) → IsHeld n (opened .netlist) (opened .marks) work →
+        replyOf (opened .reply) ≡ answered (findings n) → Stands (begun n) (r .turn) work) ⌝ }
     ensures refused { λ r. ⌜ ((k p : ℕ) → replyOf (r .reply) ≡ refused k p → r .turn .faulty ≡ true) ⌝ }
 {
-    let opened = held_blocks::open_held(bytes, work);
     let reply = opened.reply;
-    let held = opened.held;
+    let netlist = opened.netlist;
+    let marks = opened.marks;
     let mut answer = no_answer();
     let mut faulty = true;
     if let Reply::Answered(its) = reply {
@@ -72,12 +80,23 @@ pub fn begin(bytes: &[u8], work: &mut [u8; MOST_WORK]) -> Told
         faulty = false;
     }
     let turn = Turn {
-        held,
+        netlist,
+        marks,
         answer,
         faulty,
         made: 0,
     };
     Told { turn, reply }
+}
+
+// Opens a block. Where it is refused, the turn is at fault, and its netlist, marks and answer are left open.
+pub fn begin(bytes: &[u8], work: &mut [u8; MOST_WORK]) -> Told
+    ensures reply { λ r. ⌜ replyOf (r .reply) ≡ reply (now (bytes .entry)) most-nodes most-work ⌝ }
+    ensures stands { λ r. ⌜ ((n : Records.Netlist) → admitted (now (bytes .entry)) most-nodes most-work ≡ answered n →
+        Stands (begun n) (r .turn) (now (work .exit))) ⌝ }
+    ensures refused { λ r. ⌜ ((k p : ℕ) → replyOf (r .reply) ≡ refused k p → r .turn .faulty ≡ true) ⌝ }
+{
+    begin_with(held_blocks::open_held(bytes, work))
 }
 
 // ---- a line
@@ -91,6 +110,7 @@ pub fn at_fault(turn: Turn) -> Turn
     next
 }
 
+// One more edit made; the highest number stays as it is.
 fn one_more(count: usize) -> usize
     ensures { λ r. ⌜ r ≡ oneMore count ⌝ }
 {
@@ -100,20 +120,25 @@ fn one_more(count: usize) -> usize
     count + 1
 }
 
-// The turn once an edit got this reply and the block is held so.
-fn turned(turn: Turn, held: Held, reply: Reply) -> Turn
-    ensures { λ r. ⌜ r ≡ turnedOf turn held reply ⌝ }
+// The turn once an edit gave this: its reply, and the netlist and its marks as they then are.
+fn turned(turn: Turn, changed: Examined) -> Turn
+    ensures { λ r. ⌜ r ≡ turnedOf turn changed ⌝ }
 {
+    let netlist = changed.netlist;
+    let marks = changed.marks;
+    let reply = changed.reply;
     let before = turn.answer;
     match reply {
         Reply::Refused(_) => Turn {
-            held,
+            netlist,
+            marks,
             answer: before,
             faulty: true,
             made: turn.made,
         },
         Reply::Answered(answer) => Turn {
-            held,
+            netlist,
+            marks,
             answer,
             faulty: turn.faulty,
             made: one_more(turn.made),
@@ -127,12 +152,12 @@ fn change(turn: Turn, edit: Edit, bytes: &[u8; 3], count: usize, work: &mut [u8;
     ensures { λ r. ⌜ ((s : Standing) → Stands s turn (now (work .entry)) →
         Answers s (changes (editOf edit (take count (now (bytes .entry))))) r (now (work .exit))) ⌝ }
 {
-    let held = turn.held;
+    let netlist = turn.netlist;
+    let marks = turn.marks;
     let whole: &[u8] = bytes;
-    let changed = held_blocks::edit_held(held, edit, &whole[..count], work);
+    let changed = held_blocks::edit_held(netlist, marks, edit, &whole[..count], work);
     let reply = changed.reply;
-    let held = changed.held;
-    let turn = turned(turn, held, reply);
+    let turn = turned(turn, changed);
     Told { turn, reply }
 }
 
@@ -170,7 +195,8 @@ fn answer_to(turn: Turn, asked: Asked, line: &[u8], work: &mut [u8; MOST_WORK]) 
     }
 }
 
-// Obeys a line, without its line feed: the block after it is the one before it with just the edit that the line asks for.
+// Obeys a line, without its line feed: the block after it is the one before it with just the edit that the line asks
+// for.
 pub fn obey(turn: Turn, line: &[u8], work: &mut [u8; MOST_WORK]) -> Obeyed
     ensures asked { λ r. ⌜ asksOf (r .asked) (now (line .entry)) ≡ asksIn (now (line .entry)) ⌝ }
     ensures within { λ r. ⌜ Within (r .asked) (length (now (line .entry))) ⌝ }

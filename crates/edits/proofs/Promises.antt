@@ -28,13 +28,13 @@ use Rattle.checker.proofs.Stored.{stored-none, stored-length, netlist-stored}
 use Rattle.edit_rules.specs.declared.State.{State}
 use Rattle.edit_rules.specs.Edits.{Edit, fits, edited, otherwise, netlistAfter, replyAfter, recordsAfter, bytesAfter, NothingSuspectAfter}
 use Rattle.edit_rules.specs.Meaning.{stateOf, IsOpen}
-use Rattle.edit_rules.specs.Work.{stateIn}
+use Rattle.edit_steps.specs.Work.{stateIn}
 use Rattle.edit_steps.specs.Changes.{Changes}
 use Rattle.edit_steps.proofs.Changing.{value-state}
 use Rattle.edits.specs.declared.Edited.{Edited}
 use Rattle.edits.specs.Edited.{loadedOf, nextState, editedOf, Kept}
 use Rattle.edits.proofs.Loaded.{loaded-state, loaded-flat, loaded-marks}
-use Rattle.edits.proofs.Kept.{made, afresh-reply}
+use Rattle.edit_rules.proofs.Kept.{made, afresh-reply}
 
 -- the clauses of the contract, in their order
 pub record Promised (state : State) (e : Edit) (given : Edited) (ys ns : List NodeRecord) (zs ws : List ℕ) : Type 0 where

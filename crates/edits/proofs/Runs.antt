@@ -11,23 +11,21 @@ use Rattle.rules.specs.declared.NodeRecord.{NodeRecord}
 use Rattle.rules.specs.Lists.{tabulate}
 use Rattle.rules.specs.Tables.{table}
 use Rattle.rules.specs.Records.{Netlist, empty, WellFormed, writtenOut}
-use Rattle.rules.specs.Families.{Findings, familiesRule, families, findings}
+use Rattle.rules.specs.Families.{Findings, families, findings}
 use Rattle.rules.specs.Checks.{Outcome, answered, refused, andThen, admitted}
 use Rattle.rules.specs.Slices.{nodeRecords, workBytes, filled, nodesAfter, workAfter, reply, FromMarks}
 use Rattle.rules.specs.Paper.{replyOf}
 use Rattle.rules.proofs.Exit.{records-length}
 use Rattle.rules.proofs.Marks.{from-marks}
-use Rattle.rules.proofs.Packing.{work-length}
 use Rattle.rules.proofs.Reading.{read-well-formed}
 use Rattle.rules.proofs.Room.{Room, admitted-says}
-use Rattle.rules.proofs.Tables.{table-length}
 use Rattle.rules.proofs.Written.{write-read}
 use Rattle.edit_rules.specs.declared.State.{State}
 use Rattle.edit_rules.specs.Edits.{Edit, fits, edited, otherwise, netlistAfter, replyAfter, recordsAfter, bytesAfter, Holds, OpenBlock, Lent, lentOf, givenBack, afterOpening, Call, afterCall, afterCalls, AsChecked}
 use Rattle.edit_rules.specs.Meaning.{stateOf, IsOpen}
 use Rattle.edit_steps.proofs.Changing.{edited-refused}
 use Rattle.edits.specs.declared.Edited.{Edited}
-use Rattle.edits.proofs.Kept.{Made, made, fits-room, afresh-reply, afresh-nodes, afresh-work}
+use Rattle.edit_rules.proofs.Kept.{Made, made, fits-room, families-bytes, written-families, afresh-reply, afresh-nodes, afresh-work}
 use Rattle.edits.proofs.Promises.{Promised}
 
 -- ---- what stands at the front of a slice
@@ -50,17 +48,13 @@ module _ {ℓ} {A : Type ℓ} where
   front-same : (xs before : List A) → take (length xs) before ≡ xs → xs ++ drop (length xs) before ≡ before
   front-same xs before e = ap (λ (ys : List A). ys ++ drop (length xs) before) (sym e) ∙ take-append-drop (length xs) before
 
-families-length : (n : Netlist) → length (workBytes (families n)) ≡ 256 * length (n .nodes)
-unfolding families
-families-length n = omega (arith, work-length (families n), table-length familiesRule [] (n .nodes))
-
 -- both slices that hold a netlist's node records and families have room for them, and keep their contents where these are written once more
 module _ (n : Netlist) (nodes : List NodeRecord) (work : List ℕ) (holds : Holds n nodes work) where
   pub holds-room : Room (length nodes) (length work) n
   holds-room =
       record {
         enough-entries = omega (arith, ap length (holds .records), length-take (length (n .nodes)) nodes, records-length n);
-        enough-work = omega (arith, ap length (holds .families), length-take (256 * length (n .nodes)) work, families-length n);
+        enough-work = omega (arith, ap length (holds .families), length-take (256 * length (n .nodes)) work, families-bytes n);
       }
 
   holds-records : filled nodeRecords (answered n) nodes ≡ nodes
@@ -69,7 +63,7 @@ module _ (n : Netlist) (nodes : List NodeRecord) (work : List ℕ) (holds : Hold
 
   holds-families : filled (λ m. workBytes (families m)) (answered n) work ≡ work
   unfolding filled
-  holds-families = front-same (workBytes (families n)) work (rw (families-length n) (holds .families))
+  holds-families = front-same (workBytes (families n)) work (rw (families-bytes n) (holds .families))
 
 -- what is written once is held
 written-held : (n : Netlist) (nodes : List NodeRecord) (work : List ℕ)
@@ -78,7 +72,7 @@ unfolding filled
 written-held n nodes work =
     record {
       records = subst (λ (k : ℕ). take k (nodeRecords n ++ drop (length (nodeRecords n)) nodes) ≡ nodeRecords n) (records-length n) (front (nodeRecords n) nodes);
-      families = subst (λ (k : ℕ). take k (workBytes (families n) ++ drop (length (workBytes (families n))) work) ≡ workBytes (families n)) (families-length n) (front (workBytes (families n)) work);
+      families = written-families n work;
     }
 
 -- what slices hold, longer ones hold too, whatever stands behind, and so do shorter ones that have room
@@ -180,7 +174,7 @@ comes-to b lent before (answered m) checked fine =
     record {
       checked = as-checked m _ _ (made .obeys) (holds-behind (written-held m _ _) _ _);
       entries = front-long (nodeRecords m) (b .nodes) (lent .entries) (omega (arith, made .room .enough-entries, records-length m));
-      bytes = front-long (workBytes (families m)) (b .work) (lent .bytes) (omega (arith, made .room .enough-work, families-length m));
+      bytes = front-long (workBytes (families m)) (b .work) (lent .bytes) (omega (arith, made .room .enough-work, families-bytes m));
     }
 comes-to b lent before (refused k p) checked fine =
     rw (take-append-drop (lent .entries) (b .nodes), take-append-drop (lent .bytes) (b .work)) (record { checked = checked; entries = refl; bytes = refl })

@@ -21,7 +21,6 @@ use edit_steps::Loaded;
 use marks::Marks;
 use netlists::Netlist;
 use rules::MOST_NODES;
-use rules::Node;
 use rules::NodeRecord;
 use rules::Reply;
 
@@ -54,12 +53,7 @@ pub fn loaded_of(state: State, records: [NodeRecord; MOST_NODES], count: usize) 
     ensures { λ r. ⌜ r ≡ loadedFrom state count records ⌝ }
 {
     let classes = state.classes;
-    let mut nodes = [Node {
-        kind: 0,
-        first: 0,
-        second: 0,
-        set: 0,
-    }; MOST_NODES];
+    let mut nodes = [netlists::blank_node(); MOST_NODES];
     let mut settled = [0u16; MOST_NODES];
     let mut glitch = [0u16; MOST_NODES];
     let mut i = 0;
@@ -102,7 +96,7 @@ fn opened_of(examined: Examined) -> Edited
     ensures { λ r. ⌜ r ≡ openedOf examined ⌝ }
 {
     let reply = examined.reply;
-    let state = edit_rules::state_of(examined.netlist);
+    let state = edit_steps::state_of(examined.netlist);
     Edited { reply, state }
 }
 

@@ -1,2 +1,2 @@
--- That what is held after opening or an edit is an open block.
-pub mod StillOpen
+-- That what opening and an edit give is held.
+pub mod Held

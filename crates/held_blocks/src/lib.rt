@@ -1,4 +1,6 @@
-// An open block held by value: its state and its node records, with room for every netlist. Where it is open, so it is after an edit, made or refused, so that its holder need not look at the reply to go on.
+// An open block held by value: its netlist and its marks, beside the work bytes that hold its families. What opening
+// gives is a block that is held, and so is what an edit gives, made or refused, so that its holder need not look at the
+// reply to go on. Of lent slices it touches the work bytes alone. `edit_turns` uses it, and through that the program.
 ghost use mathlib.Core.Path.{_≡_};
 ghost use lib.ListN.{length};
 ghost use Rattle.rules.specs.Records as Records;
@@ -7,73 +9,52 @@ ghost use Rattle.rules.specs.Slices.{reply};
 ghost use Rattle.rules.specs.Checks.{answered, admitted};
 ghost use Rattle.rules.specs.Paper.{replyOf};
 ghost use Rattle.edit_rules.specs.Edits.{netlistAfter, replyAfter};
-ghost use Rattle.edit_rules.specs.Meaning.{editOf, IsOpen};
+ghost use Rattle.edit_rules.specs.Meaning.{editOf};
+ghost use Rattle.held_blocks.specs.Held.{IsHeld};
+use checker::Examined;
 use edit_rules::Edit;
-use edit_rules::State;
+use edit_steps::Loaded;
+use marks::Marks;
+use netlists::Netlist;
 use rules::MOST_NODES;
-use rules::Node;
-use rules::NodeRecord;
 use rules::Reply;
 
-// An open block: its state and its node records, with room for every netlist.
-pub struct Held {
-    pub state: State,
-    pub nodes: [NodeRecord; MOST_NODES],
-}
-
-// The reply to opening or to an edit, and the block as it then is.
-pub struct Changed {
-    pub reply: Reply,
-    pub held: Held,
-}
-
-// An entry of the node records before a block is opened.
-fn no_entry() -> NodeRecord {
-    NodeRecord {
-        node: Node {
-            kind: 0,
-            first: 0,
-            second: 0,
-            set: 0,
-        },
-        settled: 0,
-        glitch: 0,
-    }
-}
-
-// Opens a block. Where it is refused, what is held is left open.
-pub fn open_held(bytes: &[u8], work: &mut [u8]) -> Changed
+// Opens a block: the reply, and the netlist and its marks, which are those of no nodes where the block is refused.
+pub fn open_held(bytes: &[u8], work: &mut [u8]) -> Examined
     ensures reply { λ r. ⌜ replyOf (r .reply) ≡ reply (now (bytes .entry)) most-nodes (length (now (work .entry))) ⌝ }
     ensures held { λ r. ⌜ ((n : Records.Netlist) → admitted (now (bytes .entry)) most-nodes (length (now (work .entry))) ≡ answered n →
-        IsOpen n (r .held .state) (r .held .nodes) (now (work .exit))) ⌝ }
+        IsHeld n (r .netlist) (r .marks) (now (work .exit))) ⌝ }
 {
-    let seen = test_edit_trial::open_over(bytes, MOST_NODES, [no_entry(); MOST_NODES], work);
-    let edited = seen.edited;
-    let reply = edited.reply;
-    let state = edited.state;
-    let nodes = seen.nodes;
-    let held = Held { state, nodes };
-    Changed { reply, held }
+    checker::examine(bytes, MOST_NODES, work)
 }
 
-// Edits a block that is open; of one that is not, the reply and what is then held are left open.
-pub fn edit_held(held: Held, edit: Edit, bytes: &[u8], work: &mut [u8]) -> Changed
-    ensures reply { λ r. ⌜ ((n : Records.Netlist) → IsOpen n (held .state) (held .nodes) (now (work .entry)) →
+// Edits a block that is held: the reply, and the netlist and its marks as they then are, which on a refusal are those
+// of before. Of a block that is not held, all of these are left open.
+pub fn edit_held(
+    netlist: Netlist,
+    marks: Marks,
+    edit: Edit,
+    bytes: &[u8],
+    work: &mut [u8],
+) -> Examined
+    ensures reply { λ r. ⌜ ((n : Records.Netlist) → IsHeld n netlist marks (now (work .entry)) →
         replyOf (r .reply) ≡ replyAfter n (editOf edit (now (bytes .entry))) most-nodes (length (now (work .entry)))) ⌝ }
-    ensures held { λ r. ⌜ ((n : Records.Netlist) → IsOpen n (held .state) (held .nodes) (now (work .entry)) →
-        IsOpen (netlistAfter n (editOf edit (now (bytes .entry))) most-nodes (length (now (work .entry))))
-        (r .held .state) (r .held .nodes) (now (work .exit))) ⌝ }
+    ensures held { λ r. ⌜ ((n : Records.Netlist) → IsHeld n netlist marks (now (work .entry)) →
+        IsHeld (netlistAfter n (editOf edit (now (bytes .entry))) most-nodes (length (now (work .entry))))
+        (r .netlist) (r .marks) (now (work .exit))) ⌝ }
 {
-    let state = held.state;
-    let nodes = held.nodes;
-    let seen = test_edit_trial::edit_over(state, edit, bytes, MOST_NODES, nodes, work);
-    let edited = seen.edited;
-    let reply = edited.reply;
-    let next = edited.state;
-    let entries = seen.nodes;
-    let held = Held {
-        state: next,
-        nodes: entries,
+    let loaded = Loaded {
+        block: netlist,
+        marks,
     };
-    Changed { reply, held }
+    let changed = edit_steps::change(loaded, edit, bytes, MOST_NODES, work);
+    let reply = changed.reply;
+    match reply {
+        Reply::Refused(_) => Examined {
+            reply,
+            netlist,
+            marks,
+        },
+        Reply::Answered(_) => changed,
+    }
 }

@@ -1,6 +1,7 @@
--- Netlists by value: a store behind the entries is one entry more, each entry stands in the flat form, and no two netlists have the same one. By laws
--- of padded lists of any length, so that no array is unfolded. And what follows of one record that was found, and of a file that was read, where
--- it is answered and where it is refused. Assumes nothing.
+-- Netlists by value: a store behind the entries is one entry more, each entry stands in the flat form,
+-- and no two netlists have the same one. By laws of padded lists of any length, so that no array is unfolded.
+-- And what follows of one record that was found, and of a file that was read, where it is answered and where
+-- it is refused. Assumes nothing.
 use Prim.Native.Nat.{ℕ, zero, suc, _+_, _-_, _≤_, _<_}
 use mathlib.Core.Path.{_≡_, refl, sym, ap, subst, _∙_}
 use mathlib.Core.List.{List, [], _∷_, _++_, map, map-append}
@@ -10,6 +11,7 @@ use lib.ListN.{length, getD, take, set, replicate, length-append, length-map, Li
 use lib.Seq.{append-snoc, set-append-seam, take-at}
 use Rattle.rules.specs.declared.Node.{Node}
 use Rattle.rules.specs.declared.Refusal.{Refusal}
+use Rattle.rules.specs.declared.QueryOutcome.{QueryOutcome}
 use Rattle.rules.specs.declared.QueryOutcome.the-variants as Query
 use Rattle.rules.specs.Records.{Class, public, Cell, input, NOT, XOR, AND, OR, register, Record, end, variable, node, Netlist, WellFormed, withVariable, withNode, said, classOf, classByte, kindOf, operands, setOf, most-variables, most-nodes}
 use Rattle.rules.specs.Slices.{entry}
@@ -248,6 +250,13 @@ found-refusal (refused i p) k b c number place e = cc
 
 -- ---- a file that was read
 
+-- what is answered or refused, where it tells of this outcome and is refused: so is the outcome
+pub query-refused : {A : Type 0} {told : QueryOutcome} (o : Outcome A) (refusal : Refusal) → queryOf told ≡ andThen o (λ a. answered tt)
+    → told ≡ Query.Refused refusal → o ≡ refused (numberOf refusal) (placeOf refusal)
+unfolding andThen
+query-refused (answered a) refusal e is = cc (ap queryOf is)
+query-refused (refused k p) refusal e is = cc (ap queryOf is)
+
 -- it stands, with this netlist
 pub record Stands (file : ReadFile) (end : Outcome Netlist) : Type 0 where
   pub netlist : Netlist
@@ -263,9 +272,7 @@ module _ {file : ReadFile} where
 
   pub read-refused : (end : Outcome Netlist) (refusal : Refusal) → Reads file end → file .outcome ≡ Query.Refused refusal
       → end ≡ refused (numberOf refusal) (placeOf refusal)
-  unfolding andThen
-  read-refused (answered n) refusal r o = cc (ap queryOf o)
-  read-refused (refused k p) refusal r o = cc (ap queryOf o)
+  read-refused whole refusal r o = query-refused whole refusal (r .outcome) o
 
   -- the netlist of a file that is read obeys the record rules
   pub read-formed : (bytes : List ℕ) → Stands file (read bytes) → Formed (file .netlist)

@@ -1,10 +1,11 @@
-// What stands in lent slices before a check, from where on it still stands there after one, a check over node records of its
-// own with one probe and with two, and one of those records, read through a lent slice. For test programs.
+// A trial of `check` and of `check_pairs` over node records by value, of which the first are lent: what stands in both lent slices
+// before, from where on it still stands there after, and one of the records, read through a lent slice. Touches nothing but
+// what it is given. For the test programs, and for the same trial of `open` and `edit` (`test_edit_trial`).
 ghost use mathlib.Core.Path.{_≡_};
 ghost use mathlib.Core.List.{_++_};
-ghost use Prim.Native.Nat.{_-_, _<_, min};
+ghost use Prim.Native.Nat.{_<_, min};
 ghost use lib.Dec.{eqb};
-ghost use lib.ListN.{length, getD, replicate};
+ghost use lib.ListN.{length, getD, take, drop};
 ghost use Rattle.rules.specs.Lists.{tabulate};
 ghost use Rattle.rules.specs.Records.{most-nodes};
 ghost use Rattle.rules.specs.Slices.{nodesAfter, workAfter, reply};
@@ -116,40 +117,45 @@ pub fn at_most(entries: usize) -> usize
     MOST_NODES
 }
 
-// Checks a block over the first `entries` of 200 entries (or over all where there are not so many), each of which holds
-// `before`. Gives the reply and all 200 entries at exit.
-pub fn check_over(bytes: &[u8], entries: usize, before: NodeRecord, work: &mut [u8]) -> Seen
+// Checks a block over the first `entries` of 200 entries (or over all where there are not so many), which hold `nodes`. Gives
+// the reply and all 200 entries at exit.
+pub fn check_over(
+    bytes: &[u8],
+    entries: usize,
+    nodes: [NodeRecord; MOST_NODES],
+    work: &mut [u8],
+) -> Seen
     ensures reply { λ r. ⌜ replyOf (r .reply) ≡ reply (now (bytes .entry)) (min entries most-nodes) (length (now (work .entry))) ⌝ }
     ensures nodes { λ r. ⌜ r .nodes ≡
-        nodesAfter (now (bytes .entry)) (replicate (min entries most-nodes) before) (length (now (work .entry)))
-        ++ replicate (most-nodes - min entries most-nodes) before ⌝ }
+        nodesAfter (now (bytes .entry)) (take (min entries most-nodes) nodes) (length (now (work .entry)))
+        ++ drop (min entries most-nodes) nodes ⌝ }
     ensures work { λ _. ⌜ now (work .exit) ≡ workAfter (now (bytes .entry)) (min entries most-nodes) (now (work .entry)) ⌝ }
 {
     let lent = at_most(entries);
-    let mut nodes = [before; MOST_NODES];
-    let reply = checker::check(bytes, &mut nodes[..lent], work);
-    Seen { reply, nodes }
+    let mut kept = nodes;
+    let reply = checker::check(bytes, &mut kept[..lent], work);
+    Seen { reply, nodes: kept }
 }
 
 // The same with two probes, where at most `limit` pairs are looked at.
 pub fn check_pairs_over(
+    limit: usize,
     bytes: &[u8],
     entries: usize,
-    before: NodeRecord,
+    nodes: [NodeRecord; MOST_NODES],
     work: &mut [u8],
-    limit: usize,
 ) -> SeenPairs
     ensures reply { λ r. ⌜ pairsReplyOf (r .reply) ≡
         pairsReply (now (bytes .entry)) (min entries most-nodes) (length (now (work .entry))) limit ⌝ }
     ensures nodes { λ r. ⌜ r .nodes ≡
-        nodesAfter (now (bytes .entry)) (replicate (min entries most-nodes) before) (length (now (work .entry)))
-        ++ replicate (most-nodes - min entries most-nodes) before ⌝ }
+        nodesAfter (now (bytes .entry)) (take (min entries most-nodes) nodes) (length (now (work .entry)))
+        ++ drop (min entries most-nodes) nodes ⌝ }
     ensures work { λ _. ⌜ now (work .exit) ≡ workAfter (now (bytes .entry)) (min entries most-nodes) (now (work .entry)) ⌝ }
 {
     let lent = at_most(entries);
-    let mut nodes = [before; MOST_NODES];
-    let reply = pairs::check_pairs(bytes, &mut nodes[..lent], work, limit);
-    SeenPairs { reply, nodes }
+    let mut kept = nodes;
+    let reply = pairs::check_pairs(bytes, &mut kept[..lent], work, limit);
+    SeenPairs { reply, nodes: kept }
 }
 
 // ---- one record

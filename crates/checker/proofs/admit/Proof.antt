@@ -1,34 +1,44 @@
--- `checker::admit` meets its contract: refusal 10 before 11, and where neither applies the answer. Assumes nothing.
-use native.Mathlib.Omega.{arith}
+-- `checker::admit` meets its contract: the refusal of slices that are too short, or the answer. Assumes nothing.
+use mathlib.Core.Path.{refl}
 use borrow.Author.Needs.{needs}
 use Rattle.netlists.proofs.Netlists.{value-count, few-nodes}
-use Rattle.checker.proofs.Core.{few-entries, short-work, both-fit}
+use Rattle.checker.proofs.Core.{refusal, too-short, both-hold}
 use Rattle.checker.proofs.admit.Statement.{statement}
 use Rattle.checker.proofs.admit.Tie as tie
 
-mul-bytes : tie.Need-mul-bytes
-mul-bytes c = omega (arith, few-nodes (c .before .pre))
+slices-fit-requires : tie.Need-slices-fit-requires
+slices-fit-requires c κs = few-nodes (c .before .pre)
+
+enum-known-refusal : tie.Need-enum-known-refusal
+enum-known-refusal c = search needs
 
 refused-requires : tie.Need-refused-requires
 refused-requires c κs = search needs
 
-returns : tie.Need-returns
-returns c = λ n e. few-entries _ _ n _ _ (value-count n e) (search needs) (c .refused .ensures .0) (c .refused .ensures .1)
-
-refused-requires-2 : tie.Need-refused-requires-2
-refused-requires-2 c κs = search needs
-
-returns-2 : tie.Need-returns-2
-returns-2 c = λ n e. short-work _ _ n _ _ (value-count n e) (search needs) (search needs) (c .refused2 .ensures .0) (c .refused2 .ensures .1)
+enum-told : tie.Need-enum-told
+enum-told c = search needs
 
 answer-requires : tie.Need-answer-requires
-answer-requires c κs = search needs
+answer-requires c κs =
+    let told = c .before .before .before in
+    record { formed = told .before .before .pre; room = told .slices-fit .ensures .room (c .before .enum-told .given .1) .1 }
+
+returns : tie.Need-returns
+returns c =
+    let taken = c .before .before in
+    λ n e.
+    rw (too-short (taken .before .before .slices-fit .ensures) n (value-count n e) (taken .refusal .given .1))
+    (refusal _ _ _ _ _ refl refl (c .refused .ensures .0) (c .refused .ensures .1))
 
 same-length : tie.Need-same-length
 same-length c = search needs
 
-returns-3 : tie.Need-returns-3
-returns-3 c = λ n e. both-fit _ _ n _ _ (value-count n e) (search needs) (search needs) _ (c .before .before .answer .ensures n e)
+returns-2 : tie.Need-returns-2
+returns-2 c =
+    let answered = c .before .before in
+    let taken = answered .before .before in
+    λ n e.
+    rw (both-hold (taken .before .before .slices-fit .ensures) n (value-count n e) (taken .enum-told .given .1)) (answered .answer .ensures n e)
 
 pub admit-spec : {M : Type 1} → statement M
-admit-spec = tie.close (tie.spec mul-bytes refused-requires returns refused-requires-2 returns-2 answer-requires same-length returns-3)
+admit-spec = tie.close (tie.spec slices-fit-requires enum-known-refusal refused-requires enum-told answer-requires returns same-length returns-2)

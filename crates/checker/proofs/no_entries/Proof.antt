@@ -1,12 +1,15 @@
 -- `checker::no_entries` meets its contract: an array of one value. Assumes nothing.
-use mathlib.Core.Path.{refl}
+use borrow.Author.Needs.{needs}
 use Rattle.checker.specs.Work.{noEntries}
 use Rattle.checker.proofs.no_entries.Statement.{statement}
 use Rattle.checker.proofs.no_entries.Tie as tie
 
+blank-node-requires : tie.Need-blank-node-requires
+blank-node-requires c κs = search needs
+
 returns : tie.Need-returns
 unfolding noEntries
-returns c = refl
+returns c = rw (c .blank-node .ensures)
 
 pub no-entries-spec : {M : Type 1} → statement M
-no-entries-spec = tie.close (tie.spec returns)
+no-entries-spec = tie.close (tie.spec blank-node-requires returns)

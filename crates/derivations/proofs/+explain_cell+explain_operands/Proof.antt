@@ -1,6 +1,7 @@
--- `explain_cell` and `explain_operands` meet their contracts: a claim's derivation is the step of the first rule that works, and behind it those of what it
--- needs. The node number falls: an operand's is below that of the node whose step needs it, and so 2 × node + 1 of a claim falls to 2 × node of
--- what its step needs, and that to the next claim's. Assumes nothing.
+-- `explain_cell` and `explain_operands` meet their contracts: a claim's derivation is the step of the first rule
+-- that works, and behind it those of what it needs. The node number falls: an operand's is below that of the
+-- node whose step needs it, and so 2 × node + 1 of a claim falls to 2 × node of what its step needs, and that
+-- to the next claim's. Assumes nothing.
 use Prim.Native.Nat.{ℕ, _+_, _*_, _<_}
 use mathlib.Core.List.{append-nil}
 use native.Mathlib.Omega.{arith}

@@ -1,71 +1,73 @@
--- `edit_steps::add_offered` meets its contract: refusal 10 before 11 for one node more, and where neither applies the answer, which is read from
+-- `edit_steps::add_offered` meets its contract: the refusal of slices that are too short for one node more, or the answer, which is read from
 -- the marks with those of the new node, found over the work bytes with its families (`Adding`). Assumes nothing.
 use borrow.Author.Needs.{needs}
-use Rattle.rules.specs.Records.{withNode}
-use Rattle.checker.proofs.Core.{few-entries, short-work}
-use Rattle.edit_steps.proofs.Adding.{too-short, looked}
+use Rattle.edit_steps.proofs.Adding.{no-room, looked}
 use Rattle.edit_steps.proofs.add_offered.Statement.{statement}
 use Rattle.edit_steps.proofs.add_offered.Tie as tie
 
-add-needed : tie.Need-add-needed
-add-needed c = search needs
+add-slices-fit : tie.Need-add-slices-fit
+add-slices-fit c = search needs
 
-mul-bytes : tie.Need-mul-bytes
-mul-bytes c = search needs
+slices-fit-requires : tie.Need-slices-fit-requires
+slices-fit-requires c κs = search needs
+
+enum-known-refusal : tie.Need-enum-known-refusal
+enum-known-refusal c = search needs
 
 refused-requires : tie.Need-refused-requires
 refused-requires c κs = search needs
 
-returns : tie.Need-returns
-returns c =
-    let (reply, none) = c .refused .ensures in
-    too-short _ _ _ _ _ _ none (λ n cell same. few-entries _ _ (withNode n cell) _ _ same (c .before .if1 .taken) reply none)
-
-refused-requires-2 : tie.Need-refused-requires-2
-refused-requires-2 c κs = search needs
-
-returns-2 : tie.Need-returns-2
-returns-2 c =
-    let (reply, none) = c .refused2 .ensures in
-    too-short _ _ _ _ _ _ none
-    (λ n cell same. short-work _ _ (withNode n cell) _ _ same (c .before .before .if1 .left) (c .before .if2 .taken) reply none)
+enum-told : tie.Need-enum-told
+enum-told c = search needs
 
 node-families-requires : tie.Need-node-families-requires
-node-families-requires c κs = search needs
+node-families-requires c κs =
+    let taken = c .before in
+    let room = taken .before .before .slices-fit .ensures .room (taken .enum-told .given .1) in
+    search needs
 
 with-node-requires : tie.Need-with-node-requires
 with-node-requires c κs = search needs
 
 with-last-requires : tie.Need-with-last-requires
-with-last-requires c κs = search needs
+with-last-requires c κs =
+    let taken = c .before .before .before .before .before .before in
+    let room = taken .before .before .slices-fit .ensures .room (taken .enum-told .given .1) in
+    search needs
 
 read-marks-requires : tie.Need-read-marks-requires
 read-marks-requires c κs = search needs
 
+returns : tie.Need-returns
+returns c =
+    let taken = c .before .before in
+    no-room _ _ _ _ _ _ (taken .before .before .slices-fit .ensures) (taken .refusal .given .1) (c .refused .ensures .0) (c .refused .ensures .1)
+
 same-length : tie.Need-same-length
 same-length c = search needs
 
-returns-3 : tie.Need-returns-3
-returns-3 c =
+returns-2 : tie.Need-returns-2
+returns-2 c =
     let added = c .before .before .before in
     let filled = added .before .before .before in
-    let start = filled .before .before .before .before .before in
-    looked _ _ _ _ _ _ _ _ _ (start .pre .1) (filled .before .before .before .if1 .left) (filled .before .before .if2 .left)
+    let taken = filled .before .before in
+    let told = taken .before .before in
+    looked _ _ _ _ _ _ (told .slices-fit .ensures) _ _ _ (taken .enum-told .given .1) (told .before .before .pre .1)
     (added .with-node .ensures .1 .1) (added .with-node .ensures .0) (filled .node-families .ensures) (c .before .with-last .ensures) (c .read-marks .ensures)
 
 pub add-offered-spec : {M : Type 1} → statement M
 add-offered-spec =
     tie.close
     (tie.spec
-    add-needed
-    mul-bytes
+    add-slices-fit
+    slices-fit-requires
+    enum-known-refusal
     refused-requires
-    returns
-    refused-requires-2
-    returns-2
+    enum-told
     node-families-requires
     with-node-requires
     with-last-requires
     read-marks-requires
+    returns
     same-length
-    returns-3)
+    returns-2)

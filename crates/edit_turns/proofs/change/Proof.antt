@@ -1,4 +1,5 @@
--- `edit_turns::change` meets its contract: the block is open after an edit, made or refused, and the reply tells which. Assumes nothing.
+-- `edit_turns::change` meets its contract: the block is held after an edit, made or refused, and the reply tells which.
+-- Assumes nothing.
 use mathlib.Core.Path.{_≡_, sym}
 use native.Mathlib.Omega.{arith}
 use lib.ListN.{length}
@@ -22,9 +23,11 @@ turned-requires c κs = search needs
 returns : tie.Need-returns
 returns c =
     let start = c .before .before .before .before .before .before .before in
-    let changed = c .before .before .edit-held .ensures in
+    let changed = c .before .edit-held .ensures in
     let long : length (now (start .args .work)) ≡ most-work = search needs in
-    λ s stands. rw (c .turned .ensures) (turned-answers s _ _ _ _ stands _ _ (rw long at (changed .0 (s .netlist) (stands .is))) (rw long at (changed .1 (s .netlist) (stands .is))))
+    λ s stands.
+    rw (c .turned .ensures)
+    (turned-answers s _ _ _ _ stands _ (rw long at (changed .0 (s .netlist) (stands .is))) (rw long at (changed .1 (s .netlist) (stands .is))))
 
 pub change-spec : {M : Type 1} → statement M
 change-spec =

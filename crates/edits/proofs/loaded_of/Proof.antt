@@ -2,6 +2,7 @@
 use Prim.Native.Nat.{_-_, _≤_}
 use mathlib.Core.Path.{_≡_, sym}
 use native.Mathlib.Omega.{arith}
+use borrow.Author.Needs.{needs}
 use Rattle.netlists.specs.Netlists.{blank}
 use Rattle.edits.specs.Edited.{column, loadedFrom}
 use Rattle.edits.proofs.Loaded.{column-none, column-more}
@@ -15,8 +16,11 @@ Inv-loop state count records classes nodes₀ settled₀ glitch₀ i₀ nodes se
 abbrev μ-loop : tie.MeasureT-loop
 μ-loop state count records classes nodes₀ settled₀ glitch₀ i₀ nodes settled glitch i = count - i
 
+blank-node-requires : tie.Need-blank-node-requires Inv-loop μ-loop
+blank-node-requires c κs = search needs
+
 loop-holds : tie.Need-loop-holds Inv-loop μ-loop
-loop-holds c = (omega arith, sym (column-none _ _ _), sym (column-none _ _ _), sym (column-none _ _ _))
+loop-holds c = (omega arith, rw (c .blank-node .ensures) (sym (column-none _ _ _)), sym (column-none _ _ _), sym (column-none _ _ _))
 
 mul-taken : tie.Need-mul-taken Inv-loop μ-loop
 mul-taken c = omega arith
@@ -61,7 +65,7 @@ returns : tie.Need-returns Inv-loop μ-loop
 unfolding loadedFrom
 returns c =
     let (_, in-nodes, in-settled, in-glitch) = c .before .loop .inv in
-    let end : c .before .loop .i ≡ c .before .before .before .args .count = omega arith in
+    let end : c .before .loop .i ≡ c .before .before .before .before .args .count = omega arith in
     rw (in-nodes, in-settled, in-glitch, end)
 
 pub loaded-of-spec : {M : Type 1} → statement M
@@ -70,6 +74,7 @@ loaded-of-spec =
     (tie.spec
     Inv-loop
     μ-loop
+    blank-node-requires
     loop-holds
     mul-taken
     array-copy-out-taken

@@ -1,5 +1,5 @@
--- `listing_text::put_nodes` meets its contract. The loop's invariant: the lines of the first i nodes are behind the front, each of at most 18 bytes. The
--- measure is the number of nodes left. Assumes nothing.
+-- `listing_text::put_nodes` meets its contract. The loop's invariant: the lines of the first i nodes are behind the
+-- front, each of at most 18 bytes. The measure is the number of nodes left. Assumes nothing.
 use Prim.Native.Nat.{ℕ, _+_, _*_, _-_, _≤_, _<_}
 use mathlib.Core.Path.{_≡_, refl, sym, ap}
 use mathlib.Core.List.{List, [], _∷_, _++_}
@@ -7,14 +7,14 @@ use native.Mathlib.Omega.{arith}
 use borrow.Author.Needs.{needs}
 use lib.ListN.{length, getD}
 use Rattle.rules.specs.declared.Node.{Node}
-use Rattle.rules.specs.Records.{input, Netlist, kindOf, most-nodes, most-sets}
+use Rattle.rules.specs.Records.{input, Netlist, WellFormed, kindOf, most-nodes, most-sets}
 use Rattle.rules.specs.Families.{families}
 use Rattle.rules.specs.Slices.{entry, workBytes}
 use Rattle.rules.specs.Listing.{decimal, line, kindName, nodeLines, most-line}
 use Rattle.rules.proofs.Listing.{firstLines, first-none, first-more, first-all}
 use Rattle.netlists.specs.declared.Netlist as Value
-use Rattle.netlists.specs.Netlists.{blank, flatOf, Formed}
-use Rattle.netlists.proofs.Netlists.{value-count, value-entry, few-nodes, well-formed}
+use Rattle.netlists.specs.Netlists.{blank, flatOf}
+use Rattle.netlists.proofs.Netlists.{value-count, value-entry}
 use Rattle.families.specs.Parts.{familyAt}
 use Rattle.families.proofs.Parts.{length-at}
 use Rattle.families.proofs.Work.{settled-size, glitch-size}
@@ -30,11 +30,10 @@ module _ {value : Value.Netlist} (n : Netlist) (e : value ≡ flatOf n) where
   kind-at i h = ap (λ (node : Node). node .kind) (value-entry n e i h)
 
   -- one line more, whose counts are those of the node's parts
-  next-line : Formed value → {work : List ℕ} (rest : List ℕ) {i settled glitch : ℕ} → work ≡ workBytes (families n) ++ rest → i < value .count
+  next-line : WellFormed n → {work : List ℕ} (rest : List ℕ) {i settled glitch : ℕ} → work ≡ workBytes (families n) ++ rest → i < value .count
       → settled ≡ length (familyAt work (2 * i)) → glitch ≡ length (familyAt work (2 * i + 1))
       → firstLines n i ++ line (decimal i ∷ kindName (getD (n .nodes) i (input 0)) ∷ decimal settled ∷ decimal glitch ∷ []) ≡ firstLines n (i + 1)
-  next-line f rest {i} w h s g =
-      let formed = well-formed f n e in
+  next-line formed rest {i} w h s g =
       let there : i < length (n .nodes) = omega (arith, value-count n e) in
       rw (s, g, w, settled-size n formed rest i there, glitch-size n formed rest i there) (sym (first-more n i there))
 
@@ -47,7 +46,7 @@ Inv-loop text₀ at work netlist count end₀ i₀ text end i =
     (i ≤ count)
     × (length text ≡ length text₀)
     × (end ≤ at + most-line * i)
-    × ((n : Netlist) (rest : List ℕ) → netlist ≡ flatOf n → work ≡ workBytes (families n) ++ rest → Appended text₀ text at end (firstLines n i))
+    × ((n : Netlist) (rest : List ℕ) → WellFormed n → netlist ≡ flatOf n → work ≡ workBytes (families n) ++ rest → Appended text₀ text at end (firstLines n i))
 
 abbrev μ-loop : tie.MeasureT-loop
 μ-loop text₀ at work netlist count end₀ i₀ text end i = count - i
@@ -57,10 +56,10 @@ abbrev start : tie.At-loop Inv-loop μ-loop → tie.Start Inv-loop μ-loop
 start c = c .before .before .before
 
 few : (c : tie.Start Inv-loop μ-loop) → c .args .t3 .count ≤ most-nodes
-few c = few-nodes (c .pre .1)
+few c = c .pre .1
 
 loop-holds : tie.Need-loop-holds Inv-loop μ-loop
-loop-holds c = (omega arith, refl, omega arith, λ n rest e w. appended-as (sym (first-none n)) (appended-none _ _))
+loop-holds c = (omega arith, refl, omega arith, λ n rest f e w. appended-as (sym (first-none n)) (appended-none _ _))
 
 mul-node : tie.Need-mul-node Inv-loop μ-loop
 mul-node c = omega (arith, few (start (c .before)))
@@ -110,9 +109,9 @@ loop-again c =
       omega arith,
       search needs,
       omega arith,
-      λ n rest e w.
-          appended-as (next-line n e (start turn .pre .1) rest w (test .loop-test .taken) (settled .size .ensures) (glitch .size2 .ensures))
-          (appended-more (turn .loop .inv .3 n rest e w) (line .put-node .ensures .0 _ (kind-at n e _ (test .loop-test .taken)))),
+      λ n rest f e w.
+          appended-as (next-line n e f rest w (test .loop-test .taken) (settled .size .ensures) (glitch .size2 .ensures))
+          (appended-more (turn .loop .inv .3 n rest f e w) (line .put-node .ensures .0 _ (kind-at n e _ (test .loop-test .taken)))),
     )
 
 same-length : tie.Need-same-length Inv-loop μ-loop
@@ -121,7 +120,7 @@ same-length c = c .before .loop .inv .1
 returns : tie.Need-returns Inv-loop μ-loop
 returns c =
     let loop = c .before .loop in (
-      λ n rest e w. appended-as (all-lines n e (loop .inv .0) (c .loop-test .left)) (loop .inv .3 n rest e w),
+      λ n rest f e w. appended-as (all-lines n e (loop .inv .0) (c .loop-test .left)) (loop .inv .3 n rest f e w),
       omega arith,
     )
 

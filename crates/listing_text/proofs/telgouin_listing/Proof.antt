@@ -1,5 +1,5 @@
--- `listing_text::telgouin_listing` meets its contract: the listing stands at the front of an array that has room for every one, so it is no longer than
--- that, and it is copied to a slice that is not shorter. Assumes nothing.
+-- `listing_text::telgouin_listing` meets its contract: the listing stands at the front of an array that has room for
+-- every one, so it is no longer than that, and it is copied to a slice that is not shorter. Assumes nothing.
 use Prim.Native.Nat.{ℕ, _≤_, _<_}
 use mathlib.Core.Path.{_≡_, sym, _∙_}
 use mathlib.Core.List.{List, _++_}
@@ -37,40 +37,36 @@ module _ {before after : List ℕ} {count : ℕ} {text : List ℕ} (a : Appended
   unfolding shown
   not-copied slice h = rw (lt-leb (length text) (length slice) (omega (arith, size)))
 
-slice-aggregate-put-listing : tie.Need-slice-aggregate-put-listing
-slice-aggregate-put-listing c = search needs
-
 put-listing-requires : tie.Need-put-listing-requires
 put-listing-requires c κs = search needs
 
 array-share-prefix-whole : tie.Need-array-share-prefix-whole
-array-share-prefix-whole c = let whole = c .before .before .put-listing .ensures in within whole (sym (whole .long))
+array-share-prefix-whole c = let whole = c .before .put-listing .ensures in within whole (sym (whole .long))
 
 slice-aggregate-copy : tie.Need-slice-aggregate-copy
-slice-aggregate-copy c = sym (front-length (c .before .before .before .put-listing .ensures))
+slice-aggregate-copy c = sym (front-length (c .before .before .put-listing .ensures))
 
 copy-requires : tie.Need-copy-requires
-copy-requires c κs = omega (arith, front-length (c .before .before .before .before .put-listing .ensures))
+copy-requires c κs = omega (arith, front-length (c .before .before .before .put-listing .ensures))
 
 same-length : tie.Need-same-length
 same-length c = search needs
 
 returns : tie.Need-returns
 returns c =
-    let whole = c .before .before .before .before .before .before .before .put-listing .ensures in
+    let whole = c .before .before .before .before .before .before .put-listing .ensures in
     let fits = c .before .before .before .before .before .if1 .taken in
     (size whole, (within whole (length-replicate {A = ℕ} most-text 0), c .before .before .copy .ensures .1 ∙ copied whole _ fits))
 
 returns-2 : tie.Need-returns-2
 returns-2 c =
-    let whole = c .before .before .put-listing .ensures in
+    let whole = c .before .put-listing .ensures in
     (size whole, (within whole (length-replicate {A = ℕ} most-text 0), not-copied whole _ (c .if1 .left)))
 
 pub telgouin-listing-spec : {M : Type 1} → statement M
 telgouin-listing-spec =
     tie.close
     (tie.spec
-    slice-aggregate-put-listing
     put-listing-requires
     array-share-prefix-whole
     slice-aggregate-copy

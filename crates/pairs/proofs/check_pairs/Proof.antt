@@ -1,6 +1,7 @@
--- `pairs::check_pairs` meets its contract: a walk of its MIR, by hand. All that it knows of `examine_pairs`, `examined_of`, `store` and `reply_of` is that each meets its contract.
--- Each lent slice is passed on at its own lifetime, share and ghost name, so what a callee says of the last list is said of the slice's, and the borrow is given up for good (`gave-slice`).
--- Assumes nothing.
+-- `pairs::check_pairs` meets its contract: a walk of its MIR, by hand. All that it knows of `examine_pairs`,
+-- `examined_of`, `store` and `reply_of` is that each meets its contract. Each lent slice is passed on at its own
+-- lifetime, share and ghost name, so what a callee says of the last list is said of the slice's, and the borrow is
+-- given up for good (`gave-slice`). Assumes nothing.
 use mathlib.Core.Path.{_≡_, refl, sym, _∙_, ap, subst}
 use mathlib.Core.Logic.{_↔_}
 use Prim.Native.Nat.{ℕ, _<_, _^_}
@@ -247,7 +248,8 @@ module _ {M : Type 1} (𝓤 : URA M) (H : Heap 𝓤) (A : Atoms 𝓤) (W : Given
           -- what bytes owns is had twice, and one copy is kept for the exit
           move ! (27 ∷ []) $ fsplit ! $ use1 W (‵ Own₀ ⊛ ‵ Own₀) (shr-slice-copy 𝓤 H A W (named 0) κ₀ u8 .twice bytes (s₀ ∷ [])) $ split ! $ move ! (2 ∷ []) $ fsplit ! $ move ! (1 ∷ []) $ fsplit ! $
           move ! (31 ∷ []) $ split ! $ move ! (1 ∷ []) $ split ! $ move ! (2 ∷ 1 ∷ []) $ join ! $
-          -- [Alive; the nodes' token; what work owns; what the limit owns; what nodes owns; what bytes owns, twice; the locals]
+          -- [Alive; the nodes' token; what work owns; what the limit owns; what nodes owns;
+          -- what bytes owns, twice; the locals]
           move ! (0 ∷ 5 ∷ 2 ∷ []) $ use3 W (raw (Examine 𝓤 H A mem run .pre to-examine)) goes-examine $
           calls-ended 𝓤 H A W examine.ended (examine.clauses 𝓤 H A mem run) to-examine ! fm known-examine
           (and-then ! (load ! (from ! (stop !)) (look ! 27 refl)) (and-then ! (load ! (from ! (stop !)) (look ! 15 refl)) (and-then ! (load ! (from ! (stop !)) (look ! 11 refl)) (and-then ! (load ! (from ! (stop !)) (look ! 21 refl)) (no-more !))))) (λ v e ws.
@@ -256,7 +258,8 @@ module _ {M : Type 1} (𝓤 : URA M) (H : Heap 𝓤) (A : Atoms 𝓤) (W : Given
           split ! $ heard ! (Replied (e .reply)) (λ replied. split ! $ heard ! (e .examined .netlist ≡ flat) (λ is-flat. split ! $ heard ! (e .examined .marks ≡ marked) (λ is-marked. split ! $ heard ! (ws .1 .1 .0 ≡ workAfter xs (length ys) zs) (λ is-ws.
           split ! $ heard ! (Cleared (e .reply)) (λ cleared. split ! $ heard ! (Probed (e .reply)) (λ probed. split ! $ heard ! (Paired (e .reply)) (λ paired. heard ! (ProbedTwice (e .reply)) (λ twice.
           fsplit ! $ drop ! $ fsplit ! $ drop ! $ fsplit ! $ fsplit ! $ move ! (1 ∷ []) $ feqL ! (λ l.
-          -- [the work's last list; …; what e owns; the tokens; the nodes' token; what the limit owns; what nodes owns; what bytes owns; the locals]
+          -- [the work's last list; …; what e owns; the tokens; the nodes' token; what the limit owns; what nodes owns;
+          -- what bytes owns; the locals]
           move ! (2 ∷ []) $ facts ! P.the-row (Is P.the-row) (shows 𝓤 H A P.the-row) e (v ∷ []) (λ is-e. land ! (from ! (stop !)) (init ! 21 refl (LL.lawful P.the-type P′.the-laws 𝓤 H A W .typed e _ is-e .0)) $
           move ! (1 ∷ 4 ∷ []) $ drop ! $ drop ! $ move ! (1 ∷ []) $ use1 W Alive (id⊢ 𝓤 _) $
           finishes e v (ws .1 .1 .0) is-e (replied, cleared, probed, paired, twice) is-flat is-marked is-ws l)))))))))))

@@ -1,0 +1,20 @@
+-- `edit_steps::lowered` meets its contract: by the test. Assumes nothing.
+use borrow.Author.Needs.{needs}
+use borrow.Author.Tests.{lt-ltb, le-ltb}
+use Rattle.edit_rules.specs.Edits.{lowered}
+use Rattle.edit_steps.proofs.lowered.Statement.{statement}
+use Rattle.edit_steps.proofs.lowered.Tie as tie
+
+sub-result : tie.Need-sub-result
+sub-result c = search needs
+
+returns : tie.Need-returns
+unfolding lowered
+returns c = rw (lt-ltb _ _ (c .if1 .taken))
+
+returns-2 : tie.Need-returns-2
+unfolding lowered
+returns-2 c = rw (le-ltb _ _ (c .if1 .left))
+
+pub lowered-spec : {M : Type 1} → statement M
+lowered-spec = tie.close (tie.spec sub-result returns returns-2)

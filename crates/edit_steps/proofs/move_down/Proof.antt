@@ -1,0 +1,101 @@
+-- `edit_steps::move_down` meets its contract. The loop's invariant: of the bytes behind the node that is removed the first `at - 256 * removed` have
+-- moved down by 256, and all others stand. So what is read 256 further on is still the byte that stood there. The measure is what is left of
+-- the bytes. Assumes nothing.
+use Prim.Native.Nat.{ℕ, suc, _+_, _*_, _-_, _≤_, _<_}
+use mathlib.Core.Path.{_≡_, refl, subst}
+use mathlib.Core.List.{List}
+use native.Mathlib.Omega.{arith}
+use lib.ListN.{length, getD, drop, set, length-drop, length-set}
+use lib.Seq.{paste, paste-zero, getD-drop}
+use Rattle.edit_steps.specs.Work.{movedDown}
+use Rattle.netlists.proofs.Without.{moved-next}
+use Rattle.edit_steps.proofs.move_down.Statement.{statement}
+use Rattle.edit_steps.proofs.move_down.Tie as tie
+
+-- the bytes once those up to `at` have moved
+abbrev shifted : List ℕ → (removed at : ℕ) → List ℕ
+shifted old removed at = paste old (256 * removed) (drop (256 * (removed + 1)) old) (at - 256 * removed)
+
+none-shifted : (old : List ℕ) (removed : ℕ) → old ≡ shifted old removed (256 * removed)
+none-shifted old removed =
+    let none : 256 * removed - 256 * removed ≡ 0 = omega arith in
+    rw none (paste-zero old (256 * removed) (drop (256 * (removed + 1)) old))
+
+shifted-next : (old : List ℕ) (removed at : ℕ) → 256 * removed ≤ at → at + 256 < length old
+    → set (shifted old removed at) at (getD (shifted old removed at) (at + 256) 0) ≡ shifted old removed (at + 1)
+shifted-next old removed at from room =
+    let j = at - 256 * removed in
+    let here : 256 * removed + j ≡ at = omega arith in
+    let next : at + 1 - 256 * removed ≡ suc j = omega arith in
+    let beyond : 256 * (removed + 1) + j ≡ at + 256 = omega arith in
+    rw next
+    (subst (λ i. set (shifted old removed at) i (getD (shifted old removed at) (i + 256) 0) ≡ paste old (256 * removed) (drop (256 * (removed + 1)) old) (suc j)) here
+    (moved-next old (256 * removed) (drop (256 * (removed + 1)) old) 256 (λ b. b) 0 j (omega arith) (omega (arith, length-drop (256 * (removed + 1)) old))
+    (rw (here, ← beyond) (getD-drop (256 * (removed + 1)) old j 0))))
+
+abbrev Inv-loop : tie.InvT-loop
+Inv-loop work₀ removed count end at₀ work at = (256 * removed ≤ at) × (at ≤ end) × (length work ≡ length work₀) × (work ≡ shifted work₀ removed at)
+
+abbrev μ-loop : tie.MeasureT-loop
+μ-loop work₀ removed count end at₀ work at = end - at
+
+sub-end : tie.Need-sub-end Inv-loop μ-loop
+sub-end c = omega arith
+
+mul-end : tie.Need-mul-end Inv-loop μ-loop
+mul-end c = omega arith
+
+mul-at : tie.Need-mul-at Inv-loop μ-loop
+mul-at c = omega arith
+
+loop-holds : tie.Need-loop-holds Inv-loop μ-loop
+loop-holds c = (omega arith, omega arith, refl, none-shifted (c .args .work .now) (c .args .removed))
+
+add-work : tie.Need-add-work Inv-loop μ-loop
+add-work c = omega arith
+
+slice-read-work : tie.Need-slice-read-work Inv-loop μ-loop
+slice-read-work c = omega arith
+
+slice-write-work : tie.Need-slice-write-work Inv-loop μ-loop
+slice-write-work c = omega arith
+
+add-at : tie.Need-add-at Inv-loop μ-loop
+add-at c = omega arith
+
+loop-less : tie.Need-loop-less Inv-loop μ-loop
+loop-less c = omega arith
+
+loop-again : tie.Need-loop-again Inv-loop μ-loop
+loop-again c =
+    let (from, most, many, moved) = c .before .before .loop .inv in
+    (omega arith, omega arith, simp length-set many, rw moved (shifted-next _ _ _ from (omega arith)))
+
+same-length : tie.Need-same-length Inv-loop μ-loop
+same-length c = c .before .loop .inv .2
+
+returns : tie.Need-returns Inv-loop μ-loop
+unfolding movedDown
+returns c =
+    let (from, most, many, moved) = c .before .loop .inv in
+    let all : c .before .loop .at - 256 * c .before .before .args .removed ≡ 256 * (c .before .before .args .count - 1 - c .before .before .args .removed) = omega arith in
+    rw (← all) moved
+
+pub move-down-spec : {M : Type 1} → statement M
+move-down-spec =
+    tie.close
+    (tie.spec
+    Inv-loop
+    μ-loop
+    sub-end
+    mul-end
+    mul-at
+    loop-holds
+    add-work
+    slice-read-work
+    slice-write-work
+    add-at
+    loop-less
+    loop-again
+    same-length
+    returns)

@@ -1,0 +1,2 @@
+-- What it is for a block to be held by value.
+pub mod Held

@@ -1,0 +1,3 @@
+-- What the proofs of this crate share, and those of its callers.
+pub mod Checked
+pub mod Numbers
