@@ -9,8 +9,8 @@ use Rattle.telgouin.proofs.run_block.Tie as tie
 slice-aggregate-bytes : tie.Need-slice-aggregate-bytes
 slice-aggregate-bytes c = sym (length-take-le _ _ (omega (arith, c .before .before .pre)))
 
-read-requires : tie.Need-read-requires
-read-requires c κs = search needs
+obey-requires : tie.Need-obey-requires
+obey-requires c κs = search needs
 
 enum-known-outcome : tie.Need-enum-known-outcome
 enum-known-outcome c = search needs
@@ -24,9 +24,6 @@ say-refused-requires c κs = search needs
 enum-told : tie.Need-enum-told
 enum-told c = search needs
 
-obey-requires : tie.Need-obey-requires
-obey-requires c κs = search needs
-
 returns : tie.Need-returns
 returns c = search needs
 
@@ -38,11 +35,10 @@ run-block-spec =
     tie.close
     (tie.spec
     slice-aggregate-bytes
-    read-requires
+    obey-requires
     enum-known-outcome
     line-of-requires
     say-refused-requires
     enum-told
-    obey-requires
     returns
     returns-2)

@@ -11,16 +11,16 @@ use Rattle.telgouin.specs.Files.{lineIn}
 use Rattle.telgouin.proofs.files.line_of.Statement.{statement}
 use Rattle.telgouin.proofs.files.line_of.Tie as tie
 
-returns : tie.Need-returns
-unfolding lineIn
-returns c = simp (eq-eqb _ _ (c .if1 .taken))
-
 number-of-requires : tie.Need-number-of-requires
 number-of-requires c κs = search needs
 
+returns : tie.Need-returns
+unfolding lineIn
+returns c = rw (← c .before .number-of .ensures, c .if1 .taken)
+
 returns-2 : tie.Need-returns-2
 unfolding lineIn
-returns-2 c = simp (ne-eqb _ _ (c .before .before .if1 .left), eq-eqb _ _ (sym (c .before .number-of .ensures) ∙ c .if2 .taken))
+returns-2 c = rw (← c .before .before .number-of .ensures, c .before .if1 .left, eq-eqb _ _ (c .if2 .taken))
 
 place-of-requires : tie.Need-place-of-requires
 place-of-requires c κs = search needs
@@ -32,21 +32,19 @@ shared-slice-read-result : tie.Need-shared-slice-read-result
 shared-slice-read-result c = search needs
 
 -- past both tests
-at-place : (number place : ℕ) (lines : List ℕ) (last : ℕ) → (last ≡ 0 → ⊥) → (number ≡ 8 → ⊥) → lineIn number place lines last ≡ getD lines place last
-unfolding lineIn
-at-place number place lines last some other = simp (ne-eqb last 0 some, ne-eqb number 8 other)
-
 here
     : (c : tie.After-place-of)
     → let start = c .before .before .before .before .before .args in
     lineIn (numberOf (start .refusal)) (placeOf (start .refusal)) (start .lines .now) (start .last)
     ≡ getD (start .lines .now) (c .place-of .result) (start .last)
+unfolding lineIn
 here c =
-    let number = c .before .before .before in
-    let start = number .before .before .args in
-    at-place (numberOf (start .refusal)) (placeOf (start .refusal)) (start .lines .now) (start .last) (number .before .if1 .left)
-    (λ e. c .before .before .if2 .left (number .number-of .ensures ∙ e))
-    ∙ ap (λ (k : ℕ). getD (start .lines .now) k (start .last)) (sym (c .place-of .ensures))
+    rw (
+      ← c .before .before .before .before .number-of .ensures,
+      c .before .before .before .if1 .left,
+      ne-eqb _ _ (c .before .before .if2 .left),
+      c .place-of .ensures,
+    )
 
 -- within a list it does not matter what there would be behind it
 within : (xs : List ℕ) (k d e : ℕ) → k < length xs → getD xs k d ≡ getD xs k e
@@ -67,8 +65,8 @@ pub line-of-spec : {M : Type 1} → statement M
 line-of-spec =
     tie.close
     (tie.spec
-    returns
     number-of-requires
+    returns
     returns-2
     place-of-requires
     mul-result
