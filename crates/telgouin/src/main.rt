@@ -17,6 +17,7 @@ use files::ReadBlock;
 use netlists::Netlist;
 use read_words::MOST_BLOCK;
 use read_words::is_word;
+use rules::MOST_WORK;
 use rules::QueryOutcome;
 
 // The commands.
@@ -124,7 +125,11 @@ fn obey(
         Command::Value => ask::value(bytes, numbers[0], numbers[1]),
         Command::Feeding => ask::feeding(bytes, numbers[0]),
         Command::Member => ask::member(bytes, numbers[0], numbers[1]),
-        Command::Edit => editing::edit(bytes),
+        Command::Edit => {
+            let mut work = [0u8; MOST_WORK];
+            let opened = held_blocks::open_held(bytes, &mut work);
+            editing::edit(opened, &mut work);
+        }
         Command::Picture => picture::picture(bytes, netlist),
         Command::Help => {}
         Command::None => {}
