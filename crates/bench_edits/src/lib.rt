@@ -1,13 +1,15 @@
-// Edits of an open block for the benchmark, which is written in Rust: how many of them are answered.
+// Edits of an open block for the benchmark: how many of them are answered. Works in node records and work bytes of its
+// own and writes to no lent slice. Called by the benchmark's Rust program (`bench/src`); no crate uses it.
 ghost use Prim.Native.Nat.{_≤_};
 use edit_rules::Edit;
 use rules::MOST_NODES;
 use rules::MOST_WORK;
 use rules::Reply;
 
-// The most turns of one call.
+// The most times that one call makes its edits.
 const MOST_TURNS: usize = 65536;
 
+// The lesser of two numbers.
 fn least(a: usize, b: usize) -> usize
     ensures { λ r. ⌜ (r ≤ a) × (r ≤ b) ⌝ }
 {
@@ -24,7 +26,8 @@ fn one_if_answered(reply: Reply) -> usize
     }
 }
 
-// Opens a block, and then, so many times, gives up one of its nodes and takes a new one at the end. No times: it is a fresh check alone.
+// Opens a block, and then removes one of its nodes and adds a new one at the end, `times` times or `MOST_TURNS`.
+// Returns how many of these edits were answered. With `times` 0 it is a fresh check alone.
 #[no_mangle]
 pub extern "C" fn telgouin_edits(bytes: &[u8], added: &[u8], node: usize, times: usize) -> usize
     ensures { λ r. ⌜ r ≤ 131072 ⌝ }
@@ -73,7 +76,7 @@ pub extern "C" fn telgouin_edits(bytes: &[u8], added: &[u8], node: usize, times:
     answered
 }
 
-// A new node at the end or, where there are no bytes of one, the last of so many nodes to give up.
+// The edit that adds a node at the end or, where its record has no bytes, removes the last of `count` nodes.
 fn edit_at_the_end(added: usize, count: usize) -> Edit {
     if added > 0 {
         return Edit::Add;
@@ -84,8 +87,10 @@ fn edit_at_the_end(added: usize, count: usize) -> Edit {
     Edit::Remove(count - 1)
 }
 
-// Opens a block, and then, so many times, makes one edit of it as it was opened: takes a new node at the end or, where there are no bytes of one, gives
-// up the last node. Neither changes the families of the block's own nodes, so that the next edit finds them. No times: it is a fresh check alone.
+// Opens a block, and then makes one edit of it as it was opened, `times` times or `MOST_TURNS`:
+// adds a new node at the end or, where its record has no bytes, removes the last node. Neither changes the families
+// of the block's own nodes, so that the next edit finds them. Returns how many of these edits were answered.
+// With `times` 0 it is a fresh check alone.
 #[no_mangle]
 pub extern "C" fn telgouin_edit_again(bytes: &[u8], added: &[u8], times: usize) -> usize
     ensures { λ r. ⌜ r ≤ 65536 ⌝ }

@@ -1,4 +1,5 @@
-// The search over pairs for the benchmark, which is written in Rust: the reply, in one number.
+// The search over pairs for the benchmark: the reply of `examine_pairs`, in one number. Works in bytes of its own and
+// writes to no lent slice. Called by the benchmark's Rust program (`bench/src`); no crate uses it.
 ghost use mathlib.Core.Path.{_≡_};
 ghost use Rattle.rules.specs.Records.{most-nodes};
 ghost use Rattle.rules.specs.Checks.{most-work};
@@ -9,7 +10,7 @@ use pairs::PairsReply;
 use rules::MOST_NODES;
 use rules::MOST_WORK;
 
-// The count of pairs, the case and three numbers of it.
+// The count of pairs, the case and three numbers of it in one number: 16, 4 and thrice 12 bits, the count highest.
 fn packed(looked: usize, case: usize, first: usize, second: usize, third: usize) -> usize
     ensures { λ r. ⌜ r ≡ packed looked case first second third ⌝ }
 {
@@ -17,8 +18,8 @@ fn packed(looked: usize, case: usize, first: usize, second: usize, third: usize)
         + third % 4096
 }
 
-// Checks a block with two probes. Case 0 is a refusal, with number and place; 1 a single suspect, with node and set; 2 no pair; 3
-// a pair, with both nodes and the set; 4 a limit that is spent.
+// Checks a block with two probes, and packs the reply. Case 0 is a refusal, with number and place; 1 a single suspect,
+// with node and set; 2 no pair; 3 a pair, with both nodes and the set; 4 a limit that is spent.
 #[no_mangle]
 pub extern "C" fn telgouin_pairs(bytes: &[u8], limit: usize) -> usize
     ensures { λ r. ⌜ r ≡ packedReply (pairsReply (now (bytes .entry)) most-nodes most-work limit) ⌝ }

@@ -1,5 +1,5 @@
--- What the core's functions cite: each way through reading and the slices examines the outcome that the rules give, and from that follow the
--- promises of `examine`. Assumes nothing.
+-- What the core's functions cite: each way through reading and the slices examines the outcome that the rules give,
+-- and from that follow the promises of `examine`. Assumes nothing.
 use mathlib.Core.Path.{_≡_, refl, sym, subst, _∙_}
 use mathlib.Core.Logic.{_↔_}
 use mathlib.Core.List.{List, _++_, map}

@@ -1,5 +1,6 @@
--- Node records by value in a local array, as a row of them that are then read and written one by one, and as an array again: `array-apart` and `array-whole` of the kit's `Denote/ArrayMemory.antt`, as steps for the local's cell.
--- Cited by the walks that copy records from such an array to a lent slice, and from a slice to an array. Assumes `Given`.
+-- Node records by value in a local array, as a row of them that are then read and written one by one, and as an array
+-- again: `array-apart` and `array-whole` of the kit's `Denote/ArrayMemory.antt`, as steps for the local's cell. Cited
+-- by the walks that copy records from such an array to a lent slice, and from a slice to an array. Assumes `Given`.
 use mathlib.Core.Path.{_≡_, refl, subst}
 use Prim.Native.Nat.{ℕ, _<_}
 use mathlib.Core.List.{List, [], _∷_}

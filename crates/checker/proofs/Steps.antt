@@ -108,8 +108,8 @@ module _ {M : Type 1} {𝓤 : URA M} {H : Heap 𝓤} {A : Atoms 𝓤} {K : Type 
   pub frees-all : K → (n : ℕ) {E : Env 𝓤 H} → drop n Γ ≡ rooms 𝓤 H A E [] → Step K W (take n Γ) G Γ (frees E G)
   frees-all t n {E} rest = step (λ s. record {
     prf =
-      subst (λ (Δ : List (Item 𝓤)). ent 𝓤 (⋆ 𝓤 H A Δ) (release 𝓤 H E (aim 𝓤 H G))) (ap (λ (Δ : List (Item 𝓤)). take n Γ ++ Δ) (sym rest) ∙ take-append-drop n Γ)
-      (via 𝓤 (release 𝓤 H E (⋆ 𝓤 H A (take n Γ))) (behind-freed 𝓤 H A E (take n Γ)) (after 𝓤 H E (s .prf)));
+        subst (λ (Δ : List (Item 𝓤)). ent 𝓤 (⋆ 𝓤 H A Δ) (release 𝓤 H E (aim 𝓤 H G))) (ap (λ (Δ : List (Item 𝓤)). take n Γ ++ Δ) (sym rest) ∙ take-append-drop n Γ)
+        (via 𝓤 (release 𝓤 H E (⋆ 𝓤 H A (take n Γ))) (behind-freed 𝓤 H A E (take n Γ)) (after 𝓤 H E (s .prf)));
   })
 
 -- ---- a walk at every choice of what the contract binds, of a function with no `requires`, or whose `requires` it does not need

@@ -1,5 +1,6 @@
--- The records that are stored at the front of a slice: where the netlist and the marks by value are a netlist's, they are its node records, and so the
--- slice holds what the rules say it holds at exit. By recursion on the number of records. Assumes nothing.
+-- The records that are stored at the front of a slice: where the netlist and the marks by value are a
+-- netlist's, they are its node records, and so the slice holds what the rules say it holds at exit.
+-- By recursion on the number of records. Assumes nothing.
 use Prim.Native.Nat.{ℕ, zero, suc, _+_, _≤_, _<_, zero-le}
 use mathlib.Core.Path.{_≡_, refl, sym, _∙_, ap}
 use mathlib.Core.List.{List, _++_}

@@ -21,14 +21,16 @@ use Rattle.checker.specs.declared.Examined.{Examined}
 abbrev pub NothingKept : Examined → Type 0
 NothingKept examined = (examined .netlist ≡ flatOf empty) × (examined .marks ≡ marksOf empty)
 
--- what is examined where the outcome of reading and of the slices is `outcome`, and the work slice held `before` and then holds `after`
+-- what is examined where the outcome of reading and of the slices is `outcome`, and the work slice held
+-- `before` and then holds `after`
 pub record Examines (outcome : Outcome Netlist) (examined : Examined) (before after : List ℕ) : Type 0 where
   pub reply : replyOf (examined .reply) ≡ andThen outcome (λ n. answered (findings n))
   pub netlist : examined .netlist ≡ flatOf (kept outcome)
   pub marks : examined .marks ≡ marksOf (kept outcome)
   pub work : after ≡ filled (λ n. workBytes (families n)) outcome before
 
--- What is read from marks is the answer for a netlist by value, and no refusal; where both are a netlist's, the answer is the rules'.
+-- What is read from marks is the answer for a netlist by value, and no refusal; where both are a netlist's,
+-- the answer is the rules'.
 pub record ReadsMarks (value : Value.Netlist) (marks : Marks) (examined : Examined) : Type 0 where
   pub netlist : examined .netlist ≡ value
   pub itsMarks : examined .marks ≡ marks

@@ -1,5 +1,7 @@
-// The checker: `check` over netlist bytes and both lent slices. `examine` is the same over flat forms: it takes the number
-// of entries, and answers the node records by value.
+// The checker with one probe. `check` is over netlist bytes and both lent slices, node records and work bytes,
+// and writes to both. `examine` is its core: it takes the number of entries in place of the node records,
+// writes to the work bytes alone and gives netlist and marks by value. Used by `pairs`, the edits, the listing,
+// the desk and test programs.
 ghost use mathlib.Core.Path.{_≡_};
 ghost use mathlib.Core.Logic.{_↔_};
 ghost use Prim.Native.Nat.{_<_, _≤_};
@@ -22,14 +24,15 @@ use rules::QueryOutcome;
 use rules::Refusal;
 use rules::Reply;
 
-// What is examined: the reply, and the netlist and its marks by value, which are those of no nodes on a refusal.
+// What an examination gives: the reply, and the netlist and its marks by value.
+// On a refusal these are empty, of no node.
 pub struct Examined {
     pub reply: Reply,
     pub netlist: Netlist,
     pub marks: Marks,
 }
 
-// A refusal, with nothing kept.
+// What an examination gives that refuses: the empty netlist and no mark.
 pub fn refused(refusal: Refusal) -> Examined
     ensures { λ r. ⌜ (r .reply ≡ Reply.Refused refusal) × NothingKept r ⌝ }
 {
@@ -40,7 +43,8 @@ pub fn refused(refusal: Refusal) -> Examined
     }
 }
 
-// The answer for a netlist with its marks, from which it is read.
+// What an examination gives of a netlist with its marks: the answer, each half of which is read from the marks,
+// and both by value. Nothing is worked out anew.
 pub fn read_marks(netlist: Netlist, marks: Marks) -> Examined
     requires { ⌜ netlist .count ≤ most-nodes ⌝ }
     ensures { λ r. ⌜ ReadsMarks netlist marks r ⌝ }
@@ -62,7 +66,8 @@ pub fn read_marks(netlist: Netlist, marks: Marks) -> Examined
     }
 }
 
-// The answer for a netlist that both slices have room for.
+// Works out the families in the work bytes, then the marks, and gives the answer for a netlist
+// that both slices have room for.
 fn answer(netlist: Netlist, work: &mut [u8]) -> Examined
     requires { ⌜ Ready netlist (length (now work)) ⌝ }
     ensures { λ r. ⌜ ((n : Records.Netlist) → netlist ≡ flatOf n →
@@ -87,7 +92,8 @@ pub fn slices_fit(count: usize, entries: usize, work: usize) -> QueryOutcome
     QueryOutcome::Answered
 }
 
-// The answer for a netlist that was read, or the refusal of slices that are too short for it.
+// The answer for a netlist that was read, or refusal 10 for too few entries or 11 for too few work bytes,
+// which then are as they were.
 fn admit(netlist: Netlist, entries: usize, work: &mut [u8]) -> Examined
     requires { ⌜ Formed netlist ⌝ }
     ensures { λ r. ⌜ ((n : Records.Netlist) → netlist ≡ flatOf n →
@@ -99,7 +105,8 @@ fn admit(netlist: Netlist, entries: usize, work: &mut [u8]) -> Examined
     }
 }
 
-// The same as `check` for a slice of so many entries, with the netlist and its marks by value.
+// Checks netlist bytes as `check` does with a slice of `entries` node records: the same reply, and the same work bytes
+// at exit. In place of node records it gives the netlist and its marks by value; on a refusal they are empty.
 pub fn examine(bytes: &[u8], entries: usize, work: &mut [u8]) -> Examined
     ensures reply { λ r. ⌜ replyOf (r .reply) ≡ reply (now (bytes .entry)) entries (length (now (work .entry))) ⌝ }
     ensures netlist { λ r. ⌜ r .netlist ≡ flatOf (kept (admitted (now (bytes .entry)) entries (length (now (work .entry))))) ⌝ }
@@ -120,7 +127,7 @@ pub fn examine(bytes: &[u8], entries: usize, work: &mut [u8]) -> Examined
 
 // ---- the entry point, over the lent slice of node records
 
-// How many node records were examined, and the reply.
+// How many nodes the examined netlist has.
 fn count_of(examined: Examined) -> usize
     ensures { λ r. ⌜ r ≡ examined .netlist .count ⌝ }
 {
@@ -128,13 +135,14 @@ fn count_of(examined: Examined) -> usize
     netlist.count
 }
 
+// The reply of an examination.
 fn reply_of(examined: Examined) -> Reply
     ensures { λ r. ⌜ r ≡ examined .reply ⌝ }
 {
     examined.reply
 }
 
-// Entries of no node.
+// 200 entries of no node, in which every field is 0.
 pub fn no_entries() -> [NodeRecord; MOST_NODES]
     ensures { λ r. ⌜ r ≡ noEntries ⌝ }
 {
@@ -146,7 +154,7 @@ pub fn no_entries() -> [NodeRecord; MOST_NODES]
     }; MOST_NODES]
 }
 
-// The node records that were examined, by value, before entries of no node.
+// The node records of what was examined, by value: each node with its marks, and behind them entries of no node.
 fn records_of(examined: Examined) -> [NodeRecord; MOST_NODES]
     requires { ⌜ examined .netlist .count ≤ most-nodes ⌝ }
     ensures { λ r. ⌜ r ≡ stored (recordIn examined) noEntries (examined .netlist .count) ⌝ }
@@ -167,7 +175,7 @@ fn records_of(examined: Examined) -> [NodeRecord; MOST_NODES]
     records
 }
 
-// Writes the node records that were examined to the front of the slice.
+// Writes the node records of what was examined to the front of the lent slice. The entries beyond are as they were.
 pub fn store(nodes: &mut [NodeRecord], examined: Examined)
     requires { ⌜ (examined .netlist .count ≤ length (now nodes)) × (examined .netlist .count ≤ most-nodes) ⌝ }
     ensures { λ _. ⌜ now (nodes .exit) ≡ stored (recordIn examined) (now (nodes .entry)) (examined .netlist .count) ⌝ }
@@ -181,7 +189,7 @@ pub fn store(nodes: &mut [NodeRecord], examined: Examined)
     }
 }
 
-// The node record at an entry.
+// The node record at entry `i` of the lent slice.
 pub fn node_at(nodes: &[NodeRecord], i: usize) -> NodeRecord
     requires { ⌜ i < length (now nodes) ⌝ }
     ensures { λ r. ⌜ r ≡ getD (now (nodes .entry)) i unwritten ⌝ }
@@ -189,10 +197,10 @@ pub fn node_at(nodes: &[NodeRecord], i: usize) -> NodeRecord
     nodes[i]
 }
 
-// Checks netlist bytes: the reply, the node records with their marks at the front of `nodes` and the families at the front of `work`. A
-// refusal leaves both slices as they were. The glitch half is clear exactly when nothing is refused and no tested node's
-// glitch family holds a suspect set; and then one probe on any gate or register sees each pattern of settled values as
-// often for one setting of the secrets as for another.
+// Checks netlist bytes: the reply, the node records with their marks at the front of `nodes` and the families at the
+// front of `work`. A refusal leaves both slices as they were. The glitch half is clear exactly when nothing is refused
+// and no tested node's glitch family holds a suspect set; and then one probe on any gate or register sees each pattern
+// of settled values as often for one setting of the secrets as for another.
 pub fn check(bytes: &[u8], nodes: &mut [NodeRecord], work: &mut [u8]) -> Reply
     ensures reply { λ r. ⌜ replyOf r ≡ reply (now (bytes .entry)) (length (now (nodes .entry))) (length (now (work .entry))) ⌝ }
     ensures nodes { λ _. ⌜ now (nodes .exit) ≡

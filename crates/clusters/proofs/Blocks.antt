@@ -1,6 +1,6 @@
--- Clusters whose counts differ, which antt computes, so that what is said of many probes is not empty: one round a gate that is clear for settled
--- signals and not for glitches, and one beyond a gate, in a block where every gate is clear. And a gate that is clear, with no mark, in a block whose
--- answer names another. Assumes nothing.
+-- Clusters whose counts differ, which antt computes, so that what is said of many probes is not empty: one round a gate
+-- that is clear for settled signals and not for glitches, and one beyond a gate, in a block where every gate is clear.
+-- And a gate that is clear, with no mark, in a block whose answer reports another. Assumes nothing.
 use Prim.Native.Nat.{ℕ, _*_}
 use mathlib.Core.Path.{_≡_, refl}
 use mathlib.Core.Bool.{false, true, not, xor}
@@ -115,7 +115,8 @@ disagree : (n : Netlist) (points : List ℕ) → Differ n points → ¬ CountsAg
 unfolding CountsAgree
 disagree n points (one, none) agree = let same-count = agree [] (false ∷ []) (true ∷ []) all-zero in omega arith
 
--- Round gate 4 of block A, which is not clear, neither statement holds, so what is said of every gate is false of its bytes.
+-- Round gate 4 of block A, which is not clear, neither statement holds, so what is said of every
+-- gate is false of its bytes.
 pub a-probes-round : ¬ ProbesRound p9 4
 unfolding ProbesRound
 a-probes-round round = disagree p9 (feedingOf p9 cluster-a) a-points (round cluster-a a-round)
@@ -132,12 +133,14 @@ pub a-wires-everywhere : ¬ ManyWiresEverywhere (P9 .bytes)
 unfolding tested ManyWiresEverywhere
 a-wires-everywhere everywhere = a-wires-round (everywhere p9 p9-read 4 (record { there = omega arith; isTested = tt }))
 
--- So a gate that is clear for settled signals is not enough: with that in its place the statement would be false of the bytes of block A.
+-- So a gate that is clear for settled signals is not enough: with that in its place the statement would
+-- be false of the bytes of block A.
 pub a-settled-not-enough : ¬ ((n : Netlist) → read (P9 .bytes) ≡ answered n → (gate : ℕ)
     → ((A : ℕ) → T (member A (familiesAt n gate .settled)) → T (not (suspect (n .variables) A))) → ProbesRound n gate)
 a-settled-not-enough settled = a-probes-round (settled p9 p9-read 4 a-settled-clear)
 
--- Of clusters that need not lie round the gate neither statement would hold: they would be false of the bytes of block B.
+-- Of clusters that need not lie round the gate neither statement would hold: they would be false
+-- of the bytes of block B.
 pub b-probes-beyond : ¬ ((n : Netlist) → read (P10 .bytes) ≡ answered n → (gate : ℕ) → ClearGate n gate
     → (cluster : List ℕ) → CountsAgree n (feedingOf n cluster))
 b-probes-beyond anywhere = disagree p10 (feedingOf p10 cluster-b) b-points (anywhere p10 p10-read 5 b-gate-clear cluster-b)
@@ -145,9 +148,9 @@ b-probes-beyond anywhere = disagree p10 (feedingOf p10 cluster-b) b-points (anyw
 pub b-wires-beyond : ¬ ((n : Netlist) → read (P10 .bytes) ≡ answered n → (gate : ℕ) → ClearGate n gate → (cluster : List ℕ) → CountsAgree n cluster)
 b-wires-beyond anywhere = disagree p10 cluster-b b-wires (anywhere p10 p10-read 5 b-gate-clear cluster-b)
 
--- ---- a clear gate of a block whose answer names another
+-- ---- a clear gate of a block whose answer reports another
 
--- The answer for block A names gate 4, and its gate 3 is clear.
+-- The answer for block A reports gate 4, and its gate 3 is clear.
 pub a-answer : reply (P9 .bytes) most-nodes most-work
     ≡ answered (record { variables = 3; nodes = 5; settled = Families.clear; glitch = Families.suspectAt 4 1 })
 unfolding replyTo
@@ -185,7 +188,8 @@ a-card-round =
 abbrev pub recordsLeft : List ℕ → (nodes : ℕ) → List NodeRecord
 recordsLeft bytes nodes = nodesAfter bytes (replicate nodes (fields 9 9 9 9 9 9)) (256 * nodes)
 
--- Gate 3 of block A has no glitch mark, so what is said of such gates says it of this one; gate 4, which is not clear, has one.
+-- Gate 3 of block A has no glitch mark, so what is said of such gates says it of this one; gate 4,
+-- which is not clear, has one.
 pub a-unmarked : Unmarked 5 (recordsLeft (P9 .bytes) 5) 3
 unfolding replyTo entry markNumber nodeRecord nodeRecords tabulate filled nodesAfter
 a-unmarked = record { there = omega arith; isTested = omega arith; noMark = refl }

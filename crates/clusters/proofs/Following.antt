@@ -1,5 +1,5 @@
--- A node's settled value follows from those of its feeding points: it is what the rules make of them. So where the counts agree on some points, they
--- agree on these and all nodes that no other point feeds. Assumes nothing.
+-- A node's settled value follows from those of its feeding points: it is what the rules make of them. So where the
+-- counts agree on some points, they agree on these and all nodes that no other point feeds. Assumes nothing.
 use Prim.Native.Nat.{ℕ}
 use mathlib.Core.Path.{_≡_, refl, sym, ap, ap₂, _∙_, subst}
 use mathlib.Core.Bool.{Bool, true, false, cond, not, xor, _&&_, _||_, Bool·beq, and-false}
@@ -19,7 +19,7 @@ use Rattle.rules.proofs.Points.{matches-union, matches-among, agree-among}
 
 -- ---- the value of a node by a pattern
 
--- what the pattern names at an input or register, and of a gate what the rules make of that
+-- what the pattern gives an input or register, and of a gate what the rules make of that
 unfoldable pub byPattern : Pattern → List Bool → Cell → Bool
 byPattern z done cell = cond (isPoint cell) (z (length done)) (valueRule [] done cell)
 
@@ -47,7 +47,7 @@ module _ (n : Netlist) (x : Assignment) (z : Pattern) where
   rule settledOf = valueRule x
   rule namedOf = byPattern z
 
-  -- whether points have the values that the pattern names
+  -- whether points have the values that the pattern gives
   abbrev seen : List ℕ → Bool
   seen points = matches (values n x) points z
 

@@ -1,6 +1,6 @@
--- Many probes round one gate: where the gate's glitch family holds no suspect set, the counts agree on its feeding points; so on those of a cluster
--- round it, which are all among them, and on the cluster's nodes, which no other point feeds. And so round every gate of a block that the checker
--- answers clear for glitching signals. Assumes nothing.
+-- Many probes round one gate: where the gate's glitch family holds no suspect set, the counts agree on its feeding
+-- points; so on those of a cluster round it, which are all among them, and on the cluster's nodes, which no other point
+-- feeds. And so round every gate of a block that the checker answers clear for glitching signals. Assumes nothing.
 use Prim.Native.Nat.{ℕ}
 use mathlib.Core.Path.{_≡_, subst}
 use mathlib.Core.Logic.{⊎-elim}
@@ -75,7 +75,8 @@ module _ (bytes : List ℕ) (entries work : ℕ) (answers-clear : GlitchClear (r
   clear-both : ManyProbesEverywhere bytes × ManyWiresEverywhere bytes
   clear-both = (clear-probes, clear-wires)
 
--- So of a reply that is the rules' reply, as clause `reply` of the contract of `check` has it: where its glitch half is clear, both hold.
+-- So of a reply that is the rules' reply, as clause `reply` of the contract of `check` has it:
+-- where its glitch half is clear, both hold.
 pub checked-clear : (bytes : List ℕ) (entries work : ℕ) (r : Reply) → replyOf r ≡ reply bytes entries work → GlitchClear (replyOf r)
     → ManyProbesEverywhere bytes × ManyWiresEverywhere bytes
 checked-clear bytes entries work r replied answers-clear = clear-both bytes entries work (subst GlitchClear replied answers-clear)

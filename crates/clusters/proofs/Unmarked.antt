@@ -1,5 +1,6 @@
--- A gate that has no mark: where the glitch mark of a gate or register is none, its own glitch family holds no suspect set, whatever other nodes
--- hold; so what is said of many probes holds round it. Of the node records that a check leaves, and of those of an open block. Assumes nothing.
+-- A gate that has no mark: where the glitch mark of a gate or register is none, its own glitch family
+-- holds no suspect set, whatever other nodes hold; so what is said of many probes holds round it.
+-- Of the node records that a check leaves, and of those of an open block. Assumes nothing.
 use Prim.Native.Nat.{ℕ, _<_}
 use mathlib.Core.Path.{_≡_, refl, sym, ap, subst, _∙_}
 use mathlib.Core.Bool.{Bool, true, false, not}
@@ -84,7 +85,8 @@ both-round bytes n nodes holds is-read m reads-m gate unmarked =
     let clear = unmarked-clear m nodes (subst (λ (k : Netlist). take (length (k .nodes)) nodes ≡ nodeRecords k) same holds) gate unmarked in
     (clear, many-probes bytes m reads-m gate clear, many-wires bytes m reads-m gate clear)
 
--- Of the node records that a check leaves, as clauses `reply` and `nodes` of the contract of `check` have it, where it answers.
+-- Of the node records that a check leaves, as clauses `reply` and `nodes` of the contract of `check`
+-- have it, where it answers.
 pub checked-unmarked : (bytes : List ℕ) (before after : List NodeRecord) (work : ℕ) (a : Answer) → replyOf (Answered a) ≡ reply bytes (length before) work
     → after ≡ nodesAfter bytes before work → RoundUnmarked bytes after
 unfolding reply andThen
@@ -96,7 +98,8 @@ checked-unmarked bytes before after work a replied left = rw left (go (admitted 
         both-round bytes n (nodesAfter bytes before work) (checked-records bytes before work n is) (admitted-says bytes (length before) work n is .is-read)
     go (refused k p) is says = let z : _≡_ {A = ℕ} 0 1 = cc in absurd (omega arith)
 
--- And of those of an open block, after any run of edits: it obeys the record rules, and its slice holds them at its front.
+-- And of those of an open block, after any run of edits: it obeys the record rules, and its
+-- slice holds them at its front.
 pub open-unmarked : (n : Netlist) (nodes : List NodeRecord) → WellFormed n → take (length (n .nodes)) nodes ≡ nodeRecords n
     → RoundUnmarked (writtenOut n) nodes
 open-unmarked n nodes formed holds = both-round (writtenOut n) n nodes holds (write-read n formed)

@@ -1,5 +1,5 @@
--- Block A, whose answer names gate 4, read by a designer who probes round gate 3: by what is proved, probes on that gate and on both inputs that feed
--- it learn nothing; and the same is read off the gate's own mark. Assumes nothing.
+-- Block A, whose answer reports gate 4, read by a designer who probes round gate 3: by what is proved, probes on that
+-- gate and on both inputs that feed it learn nothing; and the same is read off the gate's own mark. Assumes nothing.
 use mathlib.Core.Path.{refl}
 use Rattle.rules.specs.declared.Half.the-variants.{Clear, Suspect}
 use Rattle.rules.specs.declared.Answer.{Answer}

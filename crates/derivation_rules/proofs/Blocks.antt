@@ -1,5 +1,6 @@
--- Derivations, replies and slices that antt computes from the definitions: of blocks A and B, and of small netlists that show in which order rules
--- and sets are tried. So a definition that says something else is refused here. Assumes nothing.
+-- Derivations, replies and slices that antt computes from the definitions: of blocks A and B, and of small netlists
+-- that show in which order rules and sets are tried. So a definition that says something else is refused here.
+-- Assumes nothing.
 use Prim.Native.Nat.{ℕ}
 use mathlib.Core.Path.{_≡_, refl}
 use mathlib.Core.List.{List, [], _∷_, _++_}
@@ -28,7 +29,8 @@ afterwards = stepsAfter
 
 -- ---- block A
 
--- The secret alone, as a glitch, by rule 6: the steps of the first operand's set, and behind them those of the second's.
+-- The secret alone, as a glitch, by rule 6: the steps of the first operand's set, and behind
+-- them those of the second's.
 pub a-derivation : derivation p9 4 glitch 1 ≡ step 4 glitch 6 1 ∷ step 3 glitch 4 3 ∷ step 0 glitch 1 3 ∷ step 1 glitch 1 2 ∷ []
 unfolding derivationOf
 a-derivation = refl
@@ -106,7 +108,8 @@ pub glitch-xors : (derivation small 2 glitch 0 ≡ step 2 glitch 3 0 ∷ [])
 unfolding derivationOf
 glitch-xors = (refl, refl, refl, refl)
 
--- AND has the empty set by rule 3, though its first operand has it too. In the glitch layer NOT has it by rule 2 if its operand has it, else by rule 3.
+-- AND has the empty set by rule 3, though its first operand has it too. In the glitch layer NOT has it by rule 2
+-- if its operand has it, else by rule 3.
 pub empty-sets : (derivation small 6 settled 0 ≡ step 6 settled 3 0 ∷ [])
     × (derivation small 7 glitch 0 ≡ step 7 glitch 2 0 ∷ step 0 glitch 1 0 ∷ [])
     × (derivation small 8 glitch 0 ≡ step 8 glitch 3 0 ∷ [])
@@ -119,7 +122,8 @@ empty-sets = (refl, refl, refl)
 abbrev pub two-ways : Netlist
 two-ways = record { variables = mask ∷ mask ∷ mask ∷ []; nodes = input 4 ∷ input 3 ∷ input 2 ∷ input 5 ∷ AND 0 1 ∷ OR 2 3 ∷ XOR 4 5 ∷ [] }
 
--- Set 1 is the difference of 3 and 2, and of 4 and 5. Rule 6 takes the lower-numbered 3, though 4 stands first in the family and has fewer variables.
+-- Set 1 is the difference of 3 and 2, and of 4 and 5. Rule 6 takes the lower-numbered 3, though 4 stands first in
+-- the family and has fewer variables.
 pub lowest-taken : (chosen (families two-ways) glitch (XOR 4 5) 1 ≡ way 6 (claim 4 glitch 3 ∷ claim 5 glitch 2 ∷ []))
     × (derivation two-ways 6 glitch 1 ≡ step 6 glitch 6 1 ∷ step 4 glitch 5 3 ∷ step 1 glitch 1 3 ∷ step 5 glitch 4 2 ∷ step 2 glitch 1 2 ∷ [])
     × (derivation two-ways 6 settled 1 ≡ step 6 settled 6 1 ∷ step 4 settled 5 3 ∷ step 1 settled 1 3 ∷ step 5 settled 4 2 ∷ step 2 settled 1 2 ∷ [])

@@ -1,4 +1,5 @@
--- Which rule is the first that works goes by which sets the operands' families hold, and not by the order of their lists. Assumes nothing.
+-- Which rule is the first that works goes by which sets the operands' families hold, and not by the order
+-- of their lists. Assumes nothing.
 use Prim.Native.Nat.{ℕ, _<_}
 use mathlib.Core.Path.{_≡_, refl}
 use mathlib.Core.List.{List, []}

@@ -1,6 +1,6 @@
--- How a derivation unfolds. A node's families are the rule over the whole table; what the first rule that works needs is below the node and in the
--- operands' families; so the derivation is that step, and then the derivations of what it needs. By the kinds of node, and for a gate by the rules
--- in their order. Assumes nothing.
+-- How a derivation unfolds. A node's families are the rule over the whole table; what the first rule that works needs
+-- is below the node and in the operands' families; so the derivation is that step, and then the derivations of what it
+-- needs. By the kinds of node, and for a gate by the rules in their order. Assumes nothing.
 use Prim.Native.Nat.{ℕ, _<_}
 use mathlib.Core.Path.{_≡_, refl, ap, _∙_, subst}
 use mathlib.Core.Logic.{⊎-elim}

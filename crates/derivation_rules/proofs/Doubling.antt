@@ -1,5 +1,6 @@
--- A derivation can have more steps than could ever be written. In a chain of gates, each XOR of the node before it with itself, the steps of the
--- empty set double at each gate: behind a gate's own step stand all of the operand's, twice. Assumes nothing.
+-- A derivation can have more steps than could ever be written. In a chain of gates, each XOR of the node before
+-- it with itself, the steps of the empty set double at each gate: behind a gate's own step stand all of the
+-- operand's, twice. Assumes nothing.
 use Prim.Native.Nat.{ℕ, zero, suc, _+_, _^_, _≤_, _<_}
 use mathlib.Core.Path.{_≡_, refl, ap}
 use mathlib.Core.Bool.{Bool, true}
@@ -74,7 +75,8 @@ module _ (gates : ℕ) (few : gates < most-nodes) where
   unfolding familiesAt claimed wayOfBoth chosen
   needs-empty j h = let t = chain-holds j (omega arith) in rw (gate-is gates j h .same, lowest-empty)
 
-  -- The empty set's derivation at node i has 2 to the power i + 1 steps, less one: twice those of the node before, and one more.
+  -- The empty set's derivation at node i has 2 to the power i + 1 steps, less one: twice those of
+  -- the node before, and one more.
   pub doubled : (i : ℕ) → i ≤ gates → length (derivation (chain gates) i settled 0) + 1 ≡ 2 ^ (i + 1)
   unfolding explained chosen
   doubled zero h = rw (derivation-unfolds (chain gates) formed 0 (omega arith) settled 0 (chain-holds 0 h))
@@ -90,6 +92,7 @@ module _ (gates : ℕ) (few : gates < most-nodes) where
       let over : room < length (derived (chain gates) i 0 0) = omega (arith, doubled i h, pow-mono {i = 10} {j = i + 1} (omega arith)) in
       rw (holds, lt-ltb _ _ over)
 
--- So it is at the last of 199 gates, as many as a netlist may have behind an input: 2 to the power 200 steps, less one, are refused.
+-- So it is at the last of 199 gates, as many as a netlist may have behind an input: 2 to the power 200
+-- steps, less one, are refused.
 pub too-many : (room : ℕ) → room ≤ most-steps → explainable 199 0 0 room (chain 199) ≡ refused 15 room
 too-many room h = from-ninth 199 (omega arith) 199 room (omega arith) (omega arith) h

@@ -1,6 +1,6 @@
--- A set's derivation follows from the rules, and a set for which steps follow is in the family: by recursion over the nodes, and over the steps.
--- Of all steps that follow for the set, none begin with a lower rule than its derivation, which by rule 6 goes on with the first operand's lowest set
--- that works. Assumes nothing.
+-- A set's derivation follows from the rules, and a set for which steps follow is in the family: by recursion over the
+-- nodes, and over the steps. Of all steps that follow for the set, none begin with a lower rule than its derivation,
+-- which by rule 6 goes on with the first operand's lowest set that works. Assumes nothing.
 use Prim.Native.Nat.{ℕ, zero, suc, _*_, _≤_, _<_}
 use mathlib.Core.Path.{_≡_, refl, sym, ap}
 use mathlib.Core.Logic.{_⊎_, inl, inr, ⊎-elim}
@@ -142,7 +142,8 @@ module _ (n : Netlist) (formed : WellFormed n) where
   pub first-rule : {i : ℕ} {ℓ : Layer} {A : ℕ} {s : Step} {below : List Step} → Follows n i ℓ A (s ∷ below) → chosenAt n i ℓ A .rule ≤ s .rule
   first-rule f = begins f
 
-  -- Where rule 6 is chosen, the first operand's set is the lowest that works: no steps for a lower one and for what is left of the set follow.
+  -- Where rule 6 is chosen, the first operand's set is the lowest that works: no steps for a lower one and
+  -- for what is left of the set follow.
   pub lowest-first-set : {i a b : ℕ} {ℓ : Layer} {A B C : ℕ} {firsts seconds : List Step}
       → Gate n i a b → Follows n a ℓ B firsts → Follows n b ℓ C seconds → bitXor B C ≡ A → chosenAt n i ℓ A .rule ≡ 6
       → (D : ℕ) × (chosenAt n i ℓ A .needs ≡ claim a ℓ D ∷ claim b ℓ (bitXor A D) ∷ []) × (D ≤ B)

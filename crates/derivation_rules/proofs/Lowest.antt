@@ -1,5 +1,6 @@
--- Laws of the lowest set of a family that passes a test: it is no higher than any set that does, and where there is one it is such a set. So it is
--- told by which sets there are and which of them pass, and not by the order of a list. Assumes nothing.
+-- Laws of the lowest set of a family that passes a test: it is no higher than any set that does, and where
+-- there is one it is such a set. So it is told by which sets there are and which of them pass, and not by the
+-- order of a list. Assumes nothing.
 use Prim.Native.Nat.{ℕ, _≤_, _<_}
 use mathlib.Core.Path.{_≡_, refl}
 use mathlib.Core.Bool.{Bool, true, false}

@@ -1,5 +1,6 @@
--- Steps that do not follow from the rules, so that what is said of derivations is not empty: none at all for a set that is not in the family, and
--- not those of a derivation by another rule or in another order. And slices that are no certificate, beside one that is. Assumes nothing.
+-- Steps that do not follow from the rules, so that what is said of derivations is not empty: none at all
+-- for a set that is not in the family, and not those of a derivation by another rule or in another order.
+-- And slices that are no certificate, beside one that is. Assumes nothing.
 use Prim.Native.Nat.{ℕ}
 use mathlib.Core.Path.{_≡_, refl, ap, subst, _∙_}
 use mathlib.Core.List.{List, [], _∷_}

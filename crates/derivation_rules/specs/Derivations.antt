@@ -1,6 +1,7 @@
--- Change request A5, "How the set got there": the steps by which document 01's rules put a set into a family. First what a step is and what it is
--- for steps to follow from the rules, which knows nothing of search; then the derivation, with the order in which rules are tried; then the
--- refusals and the reply. Families and rows of checks are document 01's. Assumes nothing.
+-- Change request A5, "How the set got there": the steps by which document 01's rules put a set into a family.
+-- First what a step is and what it is for steps to follow from the rules, which knows nothing of search;
+-- then the derivation, with the order in which rules are tried; then the refusals and the reply.
+-- Families and rows of checks are document 01's. Assumes nothing.
 use Prim.Native.Nat.{ℕ, zero, suc, _*_, _/_, _%_, _<_}
 use mathlib.Core.Path.{_≡_}
 use mathlib.Core.Bool.{Bool, not, cond, _&&_}
@@ -65,19 +66,21 @@ pub data Gate (n : Netlist) (i a b : ℕ) : Type 0 where
   and-gate : Is n i (AND a b) → Gate n i a b
   or-gate : Is n i (OR a b) → Gate n i a b
 
--- and one whose family has the empty set and those of its operands too: AND and OR in both layers, XOR in the glitch layer
+-- and one whose family has the empty set and those of its operands too: AND and OR in both layers,
+-- XOR in the glitch layer
 pub data Spreading (n : Netlist) (i : ℕ) : Layer → (a b : ℕ) → Type 0 where
   xor-glitch : {a b : ℕ} → Is n i (XOR a b) → Spreading n i glitch a b
   and-either : {ℓ : Layer} {a b : ℕ} → Is n i (AND a b) → Spreading n i ℓ a b
   or-either : {ℓ : Layer} {a b : ℕ} → Is n i (OR a b) → Spreading n i ℓ a b
 
--- Steps that follow from the rules, for a set in the family of node i in a layer: a step that document 01 allows there, and behind it steps that
--- follow for just the operands that it needs, the first operand's first.
+-- Steps that follow from the rules, for a set in the family of node i in a layer: a step that document 01 allows there,
+-- and behind it steps that follow for just the operands that it needs, the first operand's first.
 pub data Follows (n : Netlist) : (i : ℕ) (ℓ : Layer) (set : ℕ) → List Step → Type 0 where
   -- rule 1: an input's own set, in both layers
   own : {i : ℕ} {ℓ : Layer} {A : ℕ} → Is n i (input A) → Follows n i ℓ A (step i ℓ 1 A ∷ [])
   -- rule 2: the same set is in the family of a NOT's operand in its layer; of a register's operand in the settled layer
-  inverted : {i a : ℕ} {ℓ : Layer} {A : ℕ} {below : List Step} → Is n i (NOT a) → Follows n a ℓ A below → Follows n i ℓ A (step i ℓ 2 A ∷ below)
+  inverted : {i a : ℕ} {ℓ : Layer} {A : ℕ} {below : List Step} → Is n i (NOT a)
+      → Follows n a ℓ A below → Follows n i ℓ A (step i ℓ 2 A ∷ below)
   stored : {i a : ℕ} {ℓ : Layer} {A : ℕ} {below : List Step} → Is n i (register a) → Follows n a settled A below
       → Follows n i ℓ A (step i ℓ 2 A ∷ below)
   -- rule 3: the empty set
@@ -89,7 +92,8 @@ pub data Follows (n : Netlist) : (i : ℕ) (ℓ : Layer) (set : ℕ) → List St
   second : {i a b : ℕ} {ℓ : Layer} {A : ℕ} {below : List Step} → Spreading n i ℓ a b → Follows n b ℓ A below
       → Follows n i ℓ A (step i ℓ 5 A ∷ below)
   -- rule 6: the symmetric difference of a set of the first operand and one of the second
-  both : {i a b : ℕ} {ℓ : Layer} {B C : ℕ} {firsts seconds : List Step} → Gate n i a b → Follows n a ℓ B firsts → Follows n b ℓ C seconds
+  both : {i a b : ℕ} {ℓ : Layer} {B C : ℕ} {firsts seconds : List Step} → Gate n i a b
+      → Follows n a ℓ B firsts → Follows n b ℓ C seconds
       → Follows n i ℓ (bitXor B C) (step i ℓ 6 (bitXor B C) ∷ firsts ++ seconds)
 
 -- ---- the derivation of a set that is in the family
@@ -134,8 +138,8 @@ wayOfSpread Fs ℓ a b A =
     (cond (claimed Fs (claim b ℓ A)) (way 5 (claim b ℓ A ∷ []))
     (wayOfBoth Fs ℓ a b A)))
 
--- The first rule that works, of those that document 01 gives the node in the layer, where the families are those of the lower nodes and A is a set
--- of the node's own.
+-- The first rule that works, of those that document 01 gives the node in the layer, where the families are those of the
+-- lower nodes and A is a set of the node's own.
 unfoldable pub chosen : List Families → Layer → Cell → (A : ℕ) → Way
 chosen Fs ℓ (input s) A = way 1 []
 chosen Fs settled (NOT a) A = way 2 (claim a settled A ∷ [])
@@ -206,9 +210,11 @@ stepsReply file i k A bytes = andThen (derivable file i k A (fitting bytes)) (λ
 
 -- the slice at exit, which held `before`: the steps, and beyond them what stood there; on a refusal what stood there
 unfoldable pub stepsAfter : List ℕ → (node layer set : ℕ) → (before : List ℕ) → List ℕ
-stepsAfter file i k A before = filled (λ n. stepsOut (derived n i k A)) (derivable file i k A (fitting (length before))) before
+stepsAfter file i k A before =
+    filled (λ n. stepsOut (derived n i k A)) (derivable file i k A (fitting (length before))) before
 
--- A certificate: netlist bytes, and a slice whose first steps follow from the rules for a set of a node's family in a layer.
+-- A certificate: netlist bytes, and a slice whose first steps follow from the rules for a set of
+-- a node's family in a layer.
 pub record Certificate (file : List ℕ) (node layer set count : ℕ) (slice : List ℕ) : Type 0 where
   pub netlist : Netlist
   pub is : read file ≡ answered netlist

@@ -1,4 +1,5 @@
--- The layers by their numbers, and what the work bytes tell of a claim: an operand's family in a layer is part 2 × node + layer. Assumes nothing.
+-- The layers by their numbers, and what the work bytes tell of a claim: an operand's family in a layer is part
+-- 2 × node + layer. Assumes nothing.
 use Prim.Native.Nat.{ℕ, zero, suc, _+_, _*_, _<_}
 use mathlib.Core.Path.{_≡_, refl, sym, ap, _∙_}
 use mathlib.Core.List.{List}

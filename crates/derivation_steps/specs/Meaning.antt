@@ -1,5 +1,5 @@
--- What the types of this crate mean: a claim, what a step needs, and a rule with what it needs; and which numbers can be looked up. Cited by the
--- contracts. Assumes nothing.
+-- What the types of this crate mean: a claim, what a step needs, and a rule with what it needs; and which numbers can
+-- be looked up. Cited by the contracts. Assumes nothing.
 use Prim.Native.Nat.{ℕ, _≤_, _<_}
 use mathlib.Core.List.{List, [], _∷_}
 use lib.ListN.{length}
@@ -28,7 +28,8 @@ Layered Nothing = Unit
 Layered (One c) = c .layer < 2
 Layered (Two c d) = (c .layer < 2) × (d .layer < 2)
 
--- work bytes that have room for the families of every netlist, two operands that are numbers of nodes, one of the two layers, and the number of a set
+-- work bytes that have room for the families of every netlist, two operands that are numbers of nodes, one of the
+-- two layers, and the number of a set
 abbrev pub InRange : (work : List ℕ) (layer first second set : ℕ) → Type 0
 InRange work layer first second set =
     (most-work ≤ length work) × (first < most-nodes) × (second < most-nodes) × (layer < 2) × (set < most-sets)

@@ -1,4 +1,6 @@
-// One step of a derivation: the first rule that works for a set of a node's family, what it needs of the operands, and the step's five bytes.
+// One step of a derivation: the first rule that works for a set of a node's family, what it needs of the operands, and
+// the step's five bytes. Reads work bytes that hold the families, and writes to the slice of steps that it is given.
+// Used by `derivations` and the desk.
 ghost use mathlib.Core.Path.{_≡_};
 ghost use mathlib.Core.Bool.{_&&_};
 ghost use Prim.Native.Nat.{_+_, _*_, _<_, _≤_};
@@ -10,7 +12,8 @@ ghost use Rattle.rules.specs.Checks.{most-work};
 ghost use Rattle.rules.specs.Slices.{entry};
 ghost use Rattle.listing_lines.specs.Text.{Appended};
 ghost use Rattle.nodes.specs.Work.{soFar, Placed};
-ghost use Rattle.derivation_rules.specs.Derivations.{familyIn, step, stepBytes, step-size, claim, claimed, lowestSet, wayOfBoth, wayOfSpread, chosen, layerOf};
+ghost use Rattle.derivation_rules.specs.Derivations.{familyIn, step, stepBytes, step-size, claim, claimed};
+ghost use Rattle.derivation_rules.specs.Derivations.{lowestSet, wayOfBoth, wayOfSpread, chosen, layerOf};
 ghost use Rattle.derivation_steps.specs.Meaning.{claimOf, wayOf, Layered, InRange};
 use families::SETS;
 use rules::Node;
@@ -18,7 +21,7 @@ use rules::Node;
 // How many bytes a step has.
 pub const STEP: usize = 5;
 
-// That a set is in a node's family in a layer: 0 for settled signals, 1 for glitching ones.
+// The claim that a set is in a node's family in a layer: 0 for settled signals, 1 for glitching ones.
 pub struct Claim {
     pub node: usize,
     pub layer: usize,
@@ -32,7 +35,7 @@ pub enum Needs {
     Two(Claim, Claim),
 }
 
-// A rule by its number, and what it needs.
+// A rule by its number, from 1 to 6, and what it needs of the operands.
 pub struct Way {
     pub rule: u8,
     pub needs: Needs,
@@ -40,13 +43,15 @@ pub struct Way {
 
 // Whether a claim is true, by work bytes that hold the families.
 pub fn has(work: &[u8], claim: Claim) -> bool
-    requires { ⌜ (most-work ≤ length (now work)) × (claim .node < most-nodes) × (claim .layer < 2) × (claim .set < most-sets) ⌝ }
+    requires { ⌜ (most-work ≤ length (now work))
+        × (claim .node < most-nodes) × (claim .layer < 2) × (claim .set < most-sets) ⌝ }
     ensures { λ r. ⌜ r ≡ claimed (soFar (now (work .entry)) most-nodes) (claimOf claim) ⌝ }
 {
     families::holds(work, 2 * claim.node + claim.layer, claim.set)
 }
 
-// Whether a set works in rule 6: the first operand has it, and what is left of `set` the second one.
+// Whether `candidate` works in rule 6: it is in the first operand's family, and its symmetric difference
+// with `set` in the second one's.
 fn works(
     work: &[u8],
     layer: usize,
@@ -75,7 +80,7 @@ fn works(
     has(work, other)
 }
 
-// The lowest set of the first operand that works; `SETS` where none does.
+// The lowest-numbered set of the first operand that works in rule 6; `SETS` where none does.
 fn lowest_set(work: &[u8], layer: usize, first: usize, second: usize, set: usize) -> usize
     requires { ⌜ InRange (now work) layer first second set ⌝ }
     ensures { λ r. ⌜ r ≡ lowestSet
@@ -92,7 +97,7 @@ fn lowest_set(work: &[u8], layer: usize, first: usize, second: usize, set: usize
     lowest
 }
 
-// Rule 6: both operands, with the first one's lowest set that works.
+// The way by rule 6: both operands, with the first one's lowest-numbered set that works.
 fn way_of_both(work: &[u8], layer: usize, first: usize, second: usize, set: usize) -> Way
     requires { ⌜ InRange (now work) layer first second set ⌝ }
     ensures { λ r. ⌜ wayOf r ≡ wayOfBoth (soFar (now (work .entry)) most-nodes) (layerOf layer) first second set ⌝ }
@@ -116,7 +121,8 @@ fn way_of_both(work: &[u8], layer: usize, first: usize, second: usize, set: usiz
     }
 }
 
-// Rules 3 to 6, for AND and OR, and for XOR in the glitch layer: the empty set, the first operand alone, the second alone, both.
+// The way for AND and OR, and for XOR in the glitch layer: rule 3, the empty set; 4, the first operand alone;
+// 5, the second alone; 6, both.
 fn way_of_spread(work: &[u8], layer: usize, first: usize, second: usize, set: usize) -> Way
     requires { ⌜ InRange (now work) layer first second set ⌝ }
     ensures { λ r. ⌜ wayOf r ≡ wayOfSpread (soFar (now (work .entry)) most-nodes) (layerOf layer) first second set ⌝ }
@@ -153,7 +159,7 @@ fn way_of_spread(work: &[u8], layer: usize, first: usize, second: usize, set: us
     way_of_both(work, layer, first, second, set)
 }
 
-// Rules 2 and 3, for NOT: the operand's set; else, in the glitch layer, the empty set.
+// The way for NOT: rule 2, the operand's set; else, in the glitch layer, rule 3, the empty set.
 fn way_of_not(work: &[u8], layer: usize, operand: usize, set: usize) -> Way
     requires { ⌜ (most-work ≤ length (now work)) × (operand < most-nodes) × (layer < 2) × (set < most-sets) ⌝ }
     ensures { λ r. ⌜ wayOf r ≡ chosen (soFar (now (work .entry)) most-nodes) (layerOf layer) (NOT operand) set ⌝ }
@@ -182,7 +188,7 @@ fn way_of_not(work: &[u8], layer: usize, operand: usize, set: usize) -> Way
     }
 }
 
-// For XOR: both operands in the settled layer, as for AND in the glitch layer.
+// The way for XOR: rule 6, both operands, in the settled layer, and in the glitch layer as for AND.
 fn way_of_xor(work: &[u8], layer: usize, first: usize, second: usize, set: usize) -> Way
     requires { ⌜ InRange (now work) layer first second set ⌝ }
     ensures { λ r. ⌜ wayOf r ≡ chosen (soFar (now (work .entry)) most-nodes) (layerOf layer) (XOR first second) set ⌝ }
@@ -194,7 +200,9 @@ fn way_of_xor(work: &[u8], layer: usize, first: usize, second: usize, set: usize
     way_of_spread(work, layer, first, second, set)
 }
 
-// The first rule that works for a set of a node's family, and what it needs of the operands, whose families the work bytes hold.
+// The first rule that works for a set of a node's family in a layer, in the order of request A5, and what it needs
+// of the operands, whose families the work bytes hold. What a set of the family needs is true (`needs-held` of
+// `derivation_rules/proofs/Derivation`).
 pub fn choose(work: &[u8], node: Node, layer: usize, set: usize) -> Way
     requires { ⌜ (most-work ≤ length (now work)) × Placed most-nodes node × (layer < 2) × (set < most-sets) ⌝ }
     ensures { λ r. ⌜ ((cell : Cell) → node ≡ entry cell →
@@ -224,8 +232,10 @@ pub fn choose(work: &[u8], node: Node, layer: usize, set: usize) -> Way
 }
 
 // Writes a step behind the first `at` steps of a slice: five bytes, node, layer, rule, set low byte first.
+// All other bytes are as they were.
 pub fn put_step(steps: &mut [u8], at: usize, claim: Claim, rule: u8)
-    requires { ⌜ (step-size * at + step-size ≤ length (now steps)) × (claim .node < most-nodes) × (claim .layer < 2) × (claim .set < most-sets) ⌝ }
+    requires { ⌜ (step-size * at + step-size ≤ length (now steps))
+        × (claim .node < most-nodes) × (claim .layer < 2) × (claim .set < most-sets) ⌝ }
     ensures { λ _. ⌜ Appended (now (steps .entry)) (now (steps .exit)) (step-size * at) (step-size * (at + 1))
         (stepBytes (step (claim .node) (layerOf (claim .layer)) rule (claim .set))) ⌝ }
 {

@@ -3,51 +3,57 @@ ghost use Prim.Native.Nat.{_≤_};
 ghost use Rattle.rules.specs.Listing.{most-text};
 use crate::say::say;
 use crate::say::say_first;
-use crate::say::say_refused;
 use desk_text::ROOM;
+use netlists::Netlist;
+use rules::Answer;
+use rules::MOST_WORK;
 use rules::QueryOutcome;
 
-// Document 01's listing.
-pub fn list(bytes: &[u8]) {
+// Prints document 01's listing of a block whose answer is at hand, and whose families are in the work bytes.
+pub fn list_held(answer: Answer, netlist: Netlist, work: &[u8; MOST_WORK]) {
     let mut text = [0u8; ROOM];
-    let count = listing_text::telgouin_listing(bytes, &mut text);
+    let count = listing_text::listing_of(answer, netlist, work, &mut text);
     say_first(&text, count);
 }
 
-// The line of a query that is answered with this text, or its refusal.
-fn say_outcome(outcome: QueryOutcome, text: &[u8; ROOM], count: usize)
+// Prints the line of a query that is answered with this text; of one that is refused nothing.
+fn say_answered(outcome: QueryOutcome, text: &[u8; ROOM], count: usize)
     requires { ⌜ count ≤ most-text ⌝ }
 {
-    match outcome {
-        QueryOutcome::Refused(refusal) => say_refused(refusal, 0),
-        QueryOutcome::Answered => {
-            say_first(text, count);
-            say(b"\n");
-        }
+    if let QueryOutcome::Answered = outcome {
+        say_first(text, count);
+        say(b"\n");
     }
 }
 
-pub fn value(bytes: &[u8], node: usize, assignment: usize) {
+// Prints the settled value of a node under an assignment. A refusal is left to the caller to print, who knows the lines of the block's text; so it is
+// by the two below.
+pub fn value(bytes: &[u8], node: usize, assignment: usize) -> QueryOutcome {
     let reply = queries::settled_value(bytes, node, assignment);
     let outcome = reply.outcome;
     let mut text = [0u8; ROOM];
     let count = desk_text::value_fields(&mut text, reply.value);
-    say_outcome(outcome, &text, count);
+    say_answered(outcome, &text, count);
+    outcome
 }
 
-pub fn feeding(bytes: &[u8], node: usize) {
+// Prints the inputs and registers that feed a node through gates alone.
+pub fn feeding(bytes: &[u8], node: usize) -> QueryOutcome {
     let reply = queries::feeding_points(bytes, node);
     let outcome = reply.outcome;
     let marks = reply.marks;
     let mut text = [0u8; ROOM];
     let count = desk_text::feeding_fields(&mut text, marks);
-    say_outcome(outcome, &text, count);
+    say_answered(outcome, &text, count);
+    outcome
 }
 
-pub fn member(bytes: &[u8], node: usize, set: usize) {
+// Prints whether a set is in each of a node's two families.
+pub fn member(bytes: &[u8], node: usize, set: usize) -> QueryOutcome {
     let reply = queries::memberships(bytes, node, set);
     let outcome = reply.outcome;
     let mut text = [0u8; ROOM];
     let count = desk_text::member_fields(&mut text, reply.settled, reply.glitch);
-    say_outcome(outcome, &text, count);
+    say_answered(outcome, &text, count);
+    outcome
 }

@@ -1,6 +1,7 @@
 // `help`: what the program takes and prints, with an example of each command.
 use crate::say::say;
 
+// Prints all of it.
 pub fn help() {
     say(
         b"./telgouin COMMAND FILE ..
@@ -55,7 +56,7 @@ edit, which reads edits there).
 
 A set is numbered by the sum of 2 to the power v over its variables v. Fields of a line are parted by one blank;
 behind ` # ` stand words for people, with a set as its variables: s0 a secret, m1 a mask, p2 a public.
-A block that breaks the record rules gets `refused NUMBER PLACE` from every command, bad use a line from `test_expected` on.
+A block that breaks the record rules gets `refused NUMBER PLACE` from every command, bad use a line from `expected` on.
 
 The exit status goes by the command's own closing line and by how the program ended, together:
 

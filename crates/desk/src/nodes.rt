@@ -1,11 +1,12 @@
 // Nodes of a netlist, in words.
 ghost use mathlib.Core.Path.{_≡_};
 ghost use Prim.Native.Nat.{_<_, _≤_};
-ghost use lib.ListN.{length, getD};
-ghost use Rattle.rules.specs.Records.{Cell, kindOf, operands, most-nodes};
+ghost use lib.ListN.{getD};
+ghost use Rattle.rules.specs.Records.{most-nodes};
 ghost use Rattle.netlists.specs.Netlists.{blank};
 use crate::say::say;
 use crate::say::say_field;
+use listing_lines::operands_of;
 use netlists::Netlist;
 use rules::MOST_NODES;
 use rules::Node;
@@ -25,27 +26,12 @@ pub fn node_of(netlist: Netlist, i: usize) -> Node
     }
 }
 
-// How many operands a kind has; a kind that is no node's has none.
-pub fn operands_of(kind: u8) -> usize
-    ensures { λ r. ⌜ ((cell : Cell) → kind ≡ kindOf cell → r ≡ length (operands cell)) ⌝ }
-    ensures none { λ r. ⌜ (kind < 2 → r ≡ 0) × (7 < kind → r ≡ 0) ⌝ }
-{
-    match kind {
-        3 | 7 => 1,
-        4 | 5 | 6 => 2,
-        _ => 0,
-    }
-}
-
+// The name of a kind.
 pub fn say_kind(kind: u8) {
-    match kind {
-        2 => say(b"in"),
-        3 => say(b"not"),
-        4 => say(b"xor"),
-        5 => say(b"and"),
-        6 => say(b"or"),
-        _ => say(b"reg"),
-    }
+    let name = listing_lines::name_of(kind);
+    let letters = name.letters;
+    let size = name.size;
+    say(&letters[..size]);
 }
 
 // A node in words: its kind and its operands.

@@ -1,22 +1,22 @@
 // `picture`: the netlist as a graph in the dot language.
 ghost use Prim.Native.Nat.{_≤_};
 ghost use Rattle.derivation_rules.specs.Derivations.{most-steps};
-use crate::nodes::operands_of;
+ghost use Rattle.derivations.specs.Written.{Known};
 use crate::nodes::say_kind;
 use crate::say::say;
 use crate::say::say_number;
-use crate::say::say_refused;
 use crate::say::say_set;
 use crate::steps::step_at;
 use derivations::Derived;
 use derivations::MOST_BYTES;
+use listing_lines::operands_of;
 use marks::Marks;
 use netlists::Netlist;
+use rules::Answer;
 use rules::Half;
 use rules::MOST_NODES;
 use rules::MOST_WORK;
 use rules::Node;
-use rules::Reply;
 use std::num::wrapping_add_usize;
 
 // By which operands of each node the derivation goes; of one that is refused the number and the place, or 0.
@@ -56,7 +56,7 @@ fn with_step(path: Path, node: usize, rule: u8) -> Path {
     longer
 }
 
-// The path of so many steps.
+// The path of the first `count` steps.
 fn path_of(steps: &[u8; MOST_BYTES], count: usize) -> Path
     requires { ⌜ count ≤ most-steps ⌝ }
 {
@@ -70,13 +70,16 @@ fn path_of(steps: &[u8; MOST_BYTES], count: usize) -> Path
     path
 }
 
-// The path of the derivation of the first glitch suspect.
-fn suspect_path(bytes: &[u8], glitch: Half) -> Path {
+// The path of the derivation of the first glitch suspect, in a netlist whose families are in the work bytes; none where no node is suspect, or where the
+// derivation is refused.
+fn suspect_path(netlist: Netlist, work: &[u8; MOST_WORK], glitch: Half) -> Path
+    requires { ⌜ Known netlist (now work) ⌝ }
+{
     let Half::Suspect(node, set) = glitch else {
         return no_path(0, 0);
     };
     let mut steps = [0u8; MOST_BYTES];
-    match derivations::derive(bytes, node, 1, set, &mut steps) {
+    match derivations::derive_held(netlist, work, node, 1, set, &mut steps) {
         Derived::Steps(count) => path_of(&steps, count),
         Derived::Refused(refusal) => {
             no_path(refusals::number_of(refusal), refusals::place_of(refusal))
@@ -84,7 +87,7 @@ fn suspect_path(bytes: &[u8], glitch: Half) -> Path {
     }
 }
 
-// That there is no path, for whoever reads the graph's text.
+// Says why there is no path where its derivation is refused, to whoever reads the graph's text.
 fn say_no_path(number: usize, place: usize) {
     if number > 0 {
         say(b"    // no path: refused ");
@@ -97,7 +100,7 @@ fn say_no_path(number: usize, place: usize) {
 
 // ---- nodes and their operands
 
-// A node's name.
+// A node's name in the graph.
 fn say_name(i: usize) {
     say(b"n");
     say_number(i);
@@ -146,7 +149,7 @@ fn say_node_line(netlist: Netlist, i: usize, node: Node, settled: u16, glitch: u
     say(b"]\n");
 }
 
-// The line of an operand.
+// The line of an operand: an edge, thick where the path goes by it.
 fn say_operand(from: u8, i: usize, thick: bool) {
     say(b"    ");
     say_name(from as usize);
@@ -158,6 +161,7 @@ fn say_operand(from: u8, i: usize, thick: bool) {
     say(b"\n");
 }
 
+// The lines of a node's operands.
 fn say_operands(i: usize, node: Node, first: bool, second: bool) {
     let operands = operands_of(node.kind);
     if operands > 0 {
@@ -168,6 +172,7 @@ fn say_operands(i: usize, node: Node, first: bool, second: bool) {
     }
 }
 
+// The lines of all nodes, each with those of its operands.
 fn say_nodes(netlist: Netlist, marks: Marks, path: Path) {
     let mut i = 0;
     while i < MOST_NODES {
@@ -196,6 +201,7 @@ fn stage_of(node: Node, stages: [usize; MOST_NODES]) -> usize {
     }
 }
 
+// The stage of a lower node; 0 for a number that is no node's.
 fn stage_at(stages: [usize; MOST_NODES], i: u8) -> usize {
     let at = i as usize;
     if at < MOST_NODES { stages[at] } else { 0 }
@@ -244,7 +250,7 @@ fn rank_size(netlist: Netlist, stages: [usize; MOST_NODES], kind: u8, stage: usi
     size
 }
 
-// The nodes of a rank.
+// The nodes of a rank, and its end.
 fn say_rank(netlist: Netlist, stages: [usize; MOST_NODES], kind: u8, stage: usize) {
     let mut i = 0;
     while i < MOST_NODES {
@@ -270,6 +276,7 @@ fn say_register_ranks(netlist: Netlist, stages: [usize; MOST_NODES]) {
     }
 }
 
+// The ranks: one of the inputs, and one of each stage's registers.
 fn say_ranks(netlist: Netlist) {
     let stages = stages_of(netlist);
     if rank_size(netlist, stages, 2, 0) > 0 {
@@ -281,26 +288,16 @@ fn say_ranks(netlist: Netlist) {
 
 // ---- the graph
 
-fn draw(bytes: &[u8], netlist: Netlist, marks: Marks, glitch: Half) {
+// Prints the graph of a netlist that got this answer and these marks, and whose families are in the work bytes.
+pub fn picture(answer: Answer, netlist: Netlist, marks: Marks, work: &[u8; MOST_WORK])
+    requires { ⌜ Known netlist (now work) ⌝ }
+{
+    let glitch = answer.glitch;
     say(b"digraph block {\n    rankdir=LR\n");
     say(b"    node [fontname=\"Helvetica\" fontsize=12]\n    edge [arrowsize=0.7]\n");
-    let path = suspect_path(bytes, glitch);
+    let path = suspect_path(netlist, work, glitch);
     say_nodes(netlist, marks, path);
     say_no_path(path.number, path.place);
     say_ranks(netlist);
     say(b"}\n");
-}
-
-pub fn picture(bytes: &[u8], netlist: Netlist) {
-    let mut work = [0u8; MOST_WORK];
-    let examined = checker::examine(bytes, MOST_NODES, &mut work);
-    let reply = examined.reply;
-    let marks = examined.marks;
-    match reply {
-        Reply::Refused(refusal) => say_refused(refusal, 0),
-        Reply::Answered(answer) => {
-            let glitch = answer.glitch;
-            draw(bytes, netlist, marks, glitch);
-        }
-    }
 }

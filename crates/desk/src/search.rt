@@ -1,22 +1,25 @@
 // `pairs`: the search over pairs of nodes, which tells how far it is where standard error is a terminal.
 ghost use mathlib.Core.Path.{_≡_};
+ghost use mathlib.Core.List.{List};
+ghost use Prim.Native.Nat.{ℕ};
 ghost use lib.ListN.{length};
 ghost use Rattle.rules.specs.Records.{most-nodes};
 ghost use Rattle.pair_search.specs.Pairs.{pairsReply};
 ghost use Rattle.pairs.specs.Meaning.{pairsReplyOf};
+ghost use Rattle.desk.specs.Examined.{Leaves, Seen};
 use crate::say::put_first;
 use crate::say::say;
 use crate::say::say_answer;
 use crate::say::say_first;
 use crate::say::say_refused;
 use crate::say::say_set;
+use checker::Examined;
 use desk_text::ROOM;
 use libc::STDERR_FILENO;
 use pair_search::Found;
 use pair_search::Search;
 use pairs::PairsReply;
 use pairs::Progress;
-use rules::MOST_NODES;
 use rules::MOST_VARIABLES;
 use rules::MOST_WORK;
 
@@ -25,6 +28,7 @@ const FIRST: usize = 32;
 
 // ---- how far it is
 
+// Writes to standard error.
 fn tell(text: &[u8]) {
     io::write_all(STDERR_FILENO, text);
 }
@@ -39,6 +43,7 @@ fn tell_progress(shown: bool, progress: Progress) {
     }
 }
 
+// Blanks what was told, before the answer is printed.
 fn wipe_progress(shown: bool) {
     if shown {
         tell(b"\r                                                            \r");
@@ -47,11 +52,13 @@ fn wipe_progress(shown: bool) {
 
 // ---- the search
 
-// What `pairs::check_pairs` replies, with slices that hold every netlist. After each node it tells how far it is, if that is to be shown.
-fn searched(bytes: &[u8], work: &mut [u8], limit: usize, shown: bool) -> PairsReply
-    ensures { λ r. ⌜ pairsReplyOf r ≡ pairsReply (now (bytes .entry)) most-nodes (length (now (work .entry))) limit ⌝ }
+// What `pairs::check_pairs` replies to the netlist bytes that were examined, with slices that hold every netlist. After each node it tells how far it
+// is, if that is to be shown.
+fn searched(examined: Examined, work: &[u8; MOST_WORK], limit: usize, shown: bool) -> PairsReply
+    requires { ⌜ Seen examined (now work) ⌝ }
+    ensures { λ r. ⌜ ((bytes before : List ℕ) → Leaves bytes before examined (now (work .entry)) →
+        pairsReplyOf r ≡ pairsReply bytes most-nodes (length before) limit) ⌝ }
 {
-    let examined = checker::examine(bytes, MOST_NODES, work);
     let netlist = examined.netlist;
     let mut progress = pairs::begin_pairs(examined);
     while !pairs::is_done(progress) {
@@ -76,11 +83,14 @@ fn say_search(search: Search, classes: [u8; MOST_VARIABLES]) {
     say(b"\n");
 }
 
-// Of a block whose variables have these classes.
-pub fn pairs(bytes: &[u8], classes: [u8; MOST_VARIABLES], limit: usize) {
+// Searches the pairs of nodes of a block that was examined, at most `limit` of them, and prints its answer and what was found.
+pub fn pairs(examined: Examined, work: &[u8; MOST_WORK], limit: usize)
+    requires { ⌜ Seen examined (now work) ⌝ }
+{
     let shown = libc::isatty(STDERR_FILENO) == 1;
-    let mut work = [0u8; MOST_WORK];
-    let reply = searched(bytes, &mut work, limit, shown);
+    let netlist = examined.netlist;
+    let classes = netlist.classes;
+    let reply = searched(examined, work, limit, shown);
     wipe_progress(shown);
     match reply {
         PairsReply::Refused(refusal) => say_refused(refusal, 0),

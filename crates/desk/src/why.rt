@@ -3,6 +3,7 @@ ghost use mathlib.Core.Path.{_≡_};
 ghost use Prim.Native.Nat.{_+_, _-_, _≤_, _<_};
 ghost use lib.ListN.{set};
 ghost use Rattle.derivation_rules.specs.Derivations.{most-steps};
+ghost use Rattle.derivations.specs.Written.{Known};
 use crate::nodes::node_of;
 use crate::nodes::say_node;
 use crate::say::say;
@@ -18,9 +19,7 @@ use desk_text::ROOM;
 use netlists::Netlist;
 use rules::Answer;
 use rules::Half;
-use rules::MOST_NODES;
 use rules::MOST_WORK;
-use rules::Reply;
 use std::num::wrapping_add_usize;
 
 // The most steps that wait to be told: one more than there may be steps.
@@ -28,7 +27,7 @@ const MOST_WAITING: usize = MOST_STEPS + 1;
 
 // ---- how deep a step stands
 
-// The depths of the steps that wait to be told, of which the last is the next one's; an operand's step waits one level below its own.
+// Of the steps that wait to be told, `depths` has the depths, the next one's last. Puts one more behind the first `waiting`, and returns how many wait then.
 fn wait(depths: &mut [usize; MOST_WAITING], waiting: usize, depth: usize) -> usize
     requires { ⌜ waiting ≤ most-steps ⌝ }
     ensures { λ r. ⌜ r ≡ waiting + 1 ⌝ }
@@ -38,7 +37,7 @@ fn wait(depths: &mut [usize; MOST_WAITING], waiting: usize, depth: usize) -> usi
     waiting + 1
 }
 
-// The steps that a rule needs: one by rules 2, 4 and 5, two by rule 6.
+// Lets the steps wait that a step of this depth and rule needs, one level below it: one by rules 2, 4 and 5, two by rule 6, and else none.
 fn wait_operands(
     depths: &mut [usize; MOST_WAITING],
     waiting: usize,
@@ -61,6 +60,7 @@ fn wait_operands(
 
 // ---- what it prints
 
+// Two blanks for each level.
 fn indent(depth: usize) {
     let mut k = 0;
     while k < depth {
@@ -69,6 +69,7 @@ fn indent(depth: usize) {
     }
 }
 
+// The layer's name, 0 for settled signals, between a comma and a colon.
 fn say_layer(layer: u8) {
     if layer == 0 {
         say(b", settled: ");
@@ -77,6 +78,7 @@ fn say_layer(layer: u8) {
     }
 }
 
+// Which rule, in words, and the end of the line.
 fn say_rule(rule: u8) {
     match rule {
         1 => say(b", its own set\n"),
@@ -88,7 +90,7 @@ fn say_rule(rule: u8) {
     }
 }
 
-// A step: its fields, and for people the node, the layer, the set and the rule.
+// The line of a step: its fields, and for people the node, the layer, the set and the rule.
 fn say_step(netlist: Netlist, step: Step, depth: usize) {
     let mut text = [0u8; ROOM];
     let count = desk_text::step_fields(
@@ -116,7 +118,7 @@ fn one_less(waiting: usize) -> usize
     if waiting == 0 { 0 } else { waiting - 1 }
 }
 
-// So many steps.
+// Prints the first `count` steps, a line each. A step's indentation is its depth: that of the step that needs it, and one more.
 fn say_steps(netlist: Netlist, steps: &[u8; MOST_BYTES], count: usize)
     requires { ⌜ count ≤ most-steps ⌝ }
 {
@@ -141,10 +143,12 @@ fn say_step_count(count: usize) {
     say(b"\n");
 }
 
-// The derivation of a set of a node's family in a layer.
-pub fn why(bytes: &[u8], netlist: Netlist, node: usize, layer: usize, set: usize) {
+// Prints the derivation of a set of a node's family in a layer, or its refusal, for a netlist whose families are in the work bytes.
+pub fn why(netlist: Netlist, work: &[u8; MOST_WORK], node: usize, layer: usize, set: usize)
+    requires { ⌜ Known netlist (now work) ⌝ }
+{
     let mut steps = [0u8; MOST_BYTES];
-    match derivations::derive(bytes, node, layer, set, &mut steps) {
+    match derivations::derive_held(netlist, work, node, layer, set, &mut steps) {
         Derived::Refused(refusal) => say_refused(refusal, 0),
         Derived::Steps(count) => {
             say_steps(netlist, &steps, count);
@@ -153,7 +157,7 @@ pub fn why(bytes: &[u8], netlist: Netlist, node: usize, layer: usize, set: usize
     }
 }
 
-// That there is no suspect to explain.
+// Prints that there is no suspect to explain.
 fn say_clear(answer: Answer) {
     let mut text = [0u8; ROOM];
     let count = desk_text::glitch_fields(&mut text, answer);
@@ -162,19 +166,13 @@ fn say_clear(answer: Answer) {
     say_step_count(0);
 }
 
-// That of the first glitch suspect.
-pub fn why_first(bytes: &[u8], netlist: Netlist) {
-    let mut work = [0u8; MOST_WORK];
-    let examined = checker::examine(bytes, MOST_NODES, &mut work);
-    let reply = examined.reply;
-    match reply {
-        Reply::Refused(refusal) => say_refused(refusal, 0),
-        Reply::Answered(answer) => {
-            let glitch = answer.glitch;
-            match glitch {
-                Half::Clear => say_clear(answer),
-                Half::Suspect(node, set) => why(bytes, netlist, node, 1, set),
-            }
-        }
+// Prints the derivation of the first glitch suspect of a netlist that got this answer, and whose families are in the work bytes.
+pub fn why_first(answer: Answer, netlist: Netlist, work: &[u8; MOST_WORK])
+    requires { ⌜ Known netlist (now work) ⌝ }
+{
+    let glitch = answer.glitch;
+    match glitch {
+        Half::Clear => say_clear(answer),
+        Half::Suspect(node, set) => why(netlist, work, node, 1, set),
     }
 }

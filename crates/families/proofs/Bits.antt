@@ -1,4 +1,5 @@
--- How many bits of a byte are set: what is said of all bytes is a test that antt computes at each of them. Assumes nothing.
+-- How many bits of a byte are set: what is said of all bytes is a test that antt computes at each of them.
+-- Assumes nothing.
 use Prim.Native.Nat.{ℕ, zero, suc, _+_, _-_, _/_, _%_, _<_}
 use mathlib.Core.Path.{_≡_}
 use mathlib.Core.Logic.{_⊎_, inl, inr}

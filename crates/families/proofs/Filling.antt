@@ -1,5 +1,6 @@
--- A loop that writes a part byte by byte: after j turns the part's first j bytes have the bits of a family, and all else is as it was; after
--- 128 the family is in the part. And the bits of bytes that are joined, and of powers of two. Assumes nothing.
+-- A loop that writes a part byte by byte: after j turns the part's first j bytes have the bits of a family,
+-- and all else is as it was; after 128 the family is in the part. And the bits of bytes that are joined,
+-- and of powers of two. Assumes nothing.
 use Prim.Native.Nat.{ℕ, zero, suc, _+_, _*_, _/_, _%_, _^_, _≤_, _<_}
 use mathlib.Core.Path.{_≡_, refl, sym, _∙_}
 use mathlib.Core.Logic.{_⊎_, inl, inr, ⊎-elim}

@@ -1,6 +1,6 @@
--- A part of a slice of families: its members are its bits, each named once and at most 1,024 in all, and `withFamily` writes one part and sees
--- membership alone. By the entries of the slice, outside the part and in it; what a part holds, by induction on the number of sets looked at.
--- Assumes nothing.
+-- A part of a slice of families: its members are its bits, each listed once and at most 1,024 in all,
+-- and `withFamily` writes one part and sees membership alone. By the entries of the slice, outside the part and in it;
+-- what a part holds, by induction on the number of sets looked at. Assumes nothing.
 use Prim.Native.Nat.{ℕ, zero, suc, _+_, _*_, _-_, _/_, _%_, _^_, _≤_, _<_}
 use mathlib.Core.Path.{_≡_, refl, sym, ap, _∙_}
 use mathlib.Core.Logic.{_⊎_, inl, inr, ⊎-elim}
@@ -59,7 +59,7 @@ module _ (bytes : List ℕ) (part : ℕ) where
       go false e (inl p) rest = rw (p, e, not-yet k)
       go false e (inr l) rest = rest l
 
-  -- each is named once
+  -- each is listed once
   once-below : (k : ℕ) → T (once (setsBelow bytes part k))
   unfolding once setsBelow
   once-below zero = tt
@@ -166,8 +166,8 @@ with-there bytes part other F has ne =
     apart j (inl l) h = inl (omega arith)
     apart j (inr l) h = inr (omega (arith, ne))
 
--- A list of bytes is that with the family in the part if it has the same length, the same bytes outside the part, and in the part bytes, whose
--- bits are the family's.
+-- A list of bytes is that with the family in the part if it has the same length, the same bytes outside the part,
+-- and in the part bytes, whose bits are the family's.
 pub written : (before after : List ℕ) (part : ℕ) (F : Family) → HasPart before part → length after ≡ length before
     → ((j : ℕ) → Outside part j → getD after j 0 ≡ getD before j 0)
     → ((j : ℕ) → j < 128 → getD after (128 * part + j) 0 < 256)

@@ -1,6 +1,6 @@
--- The list of the sets present in a part: each is there once, in rising order, and no other. And how a part is gone through byte by byte: its list
--- by one set more, and by a byte with no bit set; its number of sets by the bits of a byte. By induction on the sets passed. A list and a product
--- that are computed. Assumes nothing.
+-- The list of the sets present in a part: each is there once, in rising order, and no other.
+-- And how a part is walked byte by byte: its list by one set more, and by a byte with no bit set; its number of
+-- sets by the bits of a byte. By induction on the sets passed. A list and a product that are computed. Assumes nothing.
 use Prim.Native.Nat.{ℕ, zero, suc, _+_, _*_, _-_, _/_, _%_, _^_, _<_, _≤_}
 use mathlib.Core.Path.{_≡_, refl, sym, ap, _∙_}
 use mathlib.Core.Logic.{_⊎_, inl, inr}

@@ -1,5 +1,6 @@
--- What the parts of the work bytes hold: parts 2 × i and 2 × i + 1 hold just the sets of the two families of node i, and as many. By the bits of
--- the bytes, which are those of every set below 1,024; a family has no other. Assumes nothing.
+-- What the parts of the work bytes hold: parts 2 × i and 2 × i + 1 hold just the sets of the two families of node i,
+-- and as many. By the bits of the bytes, which are those of every set below 1,024; a family has no other.
+-- Assumes nothing.
 use Prim.Native.Nat.{ℕ, _+_, _*_, _/_, _%_, _^_, _≤_, _<_}
 use mathlib.Core.Path.{_≡_, sym, _∙_}
 use mathlib.Core.Logic.{⊎-elim}
@@ -62,7 +63,7 @@ written-alike bytes part F has small =
     part-alike (withFamily bytes part F) part F
     (λ A l. sym (member-at (withFamily bytes part F) part A l) ∙ with-here bytes part F has A l) small
 
--- as many sets, where the family names each once
+-- as many sets, where the family lists each once
 part-size : (bytes : List ℕ) (part : ℕ) (F : Family) → T (once F) → Alike (familyAt bytes part) F → length (familyAt bytes part) ≡ length F
 part-size bytes part F t h = same-length (familyAt bytes part) F (once-at bytes part) t (h .same)
 

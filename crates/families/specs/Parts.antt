@@ -1,5 +1,5 @@
--- Families in a slice of bytes, 128 bytes to each: part p is the bytes from 128 × p on. Contracts say by these what a part holds, and what
--- the slice holds once a family is written to one part. Assumes nothing.
+-- Families in a slice of bytes, 128 bytes to each: part p is the bytes from 128 × p on. Contracts say by these what a
+-- part holds, and what the slice holds once a family is written to one part. Assumes nothing.
 use Prim.Native.Nat.{ℕ, zero, suc, _+_, _*_, _/_, _%_, _^_, _≤_}
 use mathlib.Core.Bool.{Bool, cond}
 use mathlib.Core.List.{List, [], _∷_, _++_}

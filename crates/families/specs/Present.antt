@@ -1,5 +1,5 @@
--- The sets present in a part, as a list; and a list, and a byte, of which a part is gone through. Cited by the contracts of what lists, counts and
--- pairs the sets of a part. Assumes nothing.
+-- The sets present in a part, as a list; and a list, and a byte, by which a part is walked.
+-- Cited by the contracts of what lists, counts and pairs the sets of a part. Assumes nothing.
 use Prim.Native.Nat.{ℕ, zero, suc, _+_, _/_, _^_, _<_}
 use mathlib.Core.Path.{_≡_}
 use mathlib.Core.List.{List, [], _∷_, _++_}

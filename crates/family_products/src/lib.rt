@@ -1,5 +1,6 @@
-// The list of a family's sets, and the product of two families: the sets of each are listed, and each pair of them is tried once and counted. Families are parts
-// of a slice of bytes, and where one is made from others, they are in lower parts.
+// The list of a family's sets, and the product of two families: the sets of each are listed, and each pair of them is
+// tried once and counted. Families are parts of a slice of bytes; a function writes to one part of it or to a slice of
+// sets, and what it makes a family from is in lower parts. Used by `nodes` and `pair_search`, and by test programs.
 ghost use mathlib.Core.Path.{_≡_};
 ghost use mathlib.Core.Logic.{_↔_};
 ghost use mathlib.Core.List.{List, _++_, map};
@@ -17,10 +18,12 @@ use families::SETS;
 
 // ---- the list of a part
 
-// Behind the sets that are listed so far, which are below `low`, lists those of one byte, whose bit k is set low + k. Returns how many are listed then.
+// Lists the sets of one byte, whose bit k is set low + k, behind those that are listed so far, which are below `low`.
+// Returns how many are listed then.
 fn list_byte(byte: u8, low: usize, sets: &mut [u16], listed: usize) -> usize
     requires { ⌜ (low + 8 ≤ most-sets) × (listed + 8 ≤ length (now sets)) ⌝ }
-    ensures { λ r. ⌜ ((bytes start : List ℕ) (part : ℕ) → BitsOf byte bytes part low → Listed bytes part low start (now (sets .entry)) listed →
+    ensures { λ r. ⌜ ((bytes start : List ℕ) (part : ℕ) → BitsOf byte bytes part low →
+        Listed bytes part low start (now (sets .entry)) listed →
         Listed bytes part (low + 8) start (now (sets .exit)) r) ⌝ }
     ensures few { λ r. ⌜ r ≤ listed + 8 ⌝ }
 {
@@ -36,7 +39,7 @@ fn list_byte(byte: u8, low: usize, sets: &mut [u16], listed: usize) -> usize
     at
 }
 
-// Whether all of the eight bytes from `at` on are 0.
+// Whether all of the eight bytes from `at` on are 0, so that they hold no set.
 fn eight_zeros(work: &[u8], at: usize) -> bool
     requires { ⌜ at + 8 ≤ length (now work) ⌝ }
     ensures { λ r. ⌜ T r ↔ ((k : ℕ) → k < 8 → getD (now (work .entry)) (at + k) 0 ≡ 0) ⌝ }
@@ -50,7 +53,8 @@ fn eight_zeros(work: &[u8], at: usize) -> bool
     joined == 0
 }
 
-// Behind the sets that are listed so far lists those of the eight bytes from byte 8 × `eight` of a part on: looks into those that are not 0.
+// Lists the sets of the eight bytes from byte 8 × `eight` of a part on, behind those that are listed so far.
+// Returns how many are listed then.
 fn list_eight(work: &[u8], part: usize, eight: usize, sets: &mut [u16], before: usize) -> usize
     requires { ⌜ HasPart (now work) part × (eight < 16) × (before + 64 ≤ length (now sets)) ⌝ }
     ensures { λ r. ⌜ ((start : List ℕ) → Listed (now (work .entry)) part (64 * eight) start (now (sets .entry)) before →
@@ -71,8 +75,8 @@ fn list_eight(work: &[u8], part: usize, eight: usize, sets: &mut [u16], before: 
     listed
 }
 
-// Lists the sets that a part holds, each once and from the lowest-numbered up, at the front of `sets`. Goes over the part's bytes, eight at a time, and
-// looks into those that are not 0. Returns how many there are.
+// Lists the sets that a part holds, each once and from the lowest-numbered up, at the front of `sets`;
+// beyond them it keeps what it held. Returns how many there are. Eight bytes at a time that are all 0 are passed over.
 pub fn list_sets(work: &[u8], part: usize, sets: &mut [u16]) -> usize
     requires { ⌜ HasPart (now work) part × (most-sets ≤ length (now sets)) ⌝ }
     ensures sets { λ r. ⌜ now (sets .exit) ≡ listAt (now (work .entry)) part ++ drop r (now (sets .entry)) ⌝ }
@@ -92,7 +96,7 @@ pub fn list_sets(work: &[u8], part: usize, sets: &mut [u16]) -> usize
 
 // ---- the product
 
-// Tries one pair: puts the symmetric difference of its sets into a part, and counts it.
+// Tries one pair: puts the symmetric difference of its two sets into a part, and returns the count with that pair.
 fn try_pair(work: &mut [u8], into: usize, set: u16, other: u16, tried: usize) -> usize
     requires { ⌜ HasPart (now work) into × (set < most-sets) × (other < most-sets) × (tried < 2 ^ 32) ⌝ }
     ensures made { λ _. ⌜ now (work .exit) ≡ withFamily (now (work .entry)) into
@@ -103,7 +107,7 @@ fn try_pair(work: &mut [u8], into: usize, set: u16, other: u16, tried: usize) ->
     tried + 1
 }
 
-// Tries one set with each of the first `count` others.
+// Tries one set with each of the first `count` others, and returns the count with these pairs.
 fn try_row(
     work: &mut [u8],
     into: usize,
@@ -127,12 +131,14 @@ fn try_row(
     tried
 }
 
-// A part holds the product of two lower ones: lists the sets of each, and tries each pair of them once. Returns how many pairs it tried.
+// Makes a part hold the product of two lower ones, whatever it held: lists the sets of each, and tries each pair of
+// them once. Returns how many pairs it tried, the number of sets of the one times that of the other.
 pub fn product(work: &mut [u8], into: usize, first: usize, second: usize) -> usize
     requires { ⌜ HasPart (now work) into × (first < into) × (second < into) ⌝ }
     ensures made { λ _. ⌜ now (work .exit) ≡ withFamily (now (work .entry)) into
         (product (familyAt (now (work .entry)) first) (familyAt (now (work .entry)) second)) ⌝ }
-    ensures tried { λ r. ⌜ r ≡ length (familyAt (now (work .entry)) first) * length (familyAt (now (work .entry)) second) ⌝ }
+    ensures tried { λ r. ⌜ r ≡
+        length (familyAt (now (work .entry)) first) * length (familyAt (now (work .entry)) second) ⌝ }
 {
     let mut sets = [0u16; SETS];
     let mut others = [0u16; SETS];
@@ -148,7 +154,7 @@ pub fn product(work: &mut [u8], into: usize, first: usize, second: usize) -> usi
     pairs
 }
 
-// The same for whoever does not ask how many pairs were tried.
+// Makes a part hold the product of two lower ones, as `product` does, and returns nothing.
 pub fn multiply(work: &mut [u8], into: usize, first: usize, second: usize)
     requires { ⌜ HasPart (now work) into × (first < into) × (second < into) ⌝ }
     ensures { λ _. ⌜ now (work .exit) ≡ withFamily (now (work .entry)) into
@@ -157,7 +163,7 @@ pub fn multiply(work: &mut [u8], into: usize, first: usize, second: usize)
     product(work, into, first, second);
 }
 
-// A part holds the empty set, two lower families and their product.
+// Makes a part hold the empty set, the sets of two lower ones and their product, whatever it held.
 pub fn spread(work: &mut [u8], into: usize, first: usize, second: usize)
     requires { ⌜ HasPart (now work) into × (first < into) × (second < into) ⌝ }
     ensures { λ _. ⌜ now (work .exit) ≡ withFamily (now (work .entry)) into

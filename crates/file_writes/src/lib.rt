@@ -1,6 +1,8 @@
-// Files that are written whole. Under its name a file has what it had before or all of the new bytes, at every moment, also where the write fails or the
-// program dies: the bytes go to a new file beside it, which then takes its name. It has the owner and the mode of a new file. A device and a pipe have no
-// such name to take, and are written to as they are; so are the program's own standard output and error, also where these are files.
+// Files that are written whole. Under its name a file has what it had before or all of the new bytes, at every moment,
+// also where the write fails or the program dies: the bytes go to a new file beside it, which then takes its name.
+// It has the owner and the mode of a new file. A device and a pipe have no such name to take, and are
+// written to as they are; so are the program's own standard output and error, also where these are files.
+// Touches files, and only reads the slices that it is lent. Used by the program `telgouin`.
 ghost use Prim.Native.Nat.{_≤_};
 ghost use lib.ListN.{length};
 ghost use Rattle.io.specs.Counts.{Counts};
@@ -10,12 +12,12 @@ use libc::SEEK_END;
 use libc::STDERR_FILENO;
 use libc::STDOUT_FILENO;
 
-// How many letters make the name of the file beside.
+// How many random letters the name of the new file has.
 const LETTERS: usize = 8;
 
 // ---- names
 
-// How many bytes of a path name its folder, the last `/` among them.
+// How many bytes of a path are its folder, with the last `/`; 0 where it has none.
 fn folder_of(path: &[u8]) -> usize
     ensures { λ r. ⌜ Counts r (now (path .entry)) ⌝ }
 {
@@ -30,7 +32,8 @@ fn folder_of(path: &[u8]) -> usize
     end
 }
 
-// Puts text behind the first `at` bytes of a path, as far as there is room: how many bytes it has then. A path that is full names no file.
+// Puts text behind the first `at` bytes of a path, as far as there is room. Returns how many bytes the path has then;
+// one that is full leads to no file.
 fn put_behind(path: &mut [u8], at: usize, text: &[u8]) -> usize
     requires { ⌜ at ≤ length (now path) ⌝ }
     ensures { λ r. ⌜ Counts r (now (path .exit)) ⌝ }
@@ -48,6 +51,7 @@ fn put_behind(path: &mut [u8], at: usize, text: &[u8]) -> usize
     end
 }
 
+// A letter from `a` to `z` for a byte.
 fn letter_of(byte: u8) -> u8 {
     b'a' + byte % 26
 }
@@ -64,7 +68,7 @@ fn random_letters() -> [u8; LETTERS] {
     letters
 }
 
-// The name of a new file beside the one that is named: how many bytes it has.
+// Writes the path of a new file in the folder of the given one to `beside`. Returns how many bytes it has.
 fn name_beside(path: &[u8], beside: &mut [u8]) -> usize
     ensures { λ r. ⌜ Counts r (now (beside .exit)) ⌝ }
 {
@@ -85,13 +89,14 @@ fn ended(path: &[u8]) -> [u8; PATH_MAX]
     ended
 }
 
-// An open file's number. The program has few open files.
+// An open file's descriptor as a number to print. Programs have few open files, so that it is small;
+// one below 0 gives 0.
 fn number_of(fd: i32) -> u64 {
     let numbers = io::buffer();
     io::count(fd as isize, &numbers) as u64
 }
 
-// Where the system tells the name of an open file: how many bytes name it.
+// Writes the path under which the system links to an open file to `place`. Returns how many bytes it has.
 fn place_of(fd: i32, place: &mut [u8]) -> usize
     ensures { λ r. ⌜ Counts r (now (place .exit)) ⌝ }
 {
@@ -101,7 +106,8 @@ fn place_of(fd: i32, place: &mut [u8]) -> usize
     put_behind(place, end, &digits[..count])
 }
 
-// The name of an open file itself, where links lead to it: how many bytes it has, or 0 where the system does not tell.
+// Writes the name of an open file itself, which links may lead to, to `name`. Returns how many bytes it has,
+// 0 where the system does not say.
 fn name_of(fd: i32, name: &mut [u8]) -> usize
     ensures { λ r. ⌜ Counts r (now (name .exit)) ⌝ }
 {
@@ -111,7 +117,7 @@ fn name_of(fd: i32, name: &mut [u8]) -> usize
     io::count(got, name)
 }
 
-// Whether a path names a link.
+// Whether a path is that of a link.
 fn is_link(path: &[u8]) -> bool {
     let mut text = io::buffer();
     libc::readlink(&ended(path), &mut text) >= 0
@@ -119,14 +125,15 @@ fn is_link(path: &[u8]) -> bool {
 
 // ---- writing
 
-// Writes all bytes to an open file and closes it: whether it could.
+// Writes all bytes to an open file and closes it. Returns whether all that succeeded.
 fn write_through(fd: i32, bytes: &[u8]) -> bool {
     let is_written = io::write_all(fd, bytes);
     let is_closed = libc::close(fd) == 0;
     is_written & is_closed
 }
 
-// The same, of a file that is then to outlast the machine's end.
+// Writes all bytes to an open file, has the system put them on the disk, and closes it.
+// Returns whether all that succeeded.
 fn write_down(fd: i32, bytes: &[u8]) -> bool {
     let is_written = io::write_all(fd, bytes);
     let is_down = libc::fsync(fd) == 0;
@@ -134,7 +141,8 @@ fn write_down(fd: i32, bytes: &[u8]) -> bool {
     is_written & (is_down & is_closed)
 }
 
-// Makes a new file beside the one that is named, which takes its name once all is written: whether it could. If not, the new file is removed.
+// Makes a new file beside the one at `path`, which takes its name once all is written. Returns whether that succeeded;
+// if not, the new file is removed.
 fn replace(path: &[u8], bytes: &[u8]) -> bool {
     let mut beside = io::buffer();
     let length = name_beside(path, &mut beside);
@@ -151,7 +159,7 @@ fn replace(path: &[u8], bytes: &[u8]) -> bool {
     false
 }
 
-// Whether an open file is a regular one: these alone can be asked to take a length, here the one that they have.
+// Whether an open file is a regular one: these alone can be given a length, here the one that they have.
 fn is_regular(fd: i32) -> bool {
     let length = libc::lseek(fd, 0, SEEK_END);
     if length < 0 {
@@ -163,7 +171,7 @@ fn is_regular(fd: i32) -> bool {
     os::errno() != libc::EINVAL
 }
 
-// Whether a name is the one that the system tells of an open file.
+// Whether a name is the one that the system has for an open file.
 fn is_name_of(name: &[u8], fd: i32) -> bool {
     let mut other = io::buffer();
     let length = name_of(fd, &mut other);
@@ -173,7 +181,8 @@ fn is_name_of(name: &[u8], fd: i32) -> bool {
     check::same(name, &other[..length])
 }
 
-// The program's own output to the file of that name: standard output or standard error, or -1 where neither goes there.
+// Which of the program's own outputs goes to the file of that name: standard output or standard
+// error, or -1 for neither.
 fn output_to(name: &[u8]) -> i32 {
     if is_name_of(name, STDOUT_FILENO) {
         return STDOUT_FILENO;
@@ -184,7 +193,7 @@ fn output_to(name: &[u8]) -> i32 {
     -1
 }
 
-// Whether a name leads to a file that may be written. That of an open file does not once the file was removed.
+// Whether a name leads to a file that may be written. The name of an open file does not once the file was removed.
 fn is_there(name: &[u8]) -> bool {
     let fd = os::open_append(name);
     if fd < 0 {
@@ -193,8 +202,9 @@ fn is_there(name: &[u8]) -> bool {
     libc::close(fd) == 0
 }
 
-// Replaces the file that is open, by the path that led to it, or where that is a link by its own name, if the system tells one. Where the program's own
-// output goes to that file, the bytes go there with it, so that none of it is lost.
+// Closes an open file and replaces it: by the path that led to it, or where that is a link by its own name,
+// if the system has one. Where the program's own output goes to that file, the bytes are written behind it,
+// so that none of it is lost. Returns whether all is written.
 fn replace_open(fd: i32, path: &[u8], bytes: &[u8]) -> bool {
     let mut name = io::buffer();
     let length = name_of(fd, &mut name);
@@ -212,8 +222,9 @@ fn replace_open(fd: i32, path: &[u8], bytes: &[u8]) -> bool {
     false
 }
 
-// Writes a file: whether all of it is there now. If not, a regular file has what it had before. A file that is there is written only where it may
-// be, and a link stays as it is: one that leads to no file is refused. Which bytes then are in the file no contract can say.
+// Writes a file. Returns whether all of it is there now; if not, a regular file has what it had before. A file
+// that is there is written only where it may be, and a link stays as it is: one that leads to no file is refused.
+// Which bytes then are in the file no contract can say.
 pub fn write_file(path: &[u8], bytes: &[u8]) -> bool {
     let fd = os::open_append(path);
     if fd < 0 {

@@ -1,9 +1,10 @@
-// Reading in which a read that fails is told, and is no end of the input.
+// Reading all of an input, where a read that fails is reported and not taken for the end of the input.
+// Reads the open file that it is given, and writes to the slice. Used by the programs `listing` and `telgouin`.
 ghost use Prim.Native.Nat.{_≤_};
 ghost use lib.ListN.{length};
 ghost use Rattle.input_bytes.specs.Input.{Front, Within};
 
-// So many bytes, or a read that failed.
+// What was read: how many bytes, or a read that failed.
 pub enum Input {
     Bytes(usize),
     Failed,
@@ -20,7 +21,7 @@ fn read_some(fd: i32, into: &mut [u8]) -> Input
     Input::Bytes(io::count(got, into))
 }
 
-// One read into a slice behind its first bytes.
+// One read into a slice behind its first `at` bytes: how many bytes it put there, 0 at the end of the input.
 fn read_behind(fd: i32, into: &mut [u8], at: usize) -> Input
     requires { ⌜ at ≤ length (now into) ⌝ }
     ensures { λ r. ⌜ Within at r (now (into .exit)) ⌝ }
@@ -28,8 +29,9 @@ fn read_behind(fd: i32, into: &mut [u8], at: usize) -> Input
     read_some(fd, &mut into[at..])
 }
 
-// Reads until the slice is full or the input ends: how many bytes then stand at its front. Which they are no contract can say. Each read's own answer is
-// looked at, since one that failed may be followed by one that finds an end, as after a connection that was lost.
+// Reads until the slice is full or the input ends: how many bytes then stand at its front. Which they are no
+// contract can say. Each read is tested by itself, since one that failed may be followed by one that finds an end,
+// as after a connection that was lost.
 pub fn read_input(fd: i32, into: &mut [u8]) -> Input
     ensures { λ r. ⌜ Front r (now (into .exit)) ⌝ }
 {

@@ -1,4 +1,6 @@
-// The listing program: reads a block from standard input, at most 1,024 bytes, and writes its listing to standard output.
+// The listing program: reads a block from standard input, at most 1,024 bytes, and writes its listing to
+// standard output. Where the input cannot be read it says so on standard error. It touches these three alone.
+// No crate uses it; the script `listing` runs it.
 ghost use mathlib.Core.Path.{_≡_};
 ghost use mathlib.Core.List.{List};
 ghost use Prim.Native.Nat.{ℕ, _≤_};
@@ -10,11 +12,11 @@ use libc::STDIN_FILENO;
 use libc::STDOUT_FILENO;
 use listing_text::MOST_TEXT;
 
-// How many bytes of a file are read.
+// How many bytes of standard input are read.
 const MOST_INPUT: usize = 1024;
 
-// Writes the listing of a file, of which all bytes, or as many as there is room for, stand at the front of `bytes`: what a longer file has
-// beyond them changes no listing. Returns how many bytes the listing has.
+// Writes the listing of a file, of which all bytes, or as many as there is room for, stand at the front of `bytes`:
+// what a longer file has beyond them changes no listing. Returns how many bytes the listing has.
 fn list_file(bytes: &[u8], read: usize, text: &mut [u8]) -> usize
     requires { ⌜ (length (now bytes) ≡ most-input) × (read ≤ length (now bytes)) × (most-text ≤ length (now text)) ⌝ }
     ensures listed { λ r. ⌜ ((file : List ℕ) → take read (now (bytes .entry)) ≡ take most-input file →
@@ -24,7 +26,7 @@ fn list_file(bytes: &[u8], read: usize, text: &mut [u8]) -> usize
     listing_text::telgouin_listing(&bytes[..read], text)
 }
 
-// A read that fails is no end of the file: then there is no listing.
+// Reads a block and writes its listing. A read that fails is no end of the block: then there is no listing.
 fn main() {
     let mut bytes = [0u8; MOST_INPUT];
     let mut text = [0u8; MOST_TEXT];

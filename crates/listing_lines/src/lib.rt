@@ -1,13 +1,15 @@
-// The lines of the listing. Each function puts a text behind the first `at` bytes of a slice, or at its front, and answers where
-// the next one goes; its caller shows that there is room.
+// Words, numbers and lines of text, first those of the listing: `listing_text`, `desk_text`, `derivations`, `write_bytes`
+// and `write_words` put them together, and `read_words` and `desk` take what a kind of node is called from here. Each function
+// that puts a text puts it behind the first `at` bytes of a slice, or at its front, and answers where the next one goes;
+// its caller shows that there is room. Nothing but that slice is touched.
 ghost use mathlib.Core.Path.{_≡_};
 ghost use mathlib.Core.List.{[], _∷_, _++_};
 ghost use Prim.Native.Nat.{_+_, _*_, _<_, _≤_};
 ghost use lib.ListN.{length};
-ghost use Rattle.rules.specs.Records.{Cell, kindOf, most-variables, most-nodes, most-sets};
+ghost use Rattle.rules.specs.Records.{Cell, kindOf, operands, most-variables, most-nodes, most-sets};
 ghost use Rattle.rules.specs.Listing.{word, decimal, line, kindName, halfLine, most-line, most-text};
 ghost use Rattle.rules.specs.Paper.{numberOf, placeOf, findingOf};
-ghost use Rattle.listing_lines.specs.Text.{Room, Appended, Short, foundText};
+ghost use Rattle.listing_lines.specs.Text.{Room, Appended, Short, foundText, most-name, spelled};
 use rules::Half;
 use rules::Refusal;
 
@@ -56,6 +58,70 @@ pub fn put_field(text: &mut [u8], at: usize, number: usize) -> usize
     put_decimal(text, behind, number)
 }
 
+// ---- kinds of nodes
+
+// A name: the first letters of these.
+pub struct Name {
+    pub size: usize,
+    pub letters: [u8; 6],
+}
+
+// The name of a kind of node, by its number; a kind that is no node's has that of a register.
+pub fn name_of(kind: u8) -> Name
+    ensures { λ r. ⌜ ((cell : Cell) → kind ≡ kindOf cell → spelled r ≡ kindName cell) ⌝ }
+    ensures short { λ r. ⌜ (r .size ≤ 3) × (kind ≡ 2 → r .size ≡ 2) × (length (r .letters) ≡ most-name) ⌝ }
+{
+    match kind {
+        2 => Name {
+            size: 2,
+            letters: *b"in    ",
+        },
+        3 => Name {
+            size: 3,
+            letters: *b"not   ",
+        },
+        4 => Name {
+            size: 3,
+            letters: *b"xor   ",
+        },
+        5 => Name {
+            size: 3,
+            letters: *b"and   ",
+        },
+        6 => Name {
+            size: 2,
+            letters: *b"or    ",
+        },
+        _ => Name {
+            size: 3,
+            letters: *b"reg   ",
+        },
+    }
+}
+
+// How many operands a kind has; a kind that is no node's has none.
+pub fn operands_of(kind: u8) -> usize
+    ensures { λ r. ⌜ ((cell : Cell) → kind ≡ kindOf cell → r ≡ length (operands cell)) ⌝ }
+    ensures none { λ r. ⌜ (kind < 2 → r ≡ 0) × (7 < kind → r ≡ 0) ⌝ }
+{
+    match kind {
+        3 | 7 => 1,
+        4 | 5 | 6 => 2,
+        _ => 0,
+    }
+}
+
+// A name.
+pub fn put_name(text: &mut [u8], at: usize, name: Name) -> usize
+    requires { ⌜ Room (now text) at (name .size) × (name .size ≤ length (name .letters)) ⌝ }
+    ensures { λ r. ⌜ Appended (now (text .entry)) (now (text .exit)) at r (spelled name) ⌝ }
+    ensures place { λ r. ⌜ r ≡ at + name .size ⌝ }
+{
+    let letters = name.letters;
+    let size = name.size;
+    put_word(text, at, &letters[..size])
+}
+
 // ---- lines
 
 // The line of a refusal.
@@ -84,23 +150,6 @@ pub fn put_counts(text: &mut [u8], variables: usize, count: usize) -> usize
     put_byte(text, end, 10)
 }
 
-// A kind's name, with a blank before it.
-fn put_kind(text: &mut [u8], at: usize, kind: u8) -> usize
-    requires { ⌜ Room (now text) at 4 ⌝ }
-    ensures { λ r. ⌜ ((cell : Cell) → kind ≡ kindOf cell →
-        Appended (now (text .entry)) (now (text .exit)) at r (32 ∷ kindName cell)) ⌝ }
-    ensures few { λ r. ⌜ r ≤ at + 4 ⌝ }
-{
-    match kind {
-        2 => put_word(text, at, b" in"),
-        3 => put_word(text, at, b" not"),
-        4 => put_word(text, at, b" xor"),
-        5 => put_word(text, at, b" and"),
-        6 => put_word(text, at, b" or"),
-        _ => put_word(text, at, b" reg"),
-    }
-}
-
 // The line of a node: number, kind name, number of sets in the settled family, number in the glitch family.
 pub fn put_node(
     text: &mut [u8],
@@ -116,8 +165,9 @@ pub fn put_node(
         (line (decimal i ∷ kindName cell ∷ decimal settled ∷ decimal glitch ∷ []))) ⌝ }
     ensures few { λ r. ⌜ r ≤ at + most-line ⌝ }
 {
-    let name = put_decimal(text, at, i);
-    let first = put_kind(text, name, kind);
+    let blank = put_decimal(text, at, i);
+    let name = put_byte(text, blank, 32);
+    let first = put_name(text, name, name_of(kind));
     let second = put_field(text, first, settled);
     let end = put_field(text, second, glitch);
     put_byte(text, end, 10)

@@ -17,7 +17,7 @@ use Rattle.rules.specs.Paper.{numberOf, placeOf, findingsOf, replyOf}
 use Rattle.rules.proofs.Reading.{read-well-formed}
 use Rattle.rules.proofs.Room.{admitted-all}
 use Rattle.netlists.specs.declared.Netlist as Value
-use Rattle.netlists.specs.Netlists.{flatOf, Formed, kept}
+use Rattle.netlists.specs.Netlists.{flatOf, kept}
 
 -- so many work bytes: nothing that is read is refused
 module _ (bytes : List ℕ) (work : ℕ) (enough : work ≡ most-work) where
@@ -58,6 +58,3 @@ module _ {bytes : List ℕ} {answer : Answer} {value : Value.Netlist} {before af
   -- it obeys the record rules
   pub obeys : WellFormed (c .netlist)
   obeys = read-well-formed bytes (c .netlist) (c .is-read)
-
-  pub formed : Formed value
-  formed = record { netlist = c .netlist; is = c .is-value; obeys = obeys }

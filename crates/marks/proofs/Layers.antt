@@ -1,5 +1,6 @@
--- Marks by value: what stands at a node's number, one mark more, what a scan that goes on has marked so far, and those behind a node that is given up;
--- over work bytes that hold the families of a netlist, they are the netlist's marks, from which both halves of its answer are read. Assumes nothing.
+-- Marks by value: what stands at a node's number, one mark more, what a scan that goes on has marked so far, and those
+-- behind a node that is removed; over work bytes that hold the families of a netlist, they are the netlist's marks,
+-- from which both halves of its answer are read. Assumes nothing.
 use Prim.Native.Nat.{ℕ, zero, suc, _+_, _-_, _≤_, _<_}
 use mathlib.Core.Path.{_≡_, refl, sym, ap, ap₂, subst, _∙_}
 use mathlib.Core.Logic.{_≢_, ⊎-elim}
@@ -116,7 +117,8 @@ next-found reports from i A few h e =
     let nothing : NoneFrom reports from i = rw (← at) at (none-before reports from k before) in
     ap (λ (ms : List ℕ). set ms i A) (none-more reports from i few (omega arith) nothing) ∙ one-more reports i A few h here
 
--- a scan from a node on that finds no node leaves that one without a mark, and where it finds that one it tells its mark
+-- a scan from a node on that finds no node leaves that one without a mark, and where it finds
+-- that one it tells its mark
 pub last-none : (reports : List (Option ℕ)) (from : ℕ) → foundFrom from reports ≡ clear → 0 ≡ markNumber (getD reports from none)
 unfolding markNumber
 last-none reports from e =

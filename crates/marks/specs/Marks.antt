@@ -1,4 +1,5 @@
--- Marks by value: of what nodes report, of a netlist, and with those of one node. Cited by this crate's contracts and its callers'. Assumes nothing.
+-- Marks by value: of what nodes report, of a netlist, and with those of one node. Cited by this crate's contracts
+-- and its callers'. Assumes nothing.
 use Prim.Native.Nat.{ℕ}
 use mathlib.Core.List.{List, map}
 use mathlib.Core.Option.{Option}

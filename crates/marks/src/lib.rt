@@ -1,6 +1,6 @@
-// Marks by value: in each layer the set that a node reports, or 0 for none. A layer's marks are those of a scan that goes on from behind the last
-// node that it found; those of a node at the end are found by scanning that node alone; where a node is given up, those behind it move down; and a
-// half of the answer is read from a layer's marks.
+// Marks by value: in each layer the set that a node reports, or 0 for none. Those of a netlist, of one with a node
+// more at the end and of one with a node removed; and a half of the answer, which is read from a layer's marks.
+// Reads the work bytes and writes to no lent slice. Used by `checker`, `pairs`, the edits and the desk.
 ghost use mathlib.Core.Path.{_≡_};
 ghost use mathlib.Core.List.{List, [], map};
 ghost use mathlib.Core.Option.{Option, none};
@@ -25,7 +25,7 @@ pub struct Marks {
     pub glitch: [u16; MOST_NODES],
 }
 
-// No node is marked.
+// The marks of no node: all are 0.
 pub fn no_marks() -> Marks
     ensures { λ r. ⌜ r ≡ marksIn [] [] ⌝ }
 {
@@ -37,10 +37,12 @@ pub fn no_marks() -> Marks
 
 // ---- all nodes, and the last one
 
-// The marks of one layer: the scan goes on from behind the last node that it found.
+// The marks of all nodes in one layer (settled 0, glitch 1), whose families the work bytes hold.
+// A scan finds the lowest suspect node, and goes on behind it.
 fn layer_marks(netlist: Netlist, layer: usize, work: &[u8]) -> [u16; MOST_NODES]
     requires { ⌜ Sized netlist (length (now work)) × (layer < 2) ⌝ }
-    ensures { λ r. ⌜ ((n : Records.Netlist) → netlist ≡ flatOf n → r ≡ flatMarks (reportsIn n layer (now (work .entry)))) ⌝ }
+    ensures { λ r. ⌜ ((n : Records.Netlist) → netlist ≡ flatOf n →
+        r ≡ flatMarks (reportsIn n layer (now (work .entry)))) ⌝ }
 {
     let count = netlist.count;
     let mut marks = [0u16; MOST_NODES];
@@ -59,7 +61,7 @@ fn layer_marks(netlist: Netlist, layer: usize, work: &[u8]) -> [u16; MOST_NODES]
     marks
 }
 
-// The marks of all nodes.
+// The marks of all nodes in both layers, from their families, which the work bytes hold.
 pub fn all_marks(netlist: Netlist, work: &[u8]) -> Marks
     requires { ⌜ Sized netlist (length (now work)) ⌝ }
     ensures { λ r. ⌜ ((n : Records.Netlist) → netlist ≡ flatOf n →
@@ -71,7 +73,7 @@ pub fn all_marks(netlist: Netlist, work: &[u8]) -> Marks
     }
 }
 
-// The mark of the last node in one layer: no other is scanned.
+// The mark of the last node in one layer. No other node is scanned.
 fn last_mark(netlist: Netlist, layer: usize, work: &[u8]) -> u16
     requires { ⌜ Sized netlist (length (now work)) × (layer < 2) × (0 < netlist .count) ⌝ }
     ensures { λ r. ⌜ ((n : Records.Netlist) → netlist ≡ flatOf n →
@@ -83,12 +85,14 @@ fn last_mark(netlist: Netlist, layer: usize, work: &[u8]) -> u16
     }
 }
 
-// The marks of a netlist whose nodes but the last one have these.
+// The marks with those of the last node of a netlist, whose other nodes have the given ones.
+// Its families are in the work bytes, and no other node is scanned.
 pub fn with_last(netlist: Netlist, marks: Marks, work: &[u8]) -> Marks
     requires { ⌜ Sized netlist (length (now work)) × (0 < netlist .count) ⌝ }
     ensures { λ r. ⌜ ((n : Records.Netlist) → netlist ≡ flatOf n →
         r ≡ withMarks marks (netlist .count - 1)
-        (getD (reportsIn n 0 (now (work .entry))) (netlist .count - 1) none) (getD (reportsIn n 1 (now (work .entry))) (netlist .count - 1) none)) ⌝ }
+        (getD (reportsIn n 0 (now (work .entry))) (netlist .count - 1) none)
+        (getD (reportsIn n 1 (now (work .entry))) (netlist .count - 1) none)) ⌝ }
 {
     let last = netlist.count - 1;
     let mut longer = marks;
@@ -97,12 +101,14 @@ pub fn with_last(netlist: Netlist, marks: Marks, work: &[u8]) -> Marks
     longer
 }
 
-// ---- a node given up
+// ---- a node removed
 
-// The marks of one layer without a node's: those behind it move down by one, and the last of so many is removed.
+// The marks of one layer of `count` nodes without that of node `removed`: those behind it move down by one,
+// and the last entry is 0.
 fn without_mark(marks: [u16; MOST_NODES], removed: usize, count: usize) -> [u16; MOST_NODES]
     requires { ⌜ (removed < count) × (count ≤ most-nodes) ⌝ }
-    ensures { λ r. ⌜ ((reports : List (Option ℕ)) → length reports ≡ count → marks ≡ flatMarks reports → r ≡ flatMarks (without removed reports)) ⌝ }
+    ensures { λ r. ⌜ ((reports : List (Option ℕ)) → length reports ≡ count → marks ≡ flatMarks reports →
+        r ≡ flatMarks (without removed reports)) ⌝ }
 {
     let last = count - 1;
     let mut fewer = marks;
@@ -115,10 +121,11 @@ fn without_mark(marks: [u16; MOST_NODES], removed: usize, count: usize) -> [u16;
     fewer
 }
 
-// The marks of both layers without a node's.
+// The marks of both layers of `count` nodes without those of node `removed`: those behind it move down by one.
 pub fn without_marks(marks: Marks, removed: usize, count: usize) -> Marks
     requires { ⌜ (removed < count) × (count ≤ most-nodes) ⌝ }
-    ensures { λ r. ⌜ ((settled glitch : List (Option ℕ)) → length settled ≡ count → length glitch ≡ count → marks ≡ marksIn settled glitch →
+    ensures { λ r. ⌜ ((settled glitch : List (Option ℕ)) → length settled ≡ count → length glitch ≡ count →
+        marks ≡ marksIn settled glitch →
         r ≡ marksIn (without removed settled) (without removed glitch)) ⌝ }
 {
     let settled = marks.settled;
@@ -131,7 +138,8 @@ pub fn without_marks(marks: Marks, removed: usize, count: usize) -> Marks
 
 // ---- the answer
 
-// The lowest marked node of one layer with its mark, of so many nodes.
+// One half of the answer, from the marks of the first `count` nodes in its layer: the lowest marked
+// node with its mark, or clear.
 pub fn lowest_marked(marks: [u16; MOST_NODES], count: usize) -> Half
     requires { ⌜ count ≤ most-nodes ⌝ }
     ensures { λ r. ⌜ findingOf r ≡ lowest 0 (map markOf (take count marks)) ⌝ }

@@ -1,6 +1,7 @@
--- Netlists by value: a store behind the entries is one entry more, each entry stands in the flat form, and no two netlists have the same one. By laws
--- of padded lists of any length, so that no array is unfolded. And what follows of one record that was found, and of a file that was read, where
--- it is answered and where it is refused. Assumes nothing.
+-- Netlists by value: a store behind the entries is one entry more, each entry stands in the flat form,
+-- and no two netlists have the same one. By laws of padded lists of any length, so that no array is unfolded.
+-- And what follows of one record that was found, and of a file that was read, where it is answered and where
+-- it is refused. Assumes nothing.
 use Prim.Native.Nat.{ℕ, zero, suc, _+_, _-_, _≤_, _<_}
 use mathlib.Core.Path.{_≡_, refl, sym, ap, subst, _∙_}
 use mathlib.Core.List.{List, [], _∷_, _++_, map, map-append}

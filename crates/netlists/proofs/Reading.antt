@@ -1,6 +1,6 @@
--- The reading of a file, as a loop takes it: before each record the rules are still reading, with this netlist and at this offset. A refusal and the
--- end record end the reading with the rules' own outcome (`ends`); a variable or a node that is stored behind the others is what the rules take next.
--- Assumes nothing.
+-- The reading of a file, as a loop takes it: before each record the rules are still reading, with this netlist and at
+-- this offset. A refusal and the end record end the reading with the rules' own outcome (`ends`); a variable or a node
+-- that is stored behind the others is what the rules take next. Assumes nothing.
 use Prim.Native.Nat.{ℕ, _+_, _≤_, _<_}
 use mathlib.Core.Path.{_≡_, refl, sym, ap, _∙_}
 use mathlib.Core.List.{List}

@@ -1,6 +1,6 @@
--- A padded list without an entry, as a loop leaves it that moves the entries behind that one down by one: entries that move down over a gap, from the
--- first to the last; and that what is made of a list's entries is made of its parts. Of any entries, so that nodes, marks and bytes cite one law.
--- Assumes nothing.
+-- A padded list without an entry, as a loop leaves it that moves the entries behind that one down by one: entries that
+-- move down over a gap, from the first to the last; and that what is made of a list's entries is made of its parts.
+-- Of any entries, so that nodes, marks and bytes cite one law. Assumes nothing.
 use Prim.Native.Nat.{ℕ, zero, suc, _+_, _-_, _≤_, _<_}
 use mathlib.Core.Path.{_≡_, refl, sym, ap, _∙_}
 use mathlib.Core.List.{List, [], _∷_, _++_, map, map-append}
@@ -12,7 +12,8 @@ use Rattle.netlists.specs.Netlists.{padded}
 
 -- ---- entries that move down
 
--- The entries of `old` from `at` on become those of `new`, one after the other, each read off the entry `gap` further on: that one still stands.
+-- The entries of `old` from `at` on become those of `new`, one after the other, each read off the entry `gap`
+-- further on: that one still stands.
 module _ {A : Type 0} (old : List A) (at : ℕ) (new : List A) (gap : ℕ) (f : A → A) (d : A) where
   pub moved-next : (j : ℕ) → at + j < length old → j < length new → getD new j d ≡ f (getD old (at + j + gap) d)
       → set (paste old at new j) (at + j) (f (getD (paste old at new j) (at + j + gap) d)) ≡ paste old at new (suc j)
@@ -26,7 +27,8 @@ module _ {A : Type 0} (old : List A) (at : ℕ) (new : List A) (gap : ℕ) (f : 
 
 -- ---- a padded list without an entry
 
--- Those behind the entry that is removed move down by one, each as f makes it, and the last becomes what the list is padded with.
+-- Those behind the entry that is removed move down by one, each as f makes it, and the last becomes
+-- what the list is padded with.
 module _ {A : Type 0} (f : A → A) (rest : A) where
   -- a list, of whatever length, once k of them have moved
   unfoldable pub shifted : List A → (removed k : ℕ) → List A

@@ -40,7 +40,8 @@ pub record Ready (value : Netlist) (work : ℕ) : Type 0 where
   pub formed : Formed value
   pub room : 256 * value .count ≤ work
 
--- a netlist by value, whatever it is of, has no more variables and nodes than there may be, and so many work bytes have room for its nodes
+-- a netlist by value, whatever it is of, has no more variables and nodes than there may be, and so many
+-- work bytes have room for its nodes
 pub record Sized (value : Netlist) (work : ℕ) : Type 0 where
   pub variables : value .variables ≤ most-variables
   pub nodes : value .count ≤ most-nodes
@@ -51,7 +52,8 @@ unfoldable pub kept : Outcome R.Netlist → R.Netlist
 kept (answered n) = n
 kept (refused k p) = empty
 
--- a file that was read, where reading and the checks after it come to `end`: answered or refused, with number and place, and the netlist that is kept
+-- a file that was read, where reading and the checks after it come to `end`: answered or refused, with number and
+-- place, and the netlist that is kept
 pub record Reads (file : ReadFile) (end : Outcome R.Netlist) : Type 0 where
   pub outcome : queryOf (file .outcome) ≡ andThen end (λ n. answered tt)
   pub netlist : file .netlist ≡ flatOf (kept end)

@@ -1,4 +1,6 @@
-// Netlists by value, and the walk over a file, which takes record by record and gives its netlist or the refusal.
+// Netlists by value, and the walk over netlist bytes, which takes record by record and gives the netlist or
+// the refusal. Reads the netlist bytes and writes to no lent slice. Used by all that works on a netlist:
+// the checker's crates from `nodes` to `pairs`, the edits, the queries, the derivations, the listing and the desk.
 ghost use mathlib.Core.Path.{_≡_};
 ghost use Prim.Native.Nat.{ℕ, _+_, _<_, _≤_};
 ghost use Rattle.rules.specs.Records.{Cell, said, size, node, empty, withNode, most-nodes, last-kind, most-record};
@@ -14,7 +16,7 @@ use rules::Node;
 use rules::QueryOutcome;
 use rules::Refusal;
 
-// No more records than the variables and nodes there may be, and the end.
+// The most records of a file: the variables and nodes that there may be, and the end.
 const MOST_RECORDS: usize = MOST_VARIABLES + MOST_NODES + 1;
 
 // A netlist by value: the counts, the class bytes and the node records, each in file order. Beyond the counts all is 0.
@@ -25,13 +27,13 @@ pub struct Netlist {
     pub nodes: [Node; MOST_NODES],
 }
 
-// A file that was read: whether it is answered or refused, and its netlist by value, the empty one on a refusal.
+// Netlist bytes that were read: whether they are answered or refused, and their netlist, the empty one on a refusal.
 pub struct ReadFile {
     pub outcome: QueryOutcome,
     pub netlist: Netlist,
 }
 
-// The node record of no node, which stands beyond the count.
+// The node of no record, in which every field is 0: what stands beyond the count.
 pub fn blank_node() -> Node
     ensures { λ r. ⌜ r ≡ blank ⌝ }
 {
@@ -43,7 +45,7 @@ pub fn blank_node() -> Node
     }
 }
 
-// The netlist of no records.
+// The netlist of no records: no variable, no node, and 0 in every entry.
 pub fn no_records() -> Netlist
     ensures { λ r. ⌜ r ≡ flatOf empty ⌝ }
 {
@@ -55,7 +57,7 @@ pub fn no_records() -> Netlist
     }
 }
 
-// The netlist with one node more.
+// The netlist with one node more, behind those that it has. All else is as it was.
 pub fn with_node(netlist: Netlist, last: Node) -> Netlist
     requires { ⌜ netlist .count < most-nodes ⌝ }
     ensures { λ r. ⌜ ((n : Records.Netlist) (cell : Cell) → netlist ≡ flatOf n → last ≡ entry cell →
@@ -69,7 +71,7 @@ pub fn with_node(netlist: Netlist, last: Node) -> Netlist
     longer
 }
 
-// The node record of a node of kind `k` with the body `b`, `c`.
+// The node by value whose record has kind `k` and the body `b`, `c`. What its kind has none of is 0.
 pub fn entry_of(k: u8, b: u8, c: u8) -> Node
     ensures { λ r. ⌜ ((cell : Cell) → said k b c ≡ node cell → r ≡ entry cell) ⌝ }
 {
@@ -105,7 +107,7 @@ pub fn entry_of(k: u8, b: u8, c: u8) -> Node
     }
 }
 
-// How many bytes a variable or a node of kind `k` takes.
+// How many bytes the record of a variable or node of kind `k` has: at most three, for any `k`.
 pub fn size_of(k: u8) -> usize
     ensures { λ r. ⌜ ((b c : ℕ) → 0 < k → k ≤ last-kind → r ≡ size (said k b c)) ⌝ }
     ensures few { λ r. ⌜ r ≤ most-record ⌝ }
@@ -122,7 +124,7 @@ pub fn size_of(k: u8) -> usize
     3
 }
 
-// A file that is answered with this netlist.
+// What is read where the bytes are answered with this netlist.
 fn answered(netlist: Netlist) -> ReadFile
     ensures { λ r. ⌜ ((n : Records.Netlist) → netlist ≡ flatOf n → Reads r (Checks.answered n)) ⌝ }
 {
@@ -132,7 +134,7 @@ fn answered(netlist: Netlist) -> ReadFile
     }
 }
 
-// A file that is refused.
+// What is read where the bytes are refused: the refusal, and the empty netlist.
 pub fn refused(refusal: Refusal) -> ReadFile
     ensures { λ r. ⌜ Reads r (Checks.refused (numberOf refusal) (placeOf refusal)) ⌝ }
 {
@@ -142,8 +144,8 @@ pub fn refused(refusal: Refusal) -> ReadFile
     }
 }
 
-// Reads a whole file: its netlist, or the refusal. A variable or a node goes behind those before it, in place; the end
-// record ends the reading, and so does a refusal.
+// Reads netlist bytes: their netlist, or the first refusal by the record rules. A variable or a node goes behind those
+// before it, in place; the end record ends the reading, and so does a refusal.
 pub fn read(bytes: &[u8]) -> ReadFile
     ensures { λ r. ⌜ Reads r (Checks.read (now (bytes .entry))) ⌝ }
 {

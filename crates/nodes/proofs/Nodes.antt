@@ -1,6 +1,6 @@
--- The families of all nodes in the work bytes. Once the first k nodes are done the bytes are those of their families and, behind them, what
--- stood there. The rules see of their operands' families only which sets are in them, so the families of node k as worked out from the bytes
--- have the bytes that the rules say. Assumes nothing.
+-- The families of all nodes in the work bytes. Once the first k nodes are done the bytes are those of their families
+-- and, behind them, what stood there. The rules see of their operands' families only which sets are in them,
+-- so the families of node k as worked out from the bytes have the bytes that the rules say. Assumes nothing.
 use Prim.Native.Nat.{ℕ, _+_, _*_, _≤_, _<_}
 use mathlib.Core.Path.{_≡_, refl, sym, ap, ap₂, _∙_}
 use mathlib.Core.List.{List, [], _∷_, _++_, append-assoc, append-nil}

@@ -1,5 +1,5 @@
--- A node record by its kind: which of its fields are numbers of lower nodes, and what the rules make of the families of those. Each rule is
--- one test of the kind, by cases on the node that the record is of. Assumes nothing.
+-- A node record by its kind: which of its fields are numbers of lower nodes, and what the rules make of the families of
+-- those. Each rule is one test of the kind, by cases on the node that the record is of. Assumes nothing.
 use Prim.Native.Nat.{ℕ, _+_, _*_, _<_}
 use mathlib.Core.Path.{_≡_, refl, ap, ap₂, _∙_}
 use mathlib.Core.Logic.{_⊎_, inl, inr}
@@ -81,7 +81,8 @@ module _ {i : ℕ} {node : Node} (p : Placed i node) where
 abbrev gateBy : (kind : ℕ) → Family → Family → Family
 gateBy kind F G = cond (eqb kind 4) (product F G) (spread F G)
 
--- from the families of its operands, which `F` gives; for the glitch family their settled ones, which `F` gives, and their glitch ones, `G`
+-- from the families of its operands, which `F` gives; for the glitch family their settled ones, which `F` gives,
+-- and their glitch ones, `G`
 unfoldable settledBy : Node → (F : ℕ → Family) → Family
 settledBy n F =
     cond (eqb (n .kind) 2) (n .set ∷ [])

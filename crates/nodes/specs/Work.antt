@@ -1,5 +1,5 @@
--- The families of all nodes in the work bytes: part 2 × i is the settled family of node i, and the part after it its glitch family. Cited by
--- the contracts of this crate. Assumes nothing.
+-- The families of all nodes in the work bytes: part 2 × i is the settled family of node i, and the part after it its
+-- glitch family. Cited by the contracts of this crate. Assumes nothing.
 use Prim.Native.Nat.{ℕ, _+_, _*_, _<_}
 use mathlib.Core.Path.{_≡_}
 use mathlib.Core.List.{List}
@@ -23,7 +23,8 @@ soFar bytes i = tabulate (familiesIn bytes) i
 unfoldable pub withFamilies : List ℕ → (i : ℕ) → Families → List ℕ
 withFamilies bytes i F = withFamily (withFamily bytes (2 * i) (F .settled)) (2 * i + 1) (F .glitch)
 
--- a node record that can stand at number i: that of a node whose operands are lower and whose set is one of the variables there may be
+-- a node record that can stand at number i: that of a node whose operands are lower and whose set is
+-- one of the variables there may be
 pub record Placed (i : ℕ) (n : Node) : Type 0 where
   pub cell : Cell
   pub is : n ≡ entry cell

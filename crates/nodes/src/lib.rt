@@ -1,5 +1,6 @@
-// The families of every node in the work bytes, in file order: part 2 × i is the settled family of node i, and the part
-// after it its glitch family.
+// The families of every node in the work bytes, in file order: part 2 × i is the settled family of node i,
+// and the part after it its glitch family. Writes to the work bytes that it is lent, at the parts of the nodes it works
+// out and nowhere else. Used by `checker`, `edit_steps`, the queries and the derivations.
 ghost use mathlib.Core.Path.{_≡_};
 ghost use Prim.Native.Nat.{_+_, _*_, _<_, _≤_};
 ghost use mathlib.Core.Bool.{cond};
@@ -16,8 +17,8 @@ ghost use Rattle.nodes.specs.Work.{soFar, withFamilies, Placed};
 use netlists::Netlist;
 use rules::Node;
 
-// The family of a gate of this kind with two operands, from those in two lower parts: for XOR the product, for AND and
-// OR the empty set, both families and their product.
+// Writes the family of a gate with two operands from those in two lower parts: for XOR (kind 4) their product,
+// for AND and OR the empty set, both families and their product.
 fn gate_family(work: &mut [u8], into: usize, kind: u8, first: usize, second: usize)
     requires { ⌜ HasPart (now work) into × (first < into) × (second < into) ⌝ }
     ensures { λ _. ⌜ now (work .exit) ≡ withFamily (now (work .entry)) into
@@ -32,7 +33,7 @@ fn gate_family(work: &mut [u8], into: usize, kind: u8, first: usize, second: usi
     }
 }
 
-// The settled family of node `i`, from those of its operands.
+// Writes the settled family of node `i`, from those of its operands.
 fn settled_family(work: &mut [u8], i: usize, node: Node)
     requires { ⌜ HasPart (now work) (2 * i) × Placed i node ⌝ }
     ensures { λ _. ⌜ ((cell : Cell) → node ≡ entry cell →
@@ -49,12 +50,13 @@ fn settled_family(work: &mut [u8], i: usize, node: Node)
     }
 }
 
-// The glitch family of node `i`, from those of its operands; for XOR it is as for AND, and for a register the operand's
-// settled family.
+// Writes the glitch family of node `i`, from those of its operands; for XOR it is as for AND, and for a
+// register the operand's settled family.
 fn glitch_family(work: &mut [u8], i: usize, node: Node)
     requires { ⌜ HasPart (now work) (2 * i + 1) × Placed i node ⌝ }
     ensures { λ _. ⌜ ((cell : Cell) → node ≡ entry cell →
-        now (work .exit) ≡ withFamily (now (work .entry)) (2 * i + 1) (glitchRule (soFar (now (work .entry)) i) cell)) ⌝ }
+        now (work .exit) ≡ withFamily (now (work .entry)) (2 * i + 1)
+        (glitchRule (soFar (now (work .entry)) i) cell)) ⌝ }
 {
     let into = 2 * i + 1;
     let kind = node.kind;
@@ -72,7 +74,7 @@ fn glitch_family(work: &mut [u8], i: usize, node: Node)
     }
 }
 
-// Both families of node `i`.
+// Writes both families of node `i`, by the rules, from those of the nodes below it, which the work bytes hold.
 pub fn node_families(work: &mut [u8], i: usize, node: Node)
     requires { ⌜ (256 * i + 256 ≤ length (now work)) × Placed i node ⌝ }
     ensures { λ _. ⌜ ((cell : Cell) → node ≡ entry cell →
@@ -82,7 +84,7 @@ pub fn node_families(work: &mut [u8], i: usize, node: Node)
     glitch_family(work, i, node);
 }
 
-// The families of all nodes, in file order.
+// Writes the families of all nodes at the front of the work bytes, in file order. The bytes beyond are as they were.
 pub fn all_families(netlist: Netlist, work: &mut [u8])
     requires { ⌜ Ready netlist (length (now work)) ⌝ }
     ensures { λ _. ⌜ ((n : Records.Netlist) → netlist ≡ flatOf n →

@@ -1,5 +1,5 @@
--- Blocks under a limit, with the reply to each, which antt computes from the definitions; and one whose counts differ at two probes, so that what
--- is said of two probes is not empty. Assumes nothing.
+-- Blocks under a limit, with the reply to each, which antt computes from the definitions; and one whose counts differ
+-- at two probes, so that what is said of two probes is not empty. Assumes nothing.
 use Prim.Native.Nat.{ℕ}
 use mathlib.Core.Path.{_≡_, refl}
 use mathlib.Core.Bool.{false, true, xor}
@@ -48,8 +48,8 @@ abbrev pub two-masks : List ℕ
 two-masks =
     0x01 ∷ 0x00 ∷ 0x01 ∷ 0x01 ∷ 0x01 ∷ 0x01 ∷ 0x02 ∷ 0x03 ∷ 0x00 ∷ 0x02 ∷ 0x04 ∷ 0x00 ∷ 0x07 ∷ 0x00 ∷ 0x07 ∷ 0x01 ∷ 0x00 ∷ []
 
--- variables secret, secret, mask, mask; inputs 5, 10, 8 and 4; registers 4 to 7 of them: 5 and 6 hold the shares of the second secret, 4 and 7
--- those of the first
+-- variables secret, secret, mask, mask; inputs 5, 10, 8 and 4; registers 4 to 7 of them: 5 and 6 hold the shares of the
+-- second secret, 4 and 7 those of the first
 abbrev pub two-secrets : List ℕ
 two-secrets =
     0x01 ∷ 0x00 ∷ 0x01 ∷ 0x00 ∷ 0x01 ∷ 0x01 ∷ 0x01 ∷ 0x01
@@ -57,7 +57,8 @@ two-secrets =
     ∷ 0x07 ∷ 0x00 ∷ 0x07 ∷ 0x01 ∷ 0x07 ∷ 0x02 ∷ 0x07 ∷ 0x03
     ∷ 0x00 ∷ []
 
--- variables secret, public, secret, mask, mask; inputs 11, 20, 8 and 16; 4 AND(0,1), 5 AND(2,3): their product holds sets 3, 4 and 7
+-- variables secret, public, secret, mask, mask; inputs 11, 20, 8 and 16; 4 AND(0,1), 5 AND(2,3):
+-- their product holds sets 3, 4 and 7
 abbrev pub three-sets : List ℕ
 three-sets =
     0x01 ∷ 0x00 ∷ 0x01 ∷ 0x02 ∷ 0x01 ∷ 0x00 ∷ 0x01 ∷ 0x01 ∷ 0x01 ∷ 0x01
@@ -65,9 +66,10 @@ three-sets =
     ∷ 0x05 ∷ 0x00 ∷ 0x01 ∷ 0x05 ∷ 0x02 ∷ 0x03
     ∷ 0x00 ∷ []
 
--- Under each limit that matters: where there is a pair, below its position and at it; where there is none, below the number of pairs and at it;
--- no pair to look at; a single suspect, for settled and glitching signals and, in block A, for glitching ones alone; a refusal. Block B, which one
--- probe does not break, falls to two. Of a pair's suspect sets the one with fewest variables is reported.
+-- Under each limit that matters: where there is a pair, below its position and at it; where there is none,
+-- below the number of pairs and at it; no pair to look at; a single suspect, for settled and glitching signals and,
+-- in block A, for glitching ones alone; a refusal. Block B, which one probe does not break, falls to two.
+-- Of a pair's suspect sets the one with fewest variables is reported.
 abbrev pub cases : List Case
 cases =
     record { bytes = shares; limit = 0; expected = finds clear clear 2 4 spent 0 }
@@ -100,7 +102,8 @@ pub shares-read : read shares ≡ answered two-shares
 unfolding replyTo
 shares-read = refl
 
--- On the points that feed both registers, beside secret 0 one mask setting gives the pattern of zeros, and beside secret 1 none does.
+-- On the points that feed both registers, beside secret 0 one mask setting gives the pattern of zeros,
+-- and beside secret 1 none does.
 pub counts-differ : (giving two-shares (union (feeding two-shares 2) (feeding two-shares 3)) all-zero [] (false ∷ []) ≡ 1)
     × (giving two-shares (union (feeding two-shares 2) (feeding two-shares 3)) all-zero [] (true ∷ []) ≡ 0)
 unfolding member insert union count table xor exclusiveOr valueRule values feedingRule feedings feeding same howMany settings next others make matches giving

@@ -1,5 +1,5 @@
--- The search over one list of pairs and then another, and over lists that grow by a turn of a loop: the pairs of one node, and those of all
--- nodes below a bound. Assumes nothing.
+-- The search over one list of pairs and then another, and over lists that grow by a turn of a loop: the pairs of one
+-- node, and those of all nodes below a bound. Assumes nothing.
 use Prim.Native.Nat.{ℕ, zero, suc, _+_}
 use mathlib.Core.Path.{_≡_, refl, sym, _∙_}
 use mathlib.Core.Bool.{Bool, true, false, cond, _&&_}

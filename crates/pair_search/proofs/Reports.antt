@@ -1,5 +1,5 @@
--- What a pair reports, over the bytes: the product is made in bytes of its own, and over the bytes of a netlist's families the report is the
--- rules'. Products and reports see only which sets are in the families. Assumes nothing.
+-- What a pair reports, over the bytes: the product is made in bytes of its own, and over the bytes of a netlist's
+-- families the report is the rules'. Products and reports see only which sets are in the families. Assumes nothing.
 use Prim.Native.Nat.{ℕ, _+_, _<_}
 use mathlib.Core.Path.{_≡_, _∙_}
 use mathlib.Core.List.{List, _++_}

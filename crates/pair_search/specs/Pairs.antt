@@ -1,5 +1,6 @@
--- Change request A1, "Two probes": the pairs of tested nodes, the search over them under a limit, the reply that has both the answer of one
--- probe and what the search found, and what no pair means for the counts of mask settings. Assumes nothing.
+-- Change request A1, "Two probes": the pairs of tested nodes, the search over them under a limit, the reply that has
+-- both the answer of one probe and what the search found, and what no pair means for the counts of mask settings.
+-- Assumes nothing.
 use Prim.Native.Nat.{ℕ, zero, suc, _≤_, _<_}
 use mathlib.Core.Path.{_≡_}
 use mathlib.Core.Bool.{Bool, not, cond}
@@ -10,7 +11,8 @@ use lib.ListN.{length, getD}
 use Rattle.rules.specs.Lists.{member, union}
 use Rattle.rules.specs.Records.{input, Netlist}
 use Rattle.rules.specs.Values.{feeding, CountsAgree}
-use Rattle.rules.specs.Families.{Family, product, familiesAt, suspect, tested, reported, Finding, clear, suspectAt, half, Findings, findings}
+use Rattle.rules.specs.Families.{Family, product, familiesAt, suspect, tested, reported}
+use Rattle.rules.specs.Families.{Finding, clear, suspectAt, half, Findings, findings}
 use Rattle.rules.specs.Checks.{Outcome, answered, refused, andThen, read, admitted}
 use Rattle.rules.specs.Demands.{TestedNode, NoSuspect}
 
@@ -62,7 +64,8 @@ pairReport n p = reported (n .variables) (pairFamily n p)
 
 -- ---- the search under a limit
 
--- What is found: a node that is suspect by itself; no pair; the first suspect pair, with its set; or that the limit is spent.
+-- What is found: a node that is suspect by itself; no pair; the first suspect pair, with its set;
+-- or that the limit is spent.
 pub data PairFinding : Type 0 where
   single : (node set : ℕ) → PairFinding
   noPair : PairFinding
@@ -79,12 +82,13 @@ unfoldable pub onward : Pair → Option ℕ → (looked : ℕ) → Searched → 
 onward p (some A) looked rest = record { found = pairAt (p .i) (p .j) A; looked = looked }
 onward p none looked rest = rest
 
--- The search over some pairs, of which each reports a set or none, after so many that were looked at and were clear. With no pair left it is
--- no pair; with one left, and as many looked at as the limit allows, the limit is spent.
+-- The search over some pairs, of which each reports a set or none, after so many that were looked at and were clear.
+-- With no pair left it is no pair; with one left, and as many looked at as the limit allows, the limit is spent.
 unfoldable pub searchFrom : (Pair → Option ℕ) → (limit looked : ℕ) → List Pair → Searched
 searchFrom report limit looked [] = record { found = noPair; looked = looked }
 searchFrom report limit looked (p ∷ ps) =
-    cond (ltb looked limit) (onward p (report p) (suc looked) (searchFrom report limit (suc looked) ps)) record { found = spent; looked = looked }
+    cond (ltb looked limit) (onward p (report p) (suc looked) (searchFrom report limit (suc looked) ps))
+    record { found = spent; looked = looked }
 
 -- a single suspect comes back as it is, and no pair is looked at
 unfoldable pub unlessSingle : Finding → Searched → Searched
@@ -133,7 +137,8 @@ pub record NothingSuspectInPairs (bytes : List ℕ) (entries work limit : ℕ) :
   pub noSuspectPair : NoSuspectPair netlist
   pub reaches : length (pairs netlist) ≤ limit
 
--- Two probes on any two tested nodes, or both on one: in the netlist that the bytes are, the counts agree on the feeding points of both.
+-- Two probes on any two tested nodes, or both on one: in the netlist that the bytes are, the counts agree
+-- on the feeding points of both.
 unfoldable pub TwoProbes : List ℕ → Type 0
 TwoProbes bytes = (n : Netlist) → read bytes ≡ answered n
     → (i j : ℕ) → TestedNode n i → TestedNode n j → CountsAgree n (union (feeding n i) (feeding n j))

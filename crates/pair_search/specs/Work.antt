@@ -1,4 +1,5 @@
--- What a search goes by, the reports of pairs by what the work bytes hold, and when a search is over. Cited by the contracts of this crate. Assumes nothing.
+-- What a search goes by, the reports of pairs by what the work bytes hold, and when a search is over.
+-- Cited by the contracts of this crate. Assumes nothing.
 use Prim.Native.Nat.{ℕ, _+_, _*_}
 use mathlib.Core.Path.{_≡_}
 use mathlib.Core.Bool.{Bool, true, false}
@@ -18,7 +19,8 @@ pub record ByClass (terms : Terms) (variables : List Class) : Type 0 where
 
 -- the set of a pair, if the product of the glitch families that the work bytes hold of its nodes has a suspect one
 unfoldable pub reportIn : List Class → List ℕ → Pair → Option ℕ
-reportIn variables bytes p = reported variables (product (familyAt bytes (2 * p .i + 1)) (familyAt bytes (2 * p .j + 1)))
+reportIn variables bytes p =
+    reported variables (product (familyAt bytes (2 * p .i + 1)) (familyAt bytes (2 * p .j + 1)))
 
 -- whether a search ends with what it found
 abbrev pub over : PairFinding → Bool

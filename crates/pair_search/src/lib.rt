@@ -1,5 +1,7 @@
-// The search over the pairs of tested nodes, under a limit. A pair is suspect if the product of its two glitch families holds
-// a suspect set; the pairs are looked at in their order, by the higher node and then by the lower, and counted.
+// The search over the pairs of tested nodes, under a limit. A pair is suspect if the product of its two glitch families
+// holds a suspect set; the pairs are looked at in their order, by the higher node and then by the lower, and counted.
+// Reads the work bytes, makes each product in bytes of its own and writes to no lent slice. Used by `pairs`,
+// and for its types by the desk, test programs and the benchmark.
 ghost use mathlib.Core.Path.{_≡_};
 ghost use mathlib.Core.Bool.{cond};
 ghost use mathlib.Core.List.{List, [], _∷_};
@@ -45,10 +47,11 @@ pub struct Search {
     pub looked: usize,
 }
 
-// A part holds what a part of other bytes holds.
+// Copies the family of a part of the work bytes into a part of `scratch`.
 fn take_family(scratch: &mut [u8], into: usize, work: &[u8], from: usize)
     requires { ⌜ HasPart (now scratch) into × HasPart (now work) from ⌝ }
-    ensures { λ _. ⌜ now (scratch .exit) ≡ withFamily (now (scratch .entry)) into (familyAt (now (work .entry)) from) ⌝ }
+    ensures { λ _. ⌜ now (scratch .exit) ≡
+        withFamily (now (scratch .entry)) into (familyAt (now (work .entry)) from) ⌝ }
 {
     let a = PART * into;
     let b = PART * from;
@@ -59,7 +62,8 @@ fn take_family(scratch: &mut [u8], into: usize, work: &[u8], from: usize)
     }
 }
 
-// The set that the pair of nodes `i` and `j` reports, or `SETS` if it is clear. The product is made in bytes of its own.
+// The set that the pair of nodes `i` and `j` reports, or `SETS` if it is clear.
+// The product is made in bytes of its own.
 fn pair_set(work: &[u8], i: usize, j: usize, terms: Terms) -> usize
     requires { ⌜ HasPart (now work) (2 * i + 1) × HasPart (now work) (2 * j + 1) ⌝ }
     ensures { λ r. ⌜ ((variables : List Class) → ByClass terms variables →
@@ -72,7 +76,7 @@ fn pair_set(work: &[u8], i: usize, j: usize, terms: Terms) -> usize
     suspects::first_suspect(&scratch, 2, terms.secrets, terms.masks)
 }
 
-// After so many pairs, all of them clear.
+// The state of a search after `looked` pairs, all of them clear.
 pub fn no_pair(looked: usize) -> Search
     ensures { λ r. ⌜ searchedOf r ≡ record { found = noPair; looked = looked } ⌝ }
 {
@@ -82,7 +86,8 @@ pub fn no_pair(looked: usize) -> Search
     }
 }
 
-// After so many pairs that were clear, looks at that of nodes `i` and `j`, unless they are not both tested or the limit is spent.
+// Looks at the pair of nodes `i` and `j` after `looked` pairs that were clear. Where they are not both tested (`both`)
+// it is no pair, and where the limit is spent it is not looked at.
 fn look(work: &[u8], i: usize, j: usize, both: bool, terms: Terms, looked: usize) -> Search
     requires { ⌜ HasPart (now work) (2 * i + 1) × HasPart (now work) (2 * j + 1) ⌝ }
     ensures { λ r. ⌜ ((variables : List Class) → ByClass terms variables →
@@ -110,7 +115,7 @@ fn look(work: &[u8], i: usize, j: usize, both: bool, terms: Terms, looked: usize
     }
 }
 
-// Whether a search ends with what it found.
+// Whether a search ends with what it found: a single suspect, a pair, or the limit spent.
 pub fn is_over(search: Search) -> bool
     ensures { λ r. ⌜ r ≡ over (searchedOf search .found) ⌝ }
 {
@@ -123,7 +128,8 @@ pub fn is_over(search: Search) -> bool
     }
 }
 
-// After so many pairs that were clear, the search goes on with those of node `j`.
+// Goes on with the pairs of node `j` and each lower node, after `looked` pairs that were clear, until one
+// is suspect or the limit is spent.
 fn search_row(netlist: Netlist, work: &[u8], j: usize, terms: Terms, looked: usize) -> Search
     requires { ⌜ Ready netlist (length (now work)) × (j < netlist .count) ⌝ }
     ensures { λ r. ⌜ ((n : Records.Netlist) → netlist ≡ flatOf n → ByClass terms (n .variables) →
@@ -145,7 +151,8 @@ fn search_row(netlist: Netlist, work: &[u8], j: usize, terms: Terms, looked: usi
     so_far
 }
 
-// The same for a caller that has the limit alone.
+// Goes on with the pairs of node `j` and each lower node, after `looked` pairs that were clear.
+// The netlist and the work bytes are those that `checker::examine` left; secrets and masks are read from the classes.
 pub fn search_node(netlist: Netlist, work: &[u8], j: usize, limit: usize, looked: usize) -> Search
     requires { ⌜ Ready netlist (length (now work)) × (j < netlist .count) ⌝ }
     ensures { λ r. ⌜ ((n : Records.Netlist) → netlist ≡ flatOf n →

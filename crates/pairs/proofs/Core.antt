@@ -1,5 +1,5 @@
--- The ways through the core: where `examine` refuses so does `examine_pairs`, and else the search over the work bytes is that over the pairs of
--- the netlist; from that follow the promises of `examine_pairs`. Assumes nothing.
+-- The ways through the core: where `examine` refuses so does `examine_pairs`, and else the search over the work bytes
+-- is that over the pairs of the netlist; from that follow the promises of `examine_pairs`. Assumes nothing.
 use Prim.Native.Nat.{ℕ}
 use mathlib.Core.Path.{_≡_, refl, sym, ap, ap₂, subst, _∙_}
 use mathlib.Core.Logic.{_↔_}

@@ -1,5 +1,5 @@
--- What a search says: each finding with its count, exactly when it is found, and that a larger limit never alters it. By induction on the
--- pairs that are left. Assumes nothing.
+-- What a search says: each finding with its count, exactly when it is found, and that a larger limit never alters it.
+-- By induction on the pairs that are left. Assumes nothing.
 use Prim.Native.Nat.{ℕ, zero, suc, _+_, _≤_, _<_}
 use mathlib.Core.Path.{_≡_, refl, sym, ap, subst, _∙_}
 use mathlib.Core.Logic.{_↔_, _⊎_, inl, inr, ⊎-elim}
@@ -119,9 +119,9 @@ module _ (n : Netlist) (limit : ℕ) where
   abbrev SinglesClear : Type 0
   SinglesClear = half (λ F. F .glitch) n ≡ clear
 
-  -- What each finding means, with its count: that node is the single suspect, and no pair was looked at; all pairs were looked at, within the
-  -- limit, and are clear; the pair stands at the position that is the count, reports the set, and all before it are clear; as many as the limit
-  -- were looked at, all are clear and more remain.
+  -- What each finding means, with its count: that node is the single suspect, and no pair was looked at;
+  -- all pairs were looked at, within the limit, and are clear; the pair stands at the position that is the count,
+  -- reports the set, and all before it are clear; as many as the limit were looked at, all are clear and more remain.
   abbrev pub Means : PairFinding → (looked : ℕ) → Type 0
   Means (single node set) looked = (half (λ F. F .glitch) n ≡ suspectAt node set) × (looked ≡ 0)
   Means noPair looked = SinglesClear × (looked ≡ length (pairs n)) × (looked ≤ limit) × ClearAt (pairReport n) (pairs n) (λ k. Unit {0})

@@ -1,5 +1,6 @@
--- The order of the pairs: it lists each pair of tested nodes exactly once, i below j, by j and then i. What holds of each entry of a list and
--- between any two of its entries is followed through the lists that `pairs` is made of. Assumes nothing.
+-- The order of the pairs: it lists each pair of tested nodes exactly once, i below j, by j and then i.
+-- What holds of each entry of a list and between any two of its entries is followed through the lists that
+-- `pairs` is made of. Assumes nothing.
 use Prim.Native.Nat.{ℕ, zero, suc, _+_, _≤_, _<_}
 use mathlib.Core.Path.{_≡_, refl, sym, ap, subst}
 use mathlib.Core.Logic.{_⊎_, inl, inr, ⊎-elim}

@@ -1,6 +1,7 @@
--- Two probes: where no tested node is suspect and no pair of them is, the counts of mask settings agree on the feeding points of any two tested
--- nodes together. The patterns there are held by the empty set, both glitch families and their product (`holds-both`), of which no set is
--- suspect. And the checker answers no pair exactly then, if the limit reaches. Assumes nothing.
+-- Two probes: where no tested node is suspect and no pair of them is, the counts of mask settings agree on the
+-- feeding points of any two tested nodes together. The patterns there are held by the empty set, both glitch families
+-- and their product (`holds-both`), of which no set is suspect. And the checker answers no pair exactly then,
+-- if the limit reaches. Assumes nothing.
 use Prim.Native.Nat.{ℕ, _≤_, _<_}
 use mathlib.Core.Path.{_≡_, refl, sym, ap, subst, fun-ext}
 use mathlib.Core.Logic.{_↔_, ⊎-elim}
@@ -123,7 +124,8 @@ module _ (bytes : List ℕ) (entries work limit : ℕ) where
       go (answered n) = refl
       go (refused k p) = refl
 
-  -- the checker answers no pair exactly when it refuses nothing, no tested node is suspect and no pair of them is, and the limit reaches
+  -- the checker answers no pair exactly when it refuses nothing, no tested node is suspect and no pair
+  -- of them is, and the limit reaches
   pub no-pair-exactly : NoPair (pairsReply bytes entries work limit) ↔ NothingSuspectInPairs bytes entries work limit
   unfolding pairsReply andThen NoPair pairFindings
   no-pair-exactly =

@@ -1,4 +1,5 @@
--- A search that goes on node by node: it begins, goes a node further, and once it is done it is the search over all pairs. Assumes nothing.
+-- A search that goes on node by node: it begins, goes a node further, and once it is done it is the search
+-- over all pairs. Assumes nothing.
 use Prim.Native.Nat.{ℕ, _+_, _-_, _≤_}
 use mathlib.Core.Path.{_≡_, refl, sym, ap, _∙_}
 use mathlib.Core.Bool.{Bool, true, false, _||_}

@@ -1,5 +1,5 @@
--- What the reply with pairs means in document 01 and in change request A1: for each case its number and values. Promises use this.
--- Assumes nothing.
+-- What the reply with pairs means in document 01 and in change request A1: for each case its number and values.
+-- Promises use this. Assumes nothing.
 use Rattle.rules.specs.Checks.{Outcome, answered, refused}
 use Rattle.rules.specs.Paper.{numberOf, placeOf, findingsOf}
 use Rattle.pair_search.specs.Pairs.{PairFindings}

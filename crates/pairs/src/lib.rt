@@ -1,6 +1,7 @@
-// The checker with two probes: `check_pairs` over netlist bytes, both lent slices and a limit on pairs. `examine_pairs` is the
-// same over flat forms: it takes the number of entries, and answers the netlist and its marks by value. Its search goes node by node, by
-// functions that a caller may take who wants to tell how far it is.
+// The checker with two probes. `check_pairs` is over netlist bytes, both lent slices, to which it writes as `check`
+// does, and a limit on pairs. `examine_pairs` is its core: it takes the number of entries in place of the node records
+// and gives netlist and marks by value. Its search goes node by node, by functions that a caller may use who wants to
+// show how far it is. Used by the desk, test programs and the benchmark.
 ghost use mathlib.Core.Path.{_≡_};
 ghost use mathlib.Core.Bool.{true, false};
 ghost use mathlib.Core.Logic.{_↔_};
@@ -14,7 +15,8 @@ ghost use Rattle.rules.specs.Demands.{GlitchClear, NothingSuspect, OneProbe};
 ghost use Rattle.rules.specs.Paper.{replyOf};
 ghost use Rattle.netlists.specs.Netlists.{flatOf, Ready, kept};
 ghost use Rattle.marks.specs.Marks.{marksOf};
-ghost use Rattle.pair_search.specs.Pairs.{noPair, unlessSingle, pairsReply, oneProbeReply, NoPair, NothingSuspectInPairs, TwoProbes};
+ghost use Rattle.pair_search.specs.Pairs.{noPair, unlessSingle, pairsReply};
+ghost use Rattle.pair_search.specs.Pairs.{oneProbeReply, NoPair, NothingSuspectInPairs, TwoProbes};
 ghost use Rattle.pair_search.specs.Meaning.{searchedOf};
 ghost use Rattle.pairs.specs.Meaning.{pairsReplyOf};
 ghost use Rattle.pairs.specs.Underway.{isDone, Underway};
@@ -34,13 +36,14 @@ pub struct PairsAnswer {
     pub search: Search,
 }
 
-// What the checker replies.
+// What the checker with two probes replies: a refusal, which leaves both lent slices as they were, or the answer.
 pub enum PairsReply {
     Refused(Refusal),
     Answered(PairsAnswer),
 }
 
-// What is examined: the reply, and what `examine` examined, whose netlist is empty on a refusal.
+// What an examination with two probes gives: the reply, and what `checker::examine` gives,
+// whose netlist is empty on a refusal.
 pub struct ExaminedPairs {
     pub reply: PairsReply,
     pub examined: Examined,
@@ -48,7 +51,8 @@ pub struct ExaminedPairs {
 
 // ---- the search, node by node
 
-// How far a search over pairs is: the reply of one probe, and what was found in the pairs of the nodes below `next`, of so many nodes.
+// How far a search over pairs is: the reply of one probe, what was found in the pairs of the nodes below `next`,
+// and how many nodes there are.
 pub struct Progress {
     pub reply: Reply,
     pub search: Search,
@@ -56,7 +60,7 @@ pub struct Progress {
     pub nodes: usize,
 }
 
-// What is found before any pair is looked at: a node that is suspect by itself, or nothing.
+// The search before any pair is looked at: a node that is suspect by itself, with its set, or no pair so far.
 fn single_or_none(reply: Reply) -> Search
     ensures { λ r. ⌜ ((f : Findings) → replyOf reply ≡ answered f →
         searchedOf r ≡ unlessSingle (f .glitch) (record { found = noPair; looked = 0 })) ⌝ }
@@ -76,12 +80,13 @@ fn single_or_none(reply: Reply) -> Search
     }
 }
 
-// Before any pair is looked at, of what `examine` examined. A node that is suspect by itself ends the search; on a refusal there are no
-// nodes.
+// The search before any pair is looked at, of what `examine` gave. A node that is suspect by itself ends it;
+// on a refusal there are no nodes.
 pub fn begin_pairs(examined: Examined) -> Progress
     ensures { λ r. ⌜ ((bytes : List ℕ) (entries limit : ℕ) (before work : List ℕ) →
         replyOf (examined .reply) ≡ reply bytes entries (length before) →
-        examined .netlist ≡ flatOf (kept (admitted bytes entries (length before))) → work ≡ workAfter bytes entries before →
+        examined .netlist ≡ flatOf (kept (admitted bytes entries (length before))) →
+        work ≡ workAfter bytes entries before →
         Underway bytes entries limit before (examined .netlist) work r) ⌝ }
 {
     let reply = examined.reply;
@@ -94,7 +99,7 @@ pub fn begin_pairs(examined: Examined) -> Progress
     }
 }
 
-// Whether no node is left, or the search ends with what it found.
+// Whether the search is done: no node is left, or it ends with what it found.
 pub fn is_done(progress: Progress) -> bool
     ensures { λ r. ⌜ r ≡ isDone progress ⌝ }
 {
@@ -102,7 +107,8 @@ pub fn is_done(progress: Progress) -> bool
     (progress.nodes <= progress.next) | pair_search::is_over(search)
 }
 
-// The search goes on with the pairs of the next node. It takes the netlist and the work bytes that `examine` left.
+// The search after the pairs of the next node. It takes the netlist and the work bytes that `examine` left,
+// and a search that is not done.
 pub fn further(netlist: Netlist, work: &[u8], limit: usize, progress: Progress) -> Progress
     requires { ⌜ Ready netlist (length (now work)) × (progress .nodes ≡ netlist .count) × (isDone progress ≡ false) ⌝ }
     ensures { λ r. ⌜ ((bytes : List ℕ) (entries : ℕ) (before : List ℕ) →
@@ -122,10 +128,11 @@ pub fn further(netlist: Netlist, work: &[u8], limit: usize, progress: Progress) 
     }
 }
 
-// The reply of one probe beside what was found. Once the search is done it is that of `check_pairs`.
+// The reply of one probe beside what was found so far. Once the search is done it is the reply of `check_pairs`.
 pub fn reply_after(progress: Progress) -> PairsReply
     ensures beside { λ r. ⌜ pairsReplyOf r ≡
-        andThen (replyOf (progress .reply)) (λ f. answered (record { answer = f; searched = searchedOf (progress .search) })) ⌝ }
+        andThen (replyOf (progress .reply))
+        (λ f. answered (record { answer = f; searched = searchedOf (progress .search) })) ⌝ }
     ensures done { λ r. ⌜ ((bytes : List ℕ) (entries limit : ℕ) (before : List ℕ) (netlist : Netlist) (work : List ℕ) →
         Underway bytes entries limit before netlist work progress → isDone progress ≡ true →
         pairsReplyOf r ≡ pairsReply bytes entries (length before) limit) ⌝ }
@@ -141,11 +148,15 @@ pub fn reply_after(progress: Progress) -> PairsReply
     }
 }
 
-// The same as `check_pairs` for a slice of so many entries, with the netlist and its marks by value.
+// Checks netlist bytes as `check_pairs` does with a slice of `entries` node records: the same reply, and the same work
+// bytes at exit. In place of node records it gives what `checker::examine` gives.
 pub fn examine_pairs(bytes: &[u8], entries: usize, work: &mut [u8], limit: usize) -> ExaminedPairs
-    ensures reply { λ r. ⌜ pairsReplyOf (r .reply) ≡ pairsReply (now (bytes .entry)) entries (length (now (work .entry))) limit ⌝ }
-    ensures netlist { λ r. ⌜ r .examined .netlist ≡ flatOf (kept (admitted (now (bytes .entry)) entries (length (now (work .entry))))) ⌝ }
-    ensures marks { λ r. ⌜ r .examined .marks ≡ marksOf (kept (admitted (now (bytes .entry)) entries (length (now (work .entry))))) ⌝ }
+    ensures reply { λ r. ⌜ pairsReplyOf (r .reply) ≡
+        pairsReply (now (bytes .entry)) entries (length (now (work .entry))) limit ⌝ }
+    ensures netlist { λ r. ⌜ r .examined .netlist ≡
+        flatOf (kept (admitted (now (bytes .entry)) entries (length (now (work .entry))))) ⌝ }
+    ensures marks { λ r. ⌜ r .examined .marks ≡
+        marksOf (kept (admitted (now (bytes .entry)) entries (length (now (work .entry))))) ⌝ }
     ensures work { λ _. ⌜ now (work .exit) ≡ workAfter (now (bytes .entry)) entries (now (work .entry)) ⌝ }
     ensures clear { λ r. ⌜ GlitchClear (oneProbeReply (pairsReplyOf (r .reply))) ↔
         NothingSuspect (now (bytes .entry)) entries (length (now (work .entry))) ⌝ }
@@ -166,23 +177,24 @@ pub fn examine_pairs(bytes: &[u8], entries: usize, work: &mut [u8], limit: usize
 
 // ---- the entry point, over the lent slice of node records
 
-// What `examine` examined, and the reply.
+// What the examination with one probe gave.
 fn examined_of(examined: ExaminedPairs) -> Examined
     ensures { λ r. ⌜ r ≡ examined .examined ⌝ }
 {
     examined.examined
 }
 
+// The reply of an examination with two probes.
 fn reply_of(examined: ExaminedPairs) -> PairsReply
     ensures { λ r. ⌜ r ≡ examined .reply ⌝ }
 {
     examined.reply
 }
 
-// Checks netlist bytes with one probe and then, where every single node is clear for glitches, with two: at most `limit` pairs
-// of tested nodes are looked at, in their order. The slices at exit are those of `check`, and so is the answer. Where no pair is
-// found, two probes on any two tested nodes see each pattern of settled values as often for one setting of the secrets as
-// for another.
+// Checks netlist bytes with one probe and then, where every single node is clear for glitches, with two:
+// at most `limit` pairs of tested nodes are looked at, in their order. The slices at exit are those of `check`,
+// and so is the answer. Where no pair is found, two probes on any two tested nodes see each pattern of settled values
+// as often for one setting of the secrets as for another.
 pub fn check_pairs(
     bytes: &[u8],
     nodes: &mut [NodeRecord],
@@ -193,7 +205,8 @@ pub fn check_pairs(
         pairsReply (now (bytes .entry)) (length (now (nodes .entry))) (length (now (work .entry))) limit ⌝ }
     ensures nodes { λ _. ⌜ now (nodes .exit) ≡
         nodesAfter (now (bytes .entry)) (now (nodes .entry)) (length (now (work .entry))) ⌝ }
-    ensures work { λ _. ⌜ now (work .exit) ≡ workAfter (now (bytes .entry)) (length (now (nodes .entry))) (now (work .entry)) ⌝ }
+    ensures work { λ _. ⌜ now (work .exit) ≡
+        workAfter (now (bytes .entry)) (length (now (nodes .entry))) (now (work .entry)) ⌝ }
     ensures clear { λ r. ⌜ GlitchClear (oneProbeReply (pairsReplyOf r)) ↔
         NothingSuspect (now (bytes .entry)) (length (now (nodes .entry))) (length (now (work .entry))) ⌝ }
     ensures probe { λ r. ⌜ (GlitchClear (oneProbeReply (pairsReplyOf r)) → OneProbe (now (bytes .entry))) ⌝ }

@@ -1,5 +1,6 @@
--- The marks on the way to the feeding points of a node. As gates hand them on, from the node down, the points that feed some marked node stay
--- those that feed the node, and the marked nodes from i on are points. So in the end the marked nodes are its feeding points. Assumes nothing.
+-- The marks on the way to the feeding points of a node. As gates hand them on, from the node down,
+-- the points that feed some marked node stay those that feed the node, and the marked nodes from i on are points.
+-- So in the end the marked nodes are its feeding points. Assumes nothing.
 use Prim.Native.Nat.{ℕ, zero, suc, _+_, _≤_, _<_}
 use mathlib.Core.Path.{_≡_, refl, sym, ap, _∙_}
 use mathlib.Core.Logic.{_⊎_, inl, inr, ⊎-elim}
@@ -57,13 +58,14 @@ set-cases (x ∷ marks) zero (suc q) t = inr t
 set-cases (x ∷ marks) (suc a) zero t = inr t
 set-cases (x ∷ marks) (suc a) (suc q) t = ⊎-elim (λ e. inl (ap suc e)) inr (set-cases marks a q t)
 
--- the mark of node i is gone, and no other came
-gone-cases : (marks : List Bool) (i q : ℕ) → Marked (set marks i false) q → (q ≡ i → ⊥) × Marked marks q
-gone-cases [] i q t = absurd t
-gone-cases (x ∷ marks) zero zero t = absurd t
-gone-cases (x ∷ marks) zero (suc q) t = (λ e. omega arith, t)
-gone-cases (x ∷ marks) (suc i) zero t = (λ e. omega arith, t)
-gone-cases (x ∷ marks) (suc i) (suc q) t = let (other, m) = gone-cases marks i q t in (λ e. other (omega arith), m)
+-- where the mark of node i is cleared, it has none, and no other node has one that had none
+cleared-cases : (marks : List Bool) (i q : ℕ) → Marked (set marks i false) q → (q ≡ i → ⊥) × Marked marks q
+cleared-cases [] i q t = absurd t
+cleared-cases (x ∷ marks) zero zero t = absurd t
+cleared-cases (x ∷ marks) zero (suc q) t = (λ e. omega arith, t)
+cleared-cases (x ∷ marks) (suc i) zero t = (λ e. omega arith, t)
+cleared-cases (x ∷ marks) (suc i) (suc q) t =
+    let (other, m) = cleared-cases marks i q t in (λ e. other (omega arith), m)
 
 -- ---- marks for some nodes
 
@@ -199,7 +201,7 @@ module _ (n : Netlist) where
     passed-other q d t = mark-kept (operands (node-at i)) cleared q (rw (getD-set-other marks i q false false d) t)
 
     passed-cases : (q : ℕ) → Marked passed q → T (member q (operands (node-at i))) ⊎ ((q ≡ i → ⊥) × Marked marks q)
-    passed-cases q t = ⊎-elim inl (λ u. inr (gone-cases marks i q u)) (mark-cases (operands (node-at i)) cleared q t)
+    passed-cases q t = ⊎-elim inl (λ u. inr (cleared-cases marks i q u)) (mark-cases (operands (node-at i)) cleared q t)
 
     handed : Marked marks i → (T (isPoint (node-at i)) → ⊥) → Leads node passed i
     handed m gate = record {

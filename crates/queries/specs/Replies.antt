@@ -1,4 +1,5 @@
--- On the way to the feeding points of a node: the marks that a gate hands on. Cited by the contracts of this crate. Assumes nothing.
+-- On the way to the feeding points of a node: the marks that a gate hands on. Cited by the contracts of this crate.
+-- Assumes nothing.
 use Prim.Native.Nat.{ℕ}
 use mathlib.Core.Bool.{Bool, true, false, cond}
 use mathlib.Core.List.{List, [], _∷_}

@@ -1,6 +1,7 @@
 // The three queries, over netlist bytes: the settled value of a node under an assignment, its feeding points, and
-// whether a set is in each of its two families. None writes to a lent slice, and each replies to all input: where the
-// netlist, the node or the number is refused, it gives value 0, and every mark and membership no.
+// whether a set is in each of its two families. Each reads the netlist bytes, writes to no lent slice and replies to
+// all input: where the netlist, the node or the number is refused, it gives value 0, and every mark and membership no.
+// Used by the desk, by test programs and by the library's callers.
 ghost use mathlib.Core.Path.{_≡_};
 ghost use mathlib.Core.Bool.{false};
 ghost use Prim.Native.Nat.{_<_};
@@ -26,7 +27,7 @@ use rules::ValueReply;
 
 // ---- the settled value
 
-// The exclusive-or of the variables of a set, out of so many variables.
+// The exclusive-or of the values that an assignment gives the variables of a set, of which the first `variables` count.
 fn exclusive_or(variables: usize, set: usize, assignment: usize) -> bool
     ensures { λ r. ⌜ r ≡ exclusiveOr set (bits variables assignment) ⌝ }
 {
@@ -43,7 +44,7 @@ fn exclusive_or(variables: usize, set: usize, assignment: usize) -> bool
     sum
 }
 
-// The settled value of a node, from those of the lower nodes.
+// The settled value of a node under an assignment, from those of the lower nodes.
 fn value_from(values: &[bool], node: Node, variables: usize, assignment: usize) -> bool
     requires { ⌜ (node .first < length (now values)) × (node .second < length (now values)) ⌝ }
     ensures { λ r. ⌜ ((cell : Cell) → node ≡ entry cell →
@@ -79,7 +80,7 @@ fn settled_values(netlist: Netlist, assignment: usize) -> [bool; MOST_NODES]
     values
 }
 
-// The settled value of a node under an assignment, which is numbered as sets are.
+// The settled value of a node under an assignment, which is numbered as sets are. Refused, it is 0.
 pub fn settled_value(bytes: &[u8], node: usize, assignment: usize) -> ValueReply
     ensures { λ r. ⌜ valueOf r ≡ valueQuery (now (bytes .entry)) node assignment ⌝ }
 {
@@ -101,7 +102,7 @@ pub fn settled_value(bytes: &[u8], node: usize, assignment: usize) -> ValueReply
 
 // ---- feeding points
 
-// The marks once node `i` has handed its own on to its operands, where it is a gate and marked.
+// The marks once node `i`, where it is a gate and marked, has handed its mark on to its operands.
 fn hand_on(marks: [bool; MOST_NODES], i: usize, node: Node) -> [bool; MOST_NODES]
     requires { ⌜ (i < most-nodes) × (node .first < most-nodes) × (node .second < most-nodes) ⌝ }
     ensures { λ r. ⌜ ((cell : Cell) → node ≡ entry cell → r ≡ handedOn marks i cell) ⌝ }
@@ -142,7 +143,7 @@ fn feeding_marks(netlist: Netlist, node: usize) -> [bool; MOST_NODES]
     marks
 }
 
-// The feeding points of a node, as marks by node number.
+// The feeding points of a node, as marks by node number. Refused, every mark is no.
 pub fn feeding_points(bytes: &[u8], node: usize) -> FeedingReply
     ensures { λ r. ⌜ feedingOf r ≡ feedingQuery (now (bytes .entry)) node ⌝ }
 {
@@ -163,11 +164,12 @@ pub fn feeding_points(bytes: &[u8], node: usize) -> FeedingReply
 
 // ---- membership
 
-// Whether a set is in each family of a node of a netlist that was read.
+// Whether a set is in each family of a node, worked out in work bytes of its own from a netlist that was read.
 fn in_families(netlist: Netlist, node: usize, set: usize) -> MembershipReply
     requires { ⌜ Formed netlist × (node < netlist .count) × (set < most-sets) ⌝ }
     ensures { λ r. ⌜ ((n : Records.Netlist) → netlist ≡ flatOf n → (r .outcome ≡ QueryOutcome.Answered)
-        × (r .settled ≡ member set (familiesAt n node .settled)) × (r .glitch ≡ member set (familiesAt n node .glitch))) ⌝ }
+        × (r .settled ≡ member set (familiesAt n node .settled))
+        × (r .glitch ≡ member set (familiesAt n node .glitch))) ⌝ }
 {
     let mut work = [0u8; MOST_WORK];
     nodes::all_families(netlist, &mut work);
@@ -180,7 +182,7 @@ fn in_families(netlist: Netlist, node: usize, set: usize) -> MembershipReply
     }
 }
 
-// Whether a set is in the settled family of a node, and whether it is in the glitch family.
+// Whether a set is in the settled family of a node, and whether it is in its glitch family. Refused, both are no.
 pub fn memberships(bytes: &[u8], node: usize, set: usize) -> MembershipReply
     ensures { λ r. ⌜ membershipOf r ≡ membershipQuery (now (bytes .entry)) node set ⌝ }
 {

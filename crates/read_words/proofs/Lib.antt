@@ -1,4 +1,5 @@
 -- What this crate's proofs share.
+pub mod Forms
 pub mod Lines
 pub mod Numbers
 pub mod Records

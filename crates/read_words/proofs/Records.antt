@@ -1,7 +1,7 @@
 -- What stands behind a record's word, as the functions test it: how many numbers there are, and what each is. Assumes nothing.
 use Prim.Native.Nat.{ℕ, zero, suc, _+_, _*_, _/_, _%_, _^_, _≤_, _<_}
-use mathlib.Core.Path.{_≡_, refl, sym, ap, _∙_}
-use mathlib.Core.Bool.{Bool, true, false}
+use mathlib.Core.Path.{_≡_, refl, sym, ap}
+use mathlib.Core.Bool.{true, false}
 use mathlib.Core.List.{List, [], _∷_}
 use native.Mathlib.Nat.{one-mul, mod-eq-of-lt, div-one, div-div-eq-div-mul, pow-succ', two-pow-succ}
 use native.Mathlib.Omega.{arith}
@@ -13,7 +13,7 @@ use Rattle.read_words.specs.declared.Fault.{Fault}
 use Rattle.read_words.specs.declared.Fault.the-variants as Fault
 use Rattle.read_words.specs.declared.Line.the-variants as Line
 use Rattle.read_words.specs.Numbers.{numberIn}
-use Rattle.read_words.specs.Words.{Said, nothing, says, wrong, same, cut, alone, withOperand, withOne, withTwo, withVariables, Form, form, forms, readBy, recordIn}
+use Rattle.read_words.specs.Words.{Said, nothing, says, wrong, cut, alone, withOperand, withOne, withTwo, withVariables, forms, readBy, recordIn}
 use Rattle.read_words.specs.Meaning.{lineOf, IsRecord}
 
 -- ---- a record by value
@@ -104,17 +104,6 @@ room (suc k) zero set h l e = let even : set % 2 ≡ 1 → ⊥ = rw div-one at e
 room (suc k) (suc v) set h l e =
     let halved : set / 2 ^ suc v ≡ set / 2 / 2 ^ v = rw pow-succ' (sym (div-div-eq-div-mul set 2 (2 ^ v))) in
     omega (arith, two-pow-succ k, two-pow-succ v, room k v (set / 2) (omega arith) (omega (arith, two-pow-succ k)) (rw halved at e))
-
--- ---- a record's word
-
-module _ (name own : List ℕ) (reads : List (List ℕ) → Said) (rest : List Form) (numbers : List (List ℕ)) {tested : Bool} (is : tested ≡ same name own) where
-  pub by-form : tested ≡ true → readBy (form own reads ∷ rest) name numbers ≡ reads numbers
-  unfolding readBy
-  by-form e = rw (sym is ∙ e)
-
-  pub by-rest : tested ≡ false → readBy (form own reads ∷ rest) name numbers ≡ readBy rest name numbers
-  unfolding readBy
-  by-rest e = rw (sym is ∙ e)
 
 -- ---- the answer for a line
 

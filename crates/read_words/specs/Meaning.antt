@@ -6,13 +6,30 @@ use lib.ListN.{length, getD, take, drop}
 use Rattle.rules.specs.Records.{Record, recordBytes}
 use Rattle.rules.specs.Listing.{most-input}
 use Rattle.read_words.specs.declared.Fault.{Fault}
+use Rattle.read_words.specs.declared.Fault.the-variants as Fault
 use Rattle.read_words.specs.declared.Line.{Line}
 use Rattle.read_words.specs.declared.Line.the-variants as Line
 use Rattle.read_words.specs.declared.Worded.{Worded}
 use Rattle.read_words.specs.declared.Worded.the-variants as Worded
 use Rattle.read_words.specs.declared.BlockWords.{BlockWords}
 use Rattle.read_words.specs.declared.BlockWords.the-variants as BlockWords
-use Rattle.read_words.specs.Words.{Said, nothing, says, wrong, BlockSaid, block, wrongIn, linesOf, blockIn}
+use Rattle.read_words.specs.Words.{Said, nothing, says, wrong, Form, form, forms, BlockSaid, block, wrongIn, linesOf, blockIn}
+
+-- ---- a form
+
+-- its word, and how what stands behind it is read
+unfoldable pub nameOf : Form → List ℕ
+nameOf (form name reads) = name
+
+unfoldable pub readsOf : Form → List (List ℕ) → Said
+readsOf (form name reads) = reads
+
+-- the form with this number; what is beyond the last has no word, and is no record
+abbrev pub noForm : Form
+noForm = form [] (λ numbers. wrong Fault.Record)
+
+unfoldable pub formAt : ℕ → Form
+formAt k = getD forms k noForm
 
 -- ---- a line
 

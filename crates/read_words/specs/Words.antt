@@ -5,7 +5,7 @@ use mathlib.Core.Bool.{Bool, true, false, cond, _&&_, _||_}
 use mathlib.Core.List.{List, [], _∷_, _++_}
 use lib.Dec.{eqb, ltb}
 use lib.ListN.{length, set}
-use Rattle.rules.specs.Records.{Class, secret, mask, public, Cell, input, NOT, XOR, AND, OR, register, Record, end, variable, node, odd, recordBytes}
+use Rattle.rules.specs.Records.{secret, mask, public, Cell, input, NOT, XOR, AND, OR, register, Record, end, variable, node, odd, recordBytes}
 use Rattle.rules.specs.Listing.{word}
 use Rattle.read_words.specs.declared.Fault.{Fault}
 use Rattle.read_words.specs.declared.Fault.the-variants as Fault
@@ -125,7 +125,7 @@ pub data BlockSaid : Type 0 where
   block : (bytes lines : List ℕ) → BlockSaid
   wrongIn : Fault → (line : ℕ) (bytes lines : List ℕ) → BlockSaid
 
--- the same behind `bytes` and `listing_lines` so far, with the next line's number; lines are numbered from 1
+-- the same behind `bytes` and `lines` so far, with the next line's number; lines are numbered from 1
 unfoldable pub blockBehind : (bytes lines : List ℕ) (number : ℕ) (rest : List (List ℕ)) → BlockSaid
 blockBehind bytes lines k [] = block bytes lines
 blockBehind bytes lines k (line ∷ rest) =

@@ -1,24 +1,28 @@
-// Blocks in words: the bytes of a block that is written in words, a record to a line. Only the form of each line is looked at;
-// whether the records obey the rules is for the checker to say.
+// Blocks in words: the bytes of a block that is written in words, a record to a line. Only the form of each line is
+// looked at; whether the records obey the rules is for the checker to say. It touches nothing but the arrays that it is
+// lent. The program reads blocks by it, `edit_lines` the record of a new node, and `write_words` takes its words.
 ghost use mathlib.Core.Path.{_≡_};
 ghost use mathlib.Core.Bool.{true, false};
-ghost use mathlib.Core.List.{[], _∷_};
+ghost use mathlib.Core.List.{List, [], _∷_};
 ghost use Prim.Native.Nat.{ℕ, _+_, _-_, _*_, _≤_, _<_, min, max};
 ghost use lib.ListN.{length, getD, take, drop, set};
 ghost use lib.Seq.{sets};
 ghost use Rattle.rules.specs.Records.{Cell, Record, node, recordBytes};
 ghost use Rattle.read_words.specs.Numbers.{isDigit, numberIn};
 ghost use Rattle.read_words.specs.Scans.{first, stopsAt, part, NextWord};
-ghost use Rattle.read_words.specs.Words.{isBlank, words, same, cut, says, alone, withOne, withTwo, withVariables, forms, readBy, recordIn};
-ghost use Rattle.read_words.specs.Meaning.{lineOf, TellsRecord, TellsBlock};
+ghost use Rattle.listing_lines.specs.Text.{most-name, spelled};
+ghost use Rattle.read_words.specs.Words.{isBlank, words, same, cut, says, alone, withOne, withTwo, withVariables};
+ghost use Rattle.read_words.specs.Words.{forms, readBy, recordIn};
+ghost use Rattle.read_words.specs.Meaning.{nameOf, readsOf, formAt, lineOf, TellsRecord, TellsBlock};
+use listing_lines::Name;
 
 // The bytes of a block that are looked at, and the bytes of a text in words.
 pub const MOST_BLOCK: usize = 1024;
 
 pub const MOST_TEXT: usize = 65536;
 
-// What was expected: a record's word; a record with no, with one or with two numbers; an operand, from 0 to 255; a variable, from 0 to
-// 15; each variable once.
+// What was expected: a record's word; a record with no, with one or with two numbers; an operand, from 0 to 255; a
+// variable, from 0 to 15; each variable once.
 pub enum Fault {
     Record,
     NoNumber,
@@ -101,8 +105,8 @@ fn past(text: &[u8], from: usize, stop: Stop) -> usize
     at
 }
 
-// Where the next word of a line from `at` on starts and ends; it starts where it ends if there is none. A comment, from `#` on, has no
-// words.
+// Where the next word of a line from `at` on starts and ends; it starts where it ends if there is none. A comment, from
+// `#` on, has no words.
 pub fn next_word(line: &[u8], at: usize) -> Place
     requires { ⌜ at ≤ length (now line) ⌝ }
     ensures { λ r. ⌜ NextWord (now (line .entry)) at (r .from) (r .to) ⌝ }
@@ -297,51 +301,83 @@ fn binary_record(numbers: &[u8], kind: u8) -> Line
     Line::Record(3, kind, first as u8, second as u8)
 }
 
-// The record of a node that is no input.
-fn gate_record(word: &[u8], numbers: &[u8]) -> Line
-    ensures { λ r. ⌜ r ≡ lineOf (readBy (drop 5 forms) (now (word .entry)) (words (now (numbers .entry)))) ⌝ }
+// ---- the forms of a record, by their numbers: 0 is the end, 1 to 3 are a variable of class 0 to 2, and 4 to 9 a node of
+// kind 2 to 7
+
+// How many forms there are.
+const FORMS: u8 = 10;
+
+// The word of a form; a number that is no form's has no letters.
+pub fn word_of(form: u8) -> Name
+    ensures { λ r. ⌜ spelled r ≡ nameOf (formAt form) ⌝ }
+    ensures short { λ r. ⌜ (r .size ≤ most-name) × (length (r .letters) ≡ most-name) ⌝ }
 {
-    if is_word(word, b"not") {
-        return unary_record(numbers, 3);
+    match form {
+        0 => Name {
+            size: 3,
+            letters: *b"end   ",
+        },
+        1 => Name {
+            size: 6,
+            letters: *b"secret",
+        },
+        2 => Name {
+            size: 4,
+            letters: *b"mask  ",
+        },
+        3 => Name {
+            size: 6,
+            letters: *b"public",
+        },
+        4..=9 => listing_lines::name_of(form - 2),
+        _ => Name {
+            size: 0,
+            letters: *b"      ",
+        },
     }
-    if is_word(word, b"xor") {
-        return binary_record(numbers, 4);
-    }
-    if is_word(word, b"and") {
-        return binary_record(numbers, 5);
-    }
-    if is_word(word, b"or") {
-        return binary_record(numbers, 6);
-    }
-    if is_word(word, b"reg") {
-        return unary_record(numbers, 7);
-    }
-    Line::Wrong(Fault::Record)
 }
 
-fn record_with(word: &[u8], numbers: &[u8]) -> Line
-    ensures { λ r. ⌜ r ≡ lineOf (readBy forms (now (word .entry)) (words (now (numbers .entry)))) ⌝ }
+// Whether a word is that of a form.
+fn has_word(form: u8, word: &[u8]) -> bool
+    ensures { λ r. ⌜ r ≡ same (now (word .entry)) (nameOf (formAt form)) ⌝ }
 {
-    if is_word(word, b"end") {
-        return alone_record(numbers, Line::Record(1, 0, 0, 0));
-    }
-    if is_word(word, b"secret") {
-        return alone_record(numbers, Line::Record(2, 1, 0, 0));
-    }
-    if is_word(word, b"mask") {
-        return alone_record(numbers, Line::Record(2, 1, 1, 0));
-    }
-    if is_word(word, b"public") {
-        return alone_record(numbers, Line::Record(2, 1, 2, 0));
-    }
-    if is_word(word, b"in") {
-        return input_record(numbers);
-    }
-    gate_record(word, numbers)
+    let name = word_of(form);
+    let letters = name.letters;
+    let size = name.size;
+    is_word(word, &letters[..size])
 }
 
-// The record that a line says, without its line feed: no words, so many bytes at the front of `bytes` with 0 behind them, or what was
-// expected instead. Where there is no record, `bytes` is as it was.
+// The first form whose word this is, and the number of forms where none is.
+fn form_of(word: &[u8]) -> u8
+    ensures { λ r. ⌜ ((numbers : List (List ℕ)) →
+        readBy forms (now (word .entry)) numbers ≡ readsOf (formAt r) numbers) ⌝ }
+{
+    let mut form = 0;
+    while form < FORMS {
+        if has_word(form, word) {
+            return form;
+        }
+        form += 1;
+    }
+    form
+}
+
+// The record of a form, of what stands behind its word; no form is no record.
+fn record_by(form: u8, numbers: &[u8]) -> Line
+    ensures { λ r. ⌜ r ≡ lineOf (readsOf (formAt form) (words (now (numbers .entry)))) ⌝ }
+{
+    match form {
+        0 => alone_record(numbers, Line::Record(1, 0, 0, 0)),
+        1 | 2 | 3 => alone_record(numbers, Line::Record(2, 1, form - 1, 0)),
+        4 => input_record(numbers),
+        5 | 9 => unary_record(numbers, form - 2),
+        6 | 7 | 8 => binary_record(numbers, form - 2),
+        _ => Line::Wrong(Fault::Record),
+    }
+}
+
+// The record that a line says, without its line feed: no words, so many bytes at the front of `bytes` with 0 behind them,
+// or what was expected instead. Where there is no record, `bytes` is as it was.
 pub fn record_of(line: &[u8], bytes: &mut [u8; 3]) -> Worded
     ensures { λ r. ⌜ TellsRecord r (now (bytes .entry)) (now (bytes .exit)) (recordIn (words (now (line .entry)))) ⌝ }
 {
@@ -351,7 +387,8 @@ pub fn record_of(line: &[u8], bytes: &mut [u8; 3]) -> Worded
     if from == to {
         return Worded::Nothing;
     }
-    match record_with(&line[from..to], &line[to..]) {
+    let form = form_of(&line[from..to]);
+    match record_by(form, &line[to..]) {
         Line::Nothing => Worded::Nothing,
         Line::Wrong(fault) => Worded::Wrong(fault),
         Line::Record(size, kind, first, second) => {
@@ -399,7 +436,8 @@ fn put_line(lines: &mut [usize], at: usize, line: usize)
     }
 }
 
-// The first `size` bytes of a record behind the first `at` of a block, as far as there is room: how many the block has then.
+// The first `size` bytes of a record behind the first `at` of a block, as far as there is room: how many the block has
+// then.
 fn put_record(bytes: &mut [u8], at: usize, own: [u8; 3], size: usize) -> usize
     requires { ⌜ (at ≤ length (now bytes)) × (size ≤ 3) ⌝ }
     ensures { λ r. ⌜ (r ≡ min (at + size) (length (now (bytes .entry)))) × (now (bytes .exit) ≡ sets (now (bytes .entry)) at (take size own)) ⌝ }
@@ -412,9 +450,10 @@ fn put_record(bytes: &mut [u8], at: usize, own: [u8; 3], size: usize) -> usize
     lower(at + size, bytes.len())
 }
 
-// The block that a text says: how many bytes it has, those beyond 1,024 left out, and how many lines the text has, at least 1; or what
-// was expected instead, and in which line. `lines[k]` is the line of the record whose kind byte is at offset `k` of the block. Where
-// something else was expected, both arrays hold what the lines before it say. All else in them is as it was.
+// The block that a text says: how many bytes it has, those beyond 1,024 left out, and how many lines the text has, at
+// least 1; or what was expected instead, and in which line. `lines[k]` is the line of the record whose kind byte is at
+// offset `k` of the block. Where something else was expected, both arrays hold what the lines before it say. All else in
+// them is as it was.
 pub fn block_of(
     text: &[u8],
     bytes: &mut [u8; MOST_BLOCK],

@@ -1,5 +1,5 @@
--- The rows that are left of a record's table once its kind is known and its kind byte is inside the file: for each kind the tests of the
--- code, in their order. Leaving out a row whose condition is false changes nothing. Assumes nothing.
+-- The rows that are left of a record's table once its kind is known and its kind byte is inside the file: for each kind
+-- the tests of the code, in their order. Leaving out a row whose condition is false changes nothing. Assumes nothing.
 use Prim.Native.Nat.{ℕ, zero, suc, _+_, _-_, _*_, _^_, _<_, _≤_}
 use mathlib.Core.Path.{_≡_, refl, sym}
 use mathlib.Core.Logic.{_⊎_, inl, inr}
@@ -13,7 +13,8 @@ use Rattle.rules.specs.Records.{Cell, input, NOT, XOR, AND, OR, register, Recor
 use Rattle.rules.specs.Checks.{andThen, Check, check, judged, overLimit, undeclared, undeclaredSet, notBelow, badOperand, judgedRecord}
 use Rattle.records.specs.Found.{foundIf}
 
--- the second list is what is left of the first without some rows whose condition is false; a row for either of two conditions is two rows
+-- the second list is what is left of the first without some rows whose condition is false; a row for either
+-- of two conditions is two rows
 data Leaves : List Check → List Check → Type 0 where
   none : Leaves [] []
   dropped : {cs ds : List Check} {k p : ℕ} {x : Bool} → x ≡ false → Leaves cs ds → Leaves (check k x p ∷ cs) ds

@@ -1,4 +1,5 @@
--- What taking one record finds, and what is to be found by the rules. Cited by the contracts of this crate. Assumes nothing.
+-- What taking one record finds, and what is to be found by the rules. Cited by the contracts of this crate.
+-- Assumes nothing.
 use Prim.Native.Nat.{ℕ, _+_}
 use mathlib.Core.List.{List}
 use lib.ListN.{getD}

@@ -1,5 +1,6 @@
-// One record of a netlist: what the bytes at an offset say, and the reader, which takes the next record. Reading writes to no
-// lent slice.
+// One record of a netlist: what the bytes at an offset say by the rules, or the refusal; and the reader,
+// which takes the next record. Reads the netlist bytes and writes to no lent slice. Used by `netlists`,
+// `edit_rules` and `query_netlists`.
 ghost use mathlib.Core.Path.{_≡_};
 ghost use mathlib.Core.Logic.{_⊎_};
 ghost use Prim.Native.Nat.{_+_, _<_};
@@ -10,7 +11,8 @@ use rules::MOST_NODES;
 use rules::MOST_VARIABLES;
 use rules::Refusal;
 
-// What taking one record finds: its kind and the two bytes behind it, which a shorter body leaves unused; or a refusal.
+// What taking one record finds: its kind and the two bytes behind it, of which a shorter body uses
+// one or none; or the refusal.
 pub enum Found {
     Record(u8, u8, u8),
     Refused(Refusal),
@@ -24,7 +26,7 @@ pub struct Reader<'a> {
 
 // ---- one record
 
-// The byte `k` places behind `here`, and 0 where the file has none there.
+// The byte `k` places behind `here`, and 0 where the bytes have none there.
 pub fn byte_behind(bytes: &[u8], here: usize, k: usize) -> u8
     ensures { λ r. ⌜ r ≡ getD (now (bytes .entry)) (here + k) 0 ⌝ }
 {
@@ -37,7 +39,7 @@ pub fn byte_behind(bytes: &[u8], here: usize, k: usize) -> u8
     bytes[here + k]
 }
 
-// Whether a number has a bit of a variable that is not declared.
+// Whether a number, of a set or an assignment, has a bit of a variable that is not among the first `variables`.
 pub fn undeclared_bit(variables: usize, number: usize) -> bool
     ensures { λ r. ⌜ r ≡ undeclared variables number ⌝ }
 {
@@ -47,7 +49,7 @@ pub fn undeclared_bit(variables: usize, number: usize) -> bool
     (1usize << variables) <= number
 }
 
-// An end record: nothing may follow it.
+// Judges an end record: nothing may follow it.
 fn judge_end(total: usize, variables: usize, nodes: usize, here: usize, b: u8, c: u8) -> Found
     requires { ⌜ here < total ⌝ }
     ensures { λ r. ⌜ foundOf r ≡ foundIf (judgedRecord total variables nodes here 0 b c) 0 b c ⌝ }
@@ -58,7 +60,7 @@ fn judge_end(total: usize, variables: usize, nodes: usize, here: usize, b: u8, c
     Found::Record(0, b, c)
 }
 
-// A variable: before every node, at most ten, and its class one of three.
+// Judges a variable: it stands before every node, is one of at most ten, and its class is one of three.
 fn judge_variable(total: usize, variables: usize, nodes: usize, here: usize, b: u8, c: u8) -> Found
     requires { ⌜ here < total ⌝ }
     ensures { λ r. ⌜ foundOf r ≡ foundIf (judgedRecord total variables nodes here 1 b c) 1 b c ⌝ }
@@ -78,7 +80,7 @@ fn judge_variable(total: usize, variables: usize, nodes: usize, here: usize, b: 
     Found::Record(1, b, c)
 }
 
-// An input: its set has declared variables only.
+// Judges an input: its set has declared variables only.
 fn judge_input(total: usize, variables: usize, nodes: usize, here: usize, b: u8, c: u8) -> Found
     requires { ⌜ here < total ⌝ }
     ensures { λ r. ⌜ foundOf r ≡ foundIf (judgedRecord total variables nodes here 2 b c) 2 b c ⌝ }
@@ -95,7 +97,7 @@ fn judge_input(total: usize, variables: usize, nodes: usize, here: usize, b: u8,
     Found::Record(2, b, c)
 }
 
-// NOT or a register: its operand is a lower node.
+// Judges NOT or a register: its operand is a lower node.
 fn judge_unary(
     total: usize,
     variables: usize,
@@ -120,7 +122,7 @@ fn judge_unary(
     Found::Record(k, b, c)
 }
 
-// XOR, AND or OR: both operands are lower nodes.
+// Judges XOR, AND or OR: both operands are lower nodes.
 fn judge_binary(
     total: usize,
     variables: usize,
@@ -148,7 +150,8 @@ fn judge_binary(
     Found::Record(k, b, c)
 }
 
-// The record of kind `k` with the body `b`, `c` whose kind byte stands at `here`, in a file of `total` bytes.
+// Judges the record of kind `k` with the body `b`, `c` whose kind byte stands at `here`, in a file of `total` bytes,
+// behind `variables` variables and `nodes` nodes: the record, or the first refusal of document 01's table.
 pub fn judge(
     total: usize,
     variables: usize,
@@ -184,7 +187,7 @@ pub fn judge(
     judge_binary(total, variables, nodes, here, k, b, c)
 }
 
-// The record at an offset, after so many variables and nodes.
+// The record at offset `here`, behind `variables` variables and `nodes` nodes, or the refusal.
 pub fn record_at(bytes: &[u8], here: usize, variables: usize, nodes: usize) -> Found
     ensures { λ r. ⌜ foundOf r ≡ foundAt (now (bytes .entry)) variables nodes here ⌝ }
 {
@@ -196,21 +199,21 @@ pub fn record_at(bytes: &[u8], here: usize, variables: usize, nodes: usize) -> F
 
 // ---- the reader
 
-// A reader whose next record is at `here`.
+// The reader of these bytes whose next record is at `here`.
 fn reader_at<'a>(bytes: &'a [u8], here: usize) -> Reader<'a>
     ensures { λ r. ⌜ (r .bytes ≡ bytes .entry) × (r .here ≡ here) ⌝ }
 {
     Reader { bytes, here }
 }
 
-// The reader's next record, after so many variables and nodes.
+// The reader's next record, behind `variables` variables and `nodes` nodes, or the refusal.
 pub fn next<'a>(reader: Reader<'a>, variables: usize, nodes: usize) -> Found
     ensures { λ r. ⌜ foundOf r ≡ foundAt (now (reader .entry .bytes)) variables nodes (reader .entry .here) ⌝ }
 {
     record_at(reader.bytes, reader.here, variables, nodes)
 }
 
-// The same for whoever has the bytes and an offset.
+// The record at offset `here`, as a reader of the bytes takes it: for a caller that holds no reader.
 pub fn next_record(bytes: &[u8], here: usize, variables: usize, nodes: usize) -> Found
     ensures { λ r. ⌜ foundOf r ≡ foundAt (now (bytes .entry)) variables nodes here ⌝ }
 {

@@ -1,9 +1,10 @@
-// A refusal's number and place in document 01, for whoever prints one.
+// A refusal's number and place in document 01. Takes a refusal by value and touches no lent slice. Used by what prints
+// a refusal or packs it: the texts of listing and desk, the program `telgouin`, the test programs and the benchmark.
 ghost use mathlib.Core.Path.{_≡_};
 ghost use Rattle.rules.specs.Paper.{numberOf, placeOf};
 use rules::Refusal;
 
-// A refusal's number.
+// A refusal's number, from 1 to 16.
 pub fn number_of(refusal: Refusal) -> usize
     ensures { λ r. ⌜ r ≡ numberOf refusal ⌝ }
 {
@@ -27,7 +28,7 @@ pub fn number_of(refusal: Refusal) -> usize
     }
 }
 
-// A refusal's place.
+// A refusal's place; `rules::Refusal` says what it is for each number.
 pub fn place_of(refusal: Refusal) -> usize
     ensures { λ r. ⌜ r ≡ placeOf refusal ⌝ }
 {

@@ -1,6 +1,6 @@
--- Counts of mask settings that antt computes: a block whose counts differ, so that the statement of demand 3 is not empty, one whose counts differ
--- only where a public is 1, and one that the families refuse though its settled value gives nothing away; and what feeds a gate of each kind.
--- Assumes nothing.
+-- Counts of mask settings that antt computes: a block whose counts differ, so that the statement of demand 3 is not
+-- empty, one whose counts differ only where a public is 1, and one that the families refuse though its settled value
+-- gives nothing away; and what feeds a gate of each kind. Assumes nothing.
 use Prim.Native.Nat.{ℕ}
 use mathlib.Core.Path.{_≡_, refl, sym, _∙_}
 use mathlib.Core.Bool.{Bool, true, false, not, xor, _&&_, Bool·beq}
@@ -53,7 +53,8 @@ pub p14-settings : giving p14-without [] all-zero [] [] ≡ 8
 unfolding count settings same howMany matches giving
 p14-settings = refl
 
--- On the feeding points of node 10, beside a = b = 0 one mask setting gives the pattern of zeros, and beside a = 0, b = 1 none does.
+-- On the feeding points of node 10, beside a = b = 0 one mask setting gives the pattern of zeros,
+-- and beside a = 0, b = 1 none does.
 pub counts-differ : (giving p14-without (feeding p14-without 10) all-zero [] (false ∷ false ∷ []) ≡ 1)
     × (giving p14-without (feeding p14-without 10) all-zero [] (false ∷ true ∷ []) ≡ 0)
 unfolding member insert union count table xor exclusiveOr valueRule values feedingRule feedings feeding same howMany settings next others make matches giving
@@ -74,7 +75,8 @@ p14-probe probe = p14-leaks (probe p14-without p14-without-read 10 (record { the
 
 -- ---- counts that differ only where a public is 1
 
--- variables secret, mask, public; inputs 3, 2 and 4; 3 AND(1,2), 4 register 3, 5 XOR(0,4): the register holds the mask only where the public is 1
+-- variables secret, mask, public; inputs 3, 2 and 4; 3 AND(1,2), 4 register 3, 5 XOR(0,4): the register holds
+-- the mask only where the public is 1
 abbrev pub gated : List ℕ
 gated =
     0x01 ∷ 0x00 ∷ 0x01 ∷ 0x01 ∷ 0x01 ∷ 0x02
@@ -89,7 +91,8 @@ pub gated-read : read gated ≡ answered gated-netlist
 unfolding replyTo
 gated-read = refl
 
--- Node 5 is fed by input 0 and the register. Where the public is 0, the counts there are the same whatever the secret is.
+-- Node 5 is fed by input 0 and the register. Where the public is 0, the counts there are the
+-- same whatever the secret is.
 pub gated-shut : (z : Pattern) (s : List Bool) → giving gated-netlist (feeding gated-netlist 5) z (false ∷ []) s ≡ digit (not (z 4))
 unfolding member insert union count table xor exclusiveOr valueRule values feedingRule feedings feeding same howMany settings next others make matches giving
 gated-shut z s = go (next s) (z 0) (z 4)
@@ -127,7 +130,7 @@ gated-probe probe = gated-leaks (probe gated-netlist gated-read 5 (record { ther
 
 -- ---- a refused block whose settled value gives nothing away
 
--- P12: the netlist that its bytes are. Both halves of its answer name node 4.
+-- P12: the netlist that its bytes are. Both halves of its answer report node 4.
 abbrev pub p12 : Netlist
 p12 = record { variables = secret ∷ mask ∷ []; nodes = input 3 ∷ input 2 ∷ NOT 1 ∷ AND 1 2 ∷ XOR 0 3 ∷ [] }
 

@@ -1,5 +1,5 @@
--- The listing, the node records and the queries on blocks, which antt computes from the rules: document 01's text for block A, a node of each
--- kind, and each refusal of a query. Assumes nothing.
+-- The listing, the node records and the queries on blocks, which antt computes from the rules: document 01's text for
+-- block A, a node of each kind, and each refusal of a query. Assumes nothing.
 use Prim.Native.Nat.{ℕ, _-_}
 use mathlib.Core.Path.{_≡_, refl, ap}
 use mathlib.Core.Bool.{true, false, xor}
@@ -18,7 +18,8 @@ use Rattle.rules.specs.Queries.{Given, given, valueQuery, feedingQuery, 
 use Rattle.rules.specs.Blocks.{P3, P9, P10}
 use Rattle.rules.proofs.Blocks.{replyTo}
 
--- A node of each kind: variables secret, mask, public; inputs 3 and 4; 2 NOT 1; 3 XOR(2,0); 4 AND(3,1); 5 OR(4,0); 6 register 5.
+-- A node of each kind: variables secret, mask, public; inputs 3 and 4; 2 NOT 1; 3 XOR(2,0); 4 AND(3,1);
+-- 5 OR(4,0); 6 register 5.
 abbrev each-kind : List ℕ
 each-kind =
     0x01 ∷ 0x00 ∷ 0x01 ∷ 0x01 ∷ 0x01 ∷ 0x02
@@ -45,7 +46,8 @@ fields k a b s m g = record { node = record { kind = k; first = a; second = b; s
 abbrev stays : NodeRecord
 stays = fields 9 9 9 9 9 9
 
--- the entries of a netlist of seven nodes, none of which reports a set, in a slice of nine, whose last two stay; and on a refusal all stay
+-- the entries of a netlist of seven nodes, none of which reports a set, in a slice of nine, whose last two stay;
+-- and on a refusal all stay
 pub records : (nodesAfter each-kind (replicate 9 stays) 1792
     ≡ fields 2 0 0 3 0 0 ∷ fields 2 0 0 4 0 0 ∷ fields 3 1 0 0 0 0 ∷ fields 4 2 0 0 0 0 ∷ fields 5 3 1 0 0 0 ∷ fields 6 4 0 0 0 0 ∷ fields 7 5 0 0 0 0
     ∷ replicate 2 stays)
@@ -53,14 +55,16 @@ pub records : (nodesAfter each-kind (replicate 9 stays) 1792
 unfolding replyTo entry markNumber nodeRecord nodeRecords tabulate filled nodesAfter
 records = (refl, refl)
 
--- slices that are too short for its seven nodes: the entries are checked first, also where the work bytes are too few as well
+-- slices that are too short for its seven nodes: the entries are checked first, also where the
+-- work bytes are too few as well
 pub too-short : (reply each-kind 6 1791 ≡ refused 10 7) × (reply each-kind 6 1792 ≡ refused 10 7) × (reply each-kind 7 1791 ≡ refused 11 1792)
 unfolding replyTo
 too-short = (refl, refl, refl)
 
--- Several suspects in each layer: a secret and a mask; input 0 is the bare secret and has no mark, input 1 both; 2 XOR(0,1), the mask, is marked
--- for glitches alone; 3 NOT 0 and 4 register 3 are marked in both layers; 5 XOR(2,1), the secret again, is too; 6 XOR(1,1), nothing, in neither,
--- though its settled family is that of the empty set; 7 is a register of 2, of which no mark is left, since nothing passes it but the settled mask.
+-- Several suspects in each layer: a secret and a mask; input 0 is the bare secret and has no mark, input 1 both;
+-- 2 XOR(0,1), the mask, is marked for glitches alone; 3 NOT 0 and 4 register 3 are marked in both layers; 5 XOR(2,1),
+-- the secret again, is too; 6 XOR(1,1), nothing, in neither, though its settled family is that of the empty set;
+-- 7 is a register of 2, of which no mark is left, since nothing passes it but the settled mask.
 abbrev pub marked : List ℕ
 marked =
     0x01 ∷ 0x00 ∷ 0x01 ∷ 0x01
@@ -77,8 +81,8 @@ pub marked-records : nodesAfter marked (replicate 8 stays) 2048 ≡ marked-after
 unfolding replyTo entry markNumber nodeRecord nodeRecords tabulate filled nodesAfter
 marked-records = refl
 
--- The settled half is node 3 and the glitch half node 2, each the lowest marked one of its layer with its mark; of those records `FromMarks` is false with
--- the halves exchanged, with the highest marked node, and with the bare input.
+-- The settled half is node 3 and the glitch half node 2, each the lowest marked one of its layer with its mark; of
+-- those records `FromMarks` is false with the halves exchanged, with the highest marked node, and with the bare input.
 abbrev halves : (settled glitch : Finding) → Findings
 halves s g = record { variables = 2; nodes = 8; settled = s; glitch = g }
 
@@ -108,15 +112,16 @@ gave a = record { outcome = answered tt; gives = a }
 abbrev refusing : {A : Type 0} → ℕ → ℕ → A → Given A
 refusing k p a = record { outcome = refused k p; gives = a }
 
--- Node 4 of block A is the exclusive-or of the secret and the second mask. Node 5 is not there, which is checked first, and assignment 8 has
--- the bit of a fourth variable.
+-- Node 4 of block A is the exclusive-or of the secret and the second mask. Node 5 is not there, which is checked first,
+-- and assignment 8 has the bit of a fourth variable.
 pub values-of-A : (valueQuery (P9 .bytes) 4 1 ≡ gave true) × (valueQuery (P9 .bytes) 4 5 ≡ gave false)
     × (valueQuery (P9 .bytes) 5 8 ≡ refusing 12 5 false) × (valueQuery (P9 .bytes) 4 8 ≡ refusing 13 8 false)
     × (valueQuery (P3 .bytes) 0 0 ≡ refusing 9 1 false)
 unfolding replyTo bits xor exclusiveOr valueRule values nodeCheck numberCheck queriedWith given valueQuery
 values-of-A = (refl, refl, refl, refl, refl)
 
--- the values of a node of each kind, where the secret and the public are 1, where the public alone is, and where the secret alone is
+-- the values of a node of each kind, where the secret and the public are 1, where the public alone is,
+-- and where the secret alone is
 pub values-of-each-kind : (tabulate (λ i. valueQuery each-kind i 5 .gives) 7 ≡ true ∷ true ∷ false ∷ true ∷ true ∷ true ∷ true ∷ [])
     × (tabulate (λ i. valueQuery each-kind i 4 .gives) 7 ≡ false ∷ true ∷ false ∷ false ∷ false ∷ false ∷ false ∷ [])
     × (tabulate (λ i. valueQuery each-kind i 1 .gives) 7 ≡ true ∷ false ∷ true ∷ false ∷ false ∷ true ∷ true ∷ [])

@@ -1,5 +1,5 @@
--- The table P1 to P14, and blocks that show the mistakes which document 01 does not forgive: the reply to each, which antt computes from the
--- rules. Assumes nothing.
+-- The table P1 to P14, and blocks that show the mistakes which document 01 does not forgive: the reply to each,
+-- which antt computes from the rules. Assumes nothing.
 use Prim.Native.Nat.{ℕ}
 use mathlib.Core.Path.{_≡_, refl}
 use mathlib.Core.List.{List, [], _∷_, map}
@@ -55,7 +55,8 @@ replies =
 
 -- ---- mistakes
 
--- variables secret, mask, mask; inputs 3, 2 and 4; 3 AND(0,2); 4 AND(1,2); 5 XOR(3,4), in whose product each set arises twice
+-- variables secret, mask, mask; inputs 3, 2 and 4; 3 AND(0,2); 4 AND(1,2); 5 XOR(3,4), in whose
+-- product each set arises twice
 abbrev pub arises-twice : Block
 arises-twice = record {
   bytes =
@@ -114,8 +115,9 @@ two-suspects = record {
   expected = answers (suspectAt 2 1) (suspectAt 2 1) 2 3;
 }
 
--- Two of the mistakes show in the table: a register that passed on its operand's glitch family would name a suspect in P10, and the settled
--- XOR rule between registers none in P9. The others show here, and so do a family that forgets a set and a wrong choice of the reported one.
+-- Two of the mistakes show in the table: a register that passed on its operand's glitch family would report a suspect
+-- in P10, and the settled XOR rule between registers none in P9. The others show here, and so do a family that forgets
+-- a set and a wrong choice of the reported one.
 pub mistakes : Each Right (arises-twice ∷ public-beside-secret ∷ publics-alone ∷ second-operand ∷ or-gate ∷ bare-register ∷ two-suspects ∷ [])
 unfolding replyTo
 mistakes =
@@ -130,7 +132,8 @@ mistakes =
 
 -- ---- the reported set
 
--- change request A2's own example: variables secret, public, secret; inputs 3 and 4; AND of them: sets 3, 4 and 7 are suspect
+-- change request A2's own example: variables secret, public, secret; inputs 3 and 4; AND of them:
+-- sets 3, 4 and 7 are suspect
 abbrev pub fewest-variables : Block
 fewest-variables = record {
   bytes =

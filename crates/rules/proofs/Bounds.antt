@@ -1,5 +1,6 @@
--- The sets of the families of a netlist that obeys the record rules are sets of its variables, and so below `most-sets`; its feeding points are inputs or
--- registers, no higher than the node. What a rule makes comes from its operands' families or points. Assumes nothing.
+-- The sets of the families of a netlist that obeys the record rules are sets of its variables, and so below
+-- `most-sets`; its feeding points are inputs or registers, no higher than the node. What a rule makes comes from its
+-- operands' families or points. Assumes nothing.
 use Prim.Native.Nat.{ℕ, suc, _≤_, _<_, _^_}
 use mathlib.Core.Path.{_≡_, refl, ap, _∙_}
 use mathlib.Core.Logic.{⊎-elim}

@@ -1,5 +1,6 @@
--- The exclusive-or of a set's variables under symmetric difference, and over all mask settings: with a mask in the set it is 0 as often as 1,
--- and with no secret in it, it does not see the secrets. Both by induction on the variables. Assumes nothing.
+-- The exclusive-or of a set's variables under symmetric difference, and over all mask settings:
+-- with a mask in the set it is 0 as often as 1, and with no secret in it, it does not see the secrets.
+-- Both by induction on the variables. Assumes nothing.
 use Prim.Native.Nat.{ℕ, zero, suc, _+_, _/_, _%_, _<_}
 use mathlib.Core.Path.{_≡_, refl, sym, ap, ap₂, _∙_, subst}
 use mathlib.Core.Logic.{_⊎_, inl, inr}
@@ -39,7 +40,8 @@ odd-xor A B = ap (λ (n : ℕ). eqb n 1) (xor-mod A B 1) ∙ go (A % 2) (B % 2) 
     go a b (inr p) (inl q) = rw (p, q) refl
     go a b (inr p) (inr q) = rw (p, q) refl
 
--- `xor` is associative and commutative, and `&&` distributes over it: five bits, regrouped, by a test that antt computes
+-- `xor` is associative and commutative, and `&&` distributes over it: five bits, regrouped,
+-- by a test that antt computes
 regroups : (a b x y z : Bool) → Bool
 regroups a b x y z = Bool·beq (xor (xor a b && x) (xor y z)) (xor (xor (a && x) y) (xor (b && x) z))
 

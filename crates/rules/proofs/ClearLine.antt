@@ -1,5 +1,6 @@
--- What the listing's last line means: it reads `glitch clear` exactly when the checker answers clear for glitching signals. Else the listing
--- ends in a number, so its last byte before the line feed is a digit, which that of `clear` is not. Assumes nothing.
+-- What the listing's last line means: it reads `glitch clear` exactly when the checker answers clear for glitching
+-- signals. Else the listing ends in a number, so its last byte before the line feed is a digit, which that
+-- of `clear` is not. Assumes nothing.
 use Prim.Native.Nat.{ℕ, _+_, _-_, _/_, _%_, _≤_, _<_}
 use mathlib.Core.Path.{_≡_, refl, sym, ap, _∙_}
 use mathlib.Core.Logic.{_⊎_, inl, inr, _↔_}
@@ -129,6 +130,7 @@ pub clear-line : (bytes : List ℕ) → EndsClear bytes ↔ GlitchClear (reply b
 clear-line bytes =
     (λ s. clear-line-says bytes (s .before ++ (10 ∷ [])) (s .ends ∙ sym (append-snoc (s .before) 10 _)), clear-line-said bytes)
 
--- So where the listing's last line reads `glitch clear`, one probe on any gate or register learns nothing of the secrets.
+-- So where the listing's last line reads `glitch clear`, one probe on any gate or register
+-- learns nothing of the secrets.
 pub clear-line-probe : (bytes : List ℕ) → EndsClear bytes → OneProbe bytes
 clear-line-probe bytes s = one-probe bytes most-nodes most-work (clear-line bytes .0 s)

@@ -1,5 +1,6 @@
--- A number in base ten: its digits stand for it, each is a digit, no 0 leads but that of the number 0, and a number below 10 to the power k has at
--- most k of them. By one induction, on the number without its last digit. Assumes nothing.
+-- A number in base ten: its digits stand for it, each is a digit, no 0 leads but that of the number 0,
+-- and a number below 10 to the power k has at most k of them. By one induction, on the number without its last digit.
+-- Assumes nothing.
 use Prim.Native.Nat.{ℕ, zero, suc, _+_, _-_, _*_, _/_, _%_, _^_, _≤_, _<_}
 use mathlib.Core.Path.{_≡_, refl, sym, _∙_}
 use mathlib.Core.Bool.{Bool, true, false}

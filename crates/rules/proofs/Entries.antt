@@ -1,6 +1,6 @@
--- What the rules keep holds at every node: a property of the entries of tables over the same nodes, which the defaults have and the steps
--- keep, is that of all entries; and from it, properties of feeding points and of families. So one induction over the nodes serves `Once`,
--- `Bounds` and `Probe`. Assumes nothing.
+-- What the rules keep holds at every node: a property of the entries of tables over the same nodes, which the defaults
+-- have and the steps keep, is that of all entries; and from it, properties of feeding points and of families.
+-- So one induction over the nodes serves `Once`, `Bounds` and `Probe`. Assumes nothing.
 use Prim.Native.Nat.{ℕ, zero, suc, _≤_, _<_}
 use mathlib.Core.Path.{_≡_, sym, subst, fun-ext}
 use mathlib.Core.Bool.{Bool, true, false}
@@ -25,8 +25,8 @@ module _ {ξ ℓ κ μ} {X : Type ξ} {A : X → Type ℓ} {B : Type κ} (step :
   abbrev pub tables : (x : X) → List (A x)
   tables x = table (step x) [] nodes
 
-  -- P n e says that the entries e are right where n nodes are done. The steps keep that: what is right stays so where more are done, the
-  -- defaults are right, and the steps from right entries are right.
+  -- P n e says that the entries e are right where n nodes are done. The steps keep that: what is right stays so where
+  -- more are done, the defaults are right, and the steps from right entries are right.
   pub record KeptBySteps : Type (ξ ⊔ ℓ ⊔ μ) where
     pub stays : (m n : ℕ) (e : (x : X) → A x) → m ≤ n → P m e → P n e
     pub defaults : P 0 a
@@ -73,7 +73,8 @@ isPoint (AND a b) = false
 isPoint (OR a b) = false
 isPoint (register a) = true
 
--- P i F says that F is right as the feeding points of a node below i. The rule keeps that: a point alone is right, and so are unions.
+-- P i F says that F is right as the feeding points of a node below i. The rule keeps that: a point alone
+-- is right, and so are unions.
 pub record KeptByFeeding (n : Netlist) (P : ℕ → List ℕ → Type 0) : Type 0 where
   pub stays : (m i : ℕ) (F : List ℕ) → m ≤ i → P m F → P i F
   pub empty : P 0 []

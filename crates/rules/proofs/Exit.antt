@@ -1,5 +1,6 @@
--- The lent slices at exit, entry by entry and bit by bit: the node records, the two families of each node, and beyond them what stood there;
--- on a refusal all that stood there. Both are as long as at entry, since what is written fits, by checks 10 and 11. Assumes nothing.
+-- The lent slices at exit, entry by entry and bit by bit: the node records, the two families of each node, and beyond
+-- them what stood there; on a refusal all that stood there. Both are as long as at entry, since what is written fits,
+-- by checks 10 and 11. Assumes nothing.
 use Prim.Native.Nat.{ℕ, _+_, _*_, _-_, _/_, _%_, _^_, _≤_, _<_}
 use mathlib.Core.Path.{_≡_, refl, ap, ap₂, _∙_}
 use mathlib.Core.List.{List, []}
@@ -97,7 +98,8 @@ module _ (bytes : List ℕ) (entries : ℕ) (before : List ℕ) where
   unfolding workAfter
   written-byte n e j h = filled-front _ before (admitted bytes entries (length before)) n e j 0 (omega (arith, all-bytes n))
 
-  -- set A of node i is bit A mod 8 of byte 256 × i + A / 8 for the settled family, and 128 bytes further for the glitch family
+  -- set A of node i is bit A mod 8 of byte 256 × i + A / 8 for the settled family, and 128 bytes
+  -- further for the glitch family
   pub work-settled : (n : Netlist) → admitted bytes entries (length before) ≡ answered n → (i A : ℕ) → i < length (n .nodes) → A < most-sets
       → odd (getD (workAfter bytes entries before) (256 * i + A / 8) 0 / 2 ^ (A % 8)) ≡ member A (familiesAt n i .settled)
   unfolding familiesAt

@@ -1,4 +1,5 @@
--- What feeds a gate is what feeds its operands: the rule joins the points of these, which are lower nodes. Assumes nothing.
+-- What feeds a gate is what feeds its operands: the rule joins the points of these, which are lower nodes.
+-- Assumes nothing.
 use Prim.Native.Nat.{ℕ, _<_}
 use mathlib.Core.Path.{_≡_}
 use mathlib.Core.Logic.{⊎-elim}

@@ -1,5 +1,6 @@
--- What a half of the answer says: clear exactly when no tested node's family holds a suspect set, and else the lowest node whose family
--- does, with the set that it reports. First what `reported`, `lowest` and `mark` each tell by what they return. Assumes nothing.
+-- What a half of the answer says: clear exactly when no tested node's family holds a suspect set, and else the
+-- lowest node whose family does, with the set that it reports. First what `reported`, `lowest` and `mark` each tell
+-- by what they return. Assumes nothing.
 use Prim.Native.Nat.{ℕ, zero, suc, _+_, _≤_, _<_}
 use mathlib.Core.Path.{_≡_, refl, sym, ap, _∙_, subst}
 use mathlib.Core.Logic.{_↔_}
@@ -25,7 +26,8 @@ use Rattle.rules.proofs.ReportOrder.{NotLater, not-later-self, earlier-
 
 -- ---- what a family reports
 
--- what `reported` tells of a family: that no set of it is suspect, or that A is suspect and in it, and no suspect set of it comes before A
+-- what `reported` tells of a family: that no set of it is suspect, or that A is suspect and in it,
+-- and no suspect set of it comes before A
 abbrev Reporting : List Class → Family → Option ℕ → Type 0
 Reporting variables F none = (A : ℕ) → T (member A F) → T (not (suspect variables A))
 Reporting variables F (some A) =
@@ -80,8 +82,8 @@ reported-clear variables F h = go (reported variables F) (reporting variables F)
     go none r = refl
     go (some A) r = absurd (T-not (suspect variables A) (h A (r .0)) (r .1))
 
--- What the reported set is: it is suspect, it is in the family, no suspect set of the family has fewer variables, and none with as many has a
--- lower number.
+-- What the reported set is: it is suspect, it is in the family, no suspect set of the family has fewer variables,
+-- and none with as many has a lower number.
 pub record Reports (variables : List Class) (F : Family) (A : ℕ) : Type 0 where
   pub isSuspect : T (suspect variables A)
   pub inFamily : T (member A F)
@@ -169,8 +171,8 @@ tested-there n i t = go (decLt i (length (n .nodes)))
 
 -- ---- what a half says
 
--- node i is the lowest tested node whose family holds a suspect set, and A is the set that it reports: of its suspect sets with fewest variables
--- the lowest-numbered
+-- node i is the lowest tested node whose family holds a suspect set, and A is the set that it reports:
+-- of its suspect sets with fewest variables the lowest-numbered
 pub record NamesLowest (layer : Families → Family) (n : Netlist) (i A : ℕ) : Type 0 where
   pub testedNode : TestedNode n i
   pub inFamily : T (member A (layer (familiesAt n i)))
@@ -229,13 +231,14 @@ half-clear layer n = (λ e. subst (Says layer n) e (half-says layer n), λ h. go
     go h clear r = refl
     go h (suspectAt i A) r = absurd (T-not (suspect (n .variables) A) (h i (r .testedNode) A (r .inFamily)) (r .isSuspect))
 
--- and where it is suspect it names the lowest such node, with the set that it reports
+-- and where it is suspect it gives the lowest such node, with the set that it reports
 pub half-suspect : (layer : Families → Family) (n : Netlist) (i A : ℕ) → half layer n ≡ suspectAt i A → NamesLowest layer n i A
 half-suspect layer n i A e = subst (Says layer n) e (half-says layer n)
 
 -- ---- the checker's answer
 
--- the checker answers clear for glitching signals exactly when it refuses nothing and no tested node's glitch family holds a suspect set
+-- the checker answers clear for glitching signals exactly when it refuses nothing and no tested node's
+-- glitch family holds a suspect set
 pub exactly-when : (bytes : List ℕ) (entries work : ℕ) → GlitchClear (reply bytes entries work) ↔ NothingSuspect bytes entries work
 unfolding reply GlitchClear andThen findings NoSuspect
 exactly-when bytes entries work =

@@ -1,5 +1,5 @@
--- What is proved of the rules. Demand 3 is `one-probe` of `Probe` and `exactly-when` of `Halves`, and told by the listing's last line it is
--- `clear-line-probe` of `ClearLine`; the table P1 to P14 is `replies` of `Blocks`.
+-- What is proved of the rules. Demand 3 is `one-probe` of `Probe` and `exactly-when` of `Halves`, and told by the
+-- listing's last line it is `clear-line-probe` of `ClearLine`; the table P1 to P14 is `replies` of `Blocks`.
 
 -- tests, lists and tables
 pub mod Tests

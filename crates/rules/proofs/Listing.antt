@@ -1,5 +1,6 @@
--- The listing's lines node by node, which is how they are written: those of the first nodes, and one line more; and what the lines of the halves
--- name. By induction on the nodes, and by the entries of the table of families. Assumes nothing.
+-- The listing's lines node by node, which is how they are written: those of the first nodes, and one line more;
+-- and what the lines of the halves report. By induction on the nodes, and by the entries of the table of families.
+-- Assumes nothing.
 use Prim.Native.Nat.{ℕ, suc, _+_, _<_}
 use mathlib.Core.Path.{_≡_, refl, sym, _∙_}
 use mathlib.Core.List.{List, [], _∷_, _++_, append-nil, append-assoc}
@@ -54,9 +55,9 @@ module _ (n : Netlist) where
   unfolding firstLines
   first-all = rw (take-length (n .nodes), take-all (length (n .nodes)) (families n) (omega (arith, families-length n)))
 
--- ---- what the lines of the halves name
+-- ---- what the lines of the halves report
 
--- a half names a node of the netlist, and a set that is as small as all sets of the families are
+-- a half reports a node of the netlist, and a set that is as small as all sets of the families are
 half-names : (layer : Families → Family) (n : Netlist) (k : ℕ) → ((i : ℕ) → All (λ A. A < k) (layer (familiesAt n i)))
     → (i A : ℕ) → half layer n ≡ suspectAt i A → (i < length (n .nodes)) × (A < k)
 half-names layer n k small i A e =

@@ -1,4 +1,4 @@
--- Laws of lists that name each number once: what is in them after `insert`, `union`, `product` and `spread`, some of it
+-- Laws of lists that hold each number once: what is in them after `insert`, `union`, `product` and `spread`, some of it
 -- also as equations; and of counts. Assumes nothing.
 use Prim.Native.Nat.{ℕ, zero, suc, _+_, _*_, _/_, _%_, _<_, _≤_}
 use mathlib.Core.Path.{_≡_, refl, sym, ap, ap₂, _∙_, subst, fun-ext}

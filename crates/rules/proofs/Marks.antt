@@ -1,5 +1,6 @@
--- The marks of node records (change request A6): no node reports the empty set, so that a mark of 0 says none and nothing else does; the marks of
--- a layer are what its nodes report; and each half of the answer is the lowest marked node of its layer with its mark. Assumes nothing.
+-- The marks of node records (change request A6): no node reports the empty set, so that a mark of 0 says none and
+-- nothing else does; the marks of a layer are what its nodes report; and each half of the answer is the lowest marked
+-- node of its layer with its mark. Assumes nothing.
 use Prim.Native.Nat.{ℕ, zero, suc}
 use mathlib.Core.Path.{_≡_, refl, sym, ap, _∙_}
 use mathlib.Core.Bool.{Bool, true, false, not, cond}

@@ -1,5 +1,5 @@
--- A property of all that is in a list: of the empty list, and after a number in front, `insert` and `union`; and of each entry. Each entry is in
--- the list, and what is in it is an entry. Assumes nothing.
+-- A property of all that is in a list: of the empty list, and after a number in front, `insert` and `union`;
+-- and of each entry. Each entry is in the list, and what is in it is an entry. Assumes nothing.
 use Prim.Native.Nat.{ℕ, zero, suc, _<_}
 use mathlib.Core.Path.{_≡_, sym, subst}
 use mathlib.Core.Logic.{⊎-elim}

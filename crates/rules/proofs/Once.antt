@@ -1,6 +1,6 @@
--- Each is named once: no feeding point of a node is listed twice, and no set in either of its families. `insert` and `union` keep that, and
--- a product has it whatever its factors. Such lists of the same numbers are equally long, and n numbers below n that are named once are all of
--- them. Assumes nothing.
+-- Each is listed once: no feeding point of a node is listed twice, and no set in either of its families.
+-- `insert` and `union` keep that, and a product has it whatever its factors. Such lists of the same numbers are equally
+-- long, and n numbers below n that are listed once are all of them. Assumes nothing.
 use Prim.Native.Nat.{ℕ, suc, _≤_, _<_}
 use mathlib.Core.Path.{_≡_, refl, sym, subst}
 use mathlib.Core.Logic.{_⊎_, inl, inr, ⊎-elim}
@@ -65,7 +65,7 @@ take-out x (y ∷ ys) t =
     ))
     (member-cases x y ys t)
 
--- a list that names each once is no longer than any that names all of them
+-- a list that holds each once is no longer than any that holds all of them
 no-longer : (xs ys : List ℕ) → T (once xs) → All (λ x. T (member x ys)) xs → length xs ≤ length ys
 unfolding once
 no-longer [] ys t h = omega arith
@@ -82,7 +82,8 @@ pub same-length : (xs ys : List ℕ) → T (once xs) → T (once ys) → ((x : �
 same-length xs ys t u same =
     le-antisymm (no-longer xs ys t (λ x m. subst T (same x) m)) (no-longer ys xs u (λ x m. subst T (sym (same x)) m))
 
--- n numbers below n, each named once, are all numbers below n: with one that is not among them they would be more than n
+-- n numbers below n, each listed once, are all numbers below n: with one that is not among them
+-- they would be more than n
 pub all-below : (n : ℕ) (xs : List ℕ) → T (once xs) → All (λ x. x < n) xs → length xs ≡ n → (y : ℕ) → y < n → T (member y xs)
 unfolding once
 all-below n xs t low e y h = pass (go (member y xs) refl)
@@ -101,7 +102,7 @@ all-below n xs t low e y h = pass (go (member y xs) refl)
 
 -- ---- feeding points and families
 
--- each feeding point of a node is named once
+-- each feeding point of a node is listed once
 pub feeding-once : (n : Netlist) (i : ℕ) → T (once (feeding n i))
 feeding-once n =
     each-feeding n (λ i F. T (once F)) record {
@@ -121,7 +122,7 @@ families-once n =
       multiplied = λ F G t u. product-once F G;
     }
 
--- each set of a node's settled family is named once, and each of its glitch family
+-- each set of a node's settled family is listed once, and each of its glitch family
 pub settled-once : (n : Netlist) (i : ℕ) → T (once (familiesAt n i .settled))
 settled-once n i = families-once n i .0
 

@@ -1,5 +1,5 @@
--- The work slice: set A of a family is bit A mod 8 of byte A / 8 of its 128 bytes, and a node has 256 of them, settled before glitch.
--- By induction on the bits of a byte, on the entries of a table, and on the nodes. Assumes nothing.
+-- The work slice: set A of a family is bit A mod 8 of byte A / 8 of its 128 bytes, and a node has 256 of them, settled
+-- before glitch. By induction on the bits of a byte, on the entries of a table, and on the nodes. Assumes nothing.
 use Prim.Native.Nat.{ℕ, zero, suc, _+_, _*_, _/_, _%_, _^_, _<_}
 use mathlib.Core.Path.{_≡_, refl, sym, ap, ap₂, _∙_}
 use mathlib.Core.Logic.{_⊎_, inl, inr}

@@ -1,5 +1,5 @@
--- The definitions of the paper's numbers and values lose nothing: a refusal is told by its number and place, and a reply by what it says. So a
--- promise about what a reply says determines the reply. Assumes nothing.
+-- The definitions of the paper's numbers and values lose nothing: a refusal is told by its number and place,
+-- and a reply by what it says. So a promise about what a reply says determines the reply. Assumes nothing.
 use Prim.Native.Nat.{ℕ, pred, _≤_}
 use mathlib.Core.Path.{_≡_, refl, sym, ap, ap₂, _∙_}
 use mathlib.Core.List.{[], _∷_}

@@ -1,6 +1,6 @@
--- Points on which patterns are looked at: what a pattern asks of points taken together, and the law of fewer points. The count of a pattern is the
--- sum of the counts of its two extensions at a further point; so where the counts agree on some points, they agree on any points that are all among
--- them. Assumes nothing.
+-- Points on which patterns are looked at: what a pattern asks of points taken together, and the law of fewer points.
+-- The count of a pattern is the sum of the counts of its two extensions at a further point; so where the counts agree
+-- on some points, they agree on any points that are all among them. Assumes nothing.
 use Prim.Native.Nat.{ℕ, _+_}
 use mathlib.Core.Path.{_≡_, refl, sym, ap, ap₂, _∙_, subst}
 use mathlib.Core.Logic.{_⊎_, inl, inr}
@@ -17,7 +17,7 @@ use Rattle.rules.proofs.Members.{All}
 
 -- ---- patterns on points taken together
 
--- a point that is named already asks nothing more
+-- a point that is among them already asks nothing more
 pub matches-member : (settled : List Bool) (i : ℕ) (points : List ℕ) (z : Pattern) → T (member i points)
     → matches settled points z ≡ (Bool·beq (getD settled i false) (z i) && matches settled points z)
 unfolding matches
@@ -39,7 +39,7 @@ matches-member settled i (j ∷ points) z t = go (member-cases i j points t) (ma
         (sym (and-self-left (named j) (matches settled points z)))
     go (inr m) rest = past (named i) (named j) (matches settled points z) (rest m)
 
--- nor do points that are all named already
+-- nor do points that are all among them already
 pub matches-among : (settled : List Bool) (P Q : List ℕ) (z : Pattern) → All (λ i. T (member i P)) Q
     → matches settled P z ≡ (matches settled P z && matches settled Q z)
 unfolding matches
@@ -73,11 +73,11 @@ matches-union settled (i ∷ P) Q z =
 
 -- ---- a further point
 
--- the pattern that names b at point i
+-- the pattern that gives point i the value b
 unfoldable pub extension : (i : ℕ) → Bool → Pattern → Pattern
 extension i b z j = cond (eqb i j) b (z j)
 
--- which at other points names what it named
+-- which gives other points what it gave them
 matches-elsewhere : (settled : List Bool) (i : ℕ) (b : Bool) (points : List ℕ) (z : Pattern) → member i points ≡ false
     → matches settled points (extension i b z) ≡ matches settled points z
 unfolding matches member extension

@@ -1,6 +1,7 @@
--- Demand 3: where no tested node's glitch family holds a suspect set, the counts of mask settings agree on the feeding points of each tested
--- node. Each node's settled family spans its value and its glitch family holds every pattern on its feeding points, by the rules of its kind;
--- the weight 1 is balanced with every set that is not suspect. Assumes nothing.
+-- Demand 3: where no tested node's glitch family holds a suspect set, the counts of mask settings agree on the
+-- feeding points of each tested node. Each node's settled family spans its value and its glitch family holds
+-- every pattern on its feeding points, by the rules of its kind; the weight 1 is balanced with every set that
+-- is not suspect. Assumes nothing.
 use Prim.Native.Nat.{ℕ}
 use mathlib.Core.Path.{_≡_, refl, sym, ap, _∙_, subst, fun-ext}
 use mathlib.Core.Bool.{Bool, true, false, not, _&&_, Bool·beq, and-true}
@@ -147,7 +148,8 @@ module _ (n : Netlist) (p : List Bool) where
         sums .1 ∙ count-map (exclusiveOr A) (made secrets) masks,
       )
 
-  -- is balanced where the set is not suspect: with a mask in it the sums are 0, and with no secret in it they are the same
+  -- is balanced where the set is not suspect: with a mask in it the sums are 0, and with no
+  -- secret in it they are the same
   unsuspected : (s t : List Bool) (A : ℕ) → T (not (suspect (n .variables) A)) → Balanced (beside s) (beside t) (λ x. twist (exclusiveOr A x) plus)
   unfolding Balanced suspect
   unsuspected s t A clean = go (holds mask (n .variables) A) refl
@@ -181,7 +183,8 @@ module _ (n : Netlist) (p : List Bool) where
       let sums = kept-sum (λ x. matches (values n x) points z) (beside secrets) in
       (sums .0 ∙ count-map (λ x. matches (values n x) points z) (made secrets) masks, sums .1)
 
-  -- the weight 1 itself: there are as many mask settings beside the one as beside the other, and each gives the pattern on no points
+  -- the weight 1 itself: there are as many mask settings beside the one as beside the other, and each
+  -- gives the pattern on no points
   as-many : (s t : List Bool) (z : Pattern) → Balanced (beside s) (beside t) (λ x. plus)
   unfolding Balanced matches giving
   as-many s t z =
@@ -210,7 +213,8 @@ node-agrees n i clean = counts-agree n (feeding n i) (familiesAt n i .glitch) (�
 
 -- ---- demand 3
 
--- Whenever the checker answers clear for glitching signals, no tested node of the netlist that the bytes are holds a suspect set.
+-- Whenever the checker answers clear for glitching signals, no tested node of the netlist that the
+-- bytes are holds a suspect set.
 pub none-suspect : (bytes : List ℕ) (entries work : ℕ) → GlitchClear (reply bytes entries work) → (n : Netlist) → read bytes ≡ answered n → NoSuspect n
 none-suspect bytes entries work answers-clear n is-read = subst NoSuspect same-netlist (checked .noSuspect)
   where

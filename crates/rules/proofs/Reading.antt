@@ -1,6 +1,6 @@
--- What `read` makes of a file: it ends within `most-records` records, and a netlist that it answers is well formed and has the file for its
--- writing-out. By induction on the number of records: what is read before the next one is well formed, short, and the writing-out of its
--- netlist (`Reached`, the invariant). Assumes nothing.
+-- What `read` makes of a file: it ends within `most-records` records, and a netlist that it answers is well formed and
+-- has the file for its writing-out. By induction on the number of records: what is read before the next one is well
+-- formed, short, and the writing-out of its netlist (`Reached`, the invariant). Assumes nothing.
 use Prim.Native.Nat.{ℕ, zero, suc, _+_, _*_, _^_, _≤_, _<_}
 use mathlib.Core.Path.{_≡_, refl, _∙_, subst, ap}
 use mathlib.Core.Bool.{Bool, true, false, _||_}

@@ -1,5 +1,6 @@
--- One record of a file. It is accepted exactly if it obeys the checks (`Accepted`), the bytes that say it are then its writing-out, and its
--- own writing-out says it. By the list of checks, row by row, and by cases on the kinds. Assumes nothing.
+-- One record of a file. It is accepted exactly if it obeys the checks (`Accepted`), the bytes that say it are then
+-- its writing-out, and its own writing-out says it. By the list of checks, row by row, and by cases on the kinds.
+-- Assumes nothing.
 use Prim.Native.Nat.{ℕ, zero, suc, _+_, _*_, _/_, _%_, _≤_, _<_}
 use mathlib.Core.Path.{_≡_, refl, subst}
 use mathlib.Core.Bool.{Bool, true, false, _&&_}

@@ -1,5 +1,5 @@
--- The order of report: what `earlier` tells of two sets, by their numbers of variables and their own; it is transitive, and no set is earlier
--- than itself. Assumes nothing.
+-- The order of report: what `earlier` tells of two sets, by their numbers of variables and their own; it is transitive,
+-- and no set is earlier than itself. Assumes nothing.
 use Prim.Native.Nat.{ℕ, _≤_, _<_}
 use mathlib.Core.Path.{_≡_}
 use mathlib.Core.Logic.{_⊎_, inl, inr, ⊎-elim}

@@ -1,5 +1,5 @@
--- A netlist that is checked is the one that is read, and the lent slices have its entries and its work bytes; and where they have them
--- nothing more is refused. By checks 10 and 11. Assumes nothing.
+-- A netlist that is checked is the one that is read, and the lent slices have its entries and its work bytes;
+-- and where they have them nothing more is refused. By checks 10 and 11. Assumes nothing.
 use Prim.Native.Nat.{ℕ, _*_, _≤_}
 use mathlib.Core.Path.{_≡_, refl, subst}
 use mathlib.Core.List.{List}

@@ -1,5 +1,6 @@
--- A set's number and its bits are each made from the other, its number of variables is that of its bits, and a number has the bit of an undeclared
--- variable just if it is too large. By induction on the bits, a half at a time. Assumes nothing.
+-- A set's number and its bits are each made from the other, its number of variables is that of its bits,
+-- and a number has the bit of an undeclared variable just if it is too large. By induction on the bits,
+-- a half at a time. Assumes nothing.
 use Prim.Native.Nat.{ℕ, zero, suc, _+_, _*_, _/_, _%_, _^_, _≤_, _<_}
 use mathlib.Core.Path.{_≡_, refl, sym, ap, ap₂, _∙_, subst}
 use mathlib.Core.Bool.{Bool, true, false}

@@ -1,5 +1,6 @@
--- The settings of k variables are the 2 to the power k lists of k bits, each once; an assignment and its three settings make one another; on
--- no points every mask setting gives the pattern. By induction on the number of variables, or on their list. Assumes nothing.
+-- The settings of k variables are the 2 to the power k lists of k bits, each once; an assignment and its three settings
+-- make one another; on no points every mask setting gives the pattern. By induction on the number of variables,
+-- or on their list. Assumes nothing.
 use Prim.Native.Nat.{ℕ, zero, suc, _+_, _^_}
 use mathlib.Core.Path.{_≡_, refl, sym, ap, _∙_}
 use mathlib.Core.Logic.{_≢_}

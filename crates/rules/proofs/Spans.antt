@@ -1,7 +1,7 @@
--- What the two families of a node hold, in the dual form: a family spans a value if every weight that is balanced with each set of the family
--- is balanced with the value; it holds a test if every such weight, itself balanced, is balanced on those that pass the test. Because any
--- weight is taken, a product of two functions needs no expansion: the one's fact is used at the other's weight.
--- Assumes nothing.
+-- What the two families of a node hold, in the dual form: a family spans a value if every weight that is balanced
+-- with each set of the family is balanced with the value; it holds a test if every such weight, itself balanced,
+-- is balanced on those that pass the test. Because any weight is taken, a product of two functions needs no expansion:
+-- the one's fact is used at the other's weight. Assumes nothing.
 use Prim.Native.Nat.{ℕ}
 use mathlib.Core.Path.{_≡_, refl, sym, ap, _∙_}
 use mathlib.Core.Bool.{Bool, true, false, not, _&&_, _||_, xor, Bool·beq}

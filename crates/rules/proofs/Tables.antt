@@ -1,5 +1,6 @@
--- Laws of tables, over the entries' type, the nodes' type and the step: length, append, one node more, the first nodes; the entries so far
--- are kept, and each entry is the step from those before it, whatever nodes come later. Assumes nothing.
+-- Laws of tables, over the entries' type, the nodes' type and the step: length, append, one node more, the first nodes;
+-- the entries so far are kept, and each entry is the step from those before it, whatever nodes come later.
+-- Assumes nothing.
 use Prim.Native.Nat.{ℕ, zero, suc, _+_, _≤_, _<_}
 use mathlib.Core.Path.{_≡_, refl, sym, ap, _∙_, subst}
 use mathlib.Core.List.{List, [], _∷_, _++_, append-assoc, append-nil}

@@ -1,6 +1,6 @@
--- Weights of +1, -1 or 0 on assignments, and when the sum over one list of assignments equals the sum over another: the arithmetic of the
--- proof of demand 3. A sum is told by its count of +1 and its count of -1, so that natural numbers are enough.
--- Assumes nothing.
+-- Weights of +1, -1 or 0 on assignments, and when the sum over one list of assignments equals the sum over another:
+-- the arithmetic of the proof of demand 3. A sum is told by its count of +1 and its count of -1, so that natural
+-- numbers are enough. Assumes nothing.
 use Prim.Native.Nat.{ℕ, _+_, _*_}
 use mathlib.Core.Path.{_≡_, refl, subst, fun-ext}
 use mathlib.Core.Bool.{Bool, true, false, not, _&&_, xor}

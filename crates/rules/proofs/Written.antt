@@ -1,5 +1,5 @@
--- A netlist that obeys the record rules is read from its writing-out: each of its records is accepted behind those before it, by induction
--- over the variables and then over the nodes. Assumes nothing.
+-- A netlist that obeys the record rules is read from its writing-out: each of its records is accepted behind those
+-- before it, by induction over the variables and then over the nodes. Assumes nothing.
 use Prim.Native.Nat.{ℕ, suc, _+_, _<_}
 use mathlib.Core.Path.{_≡_, refl, ap}
 use mathlib.Core.Bool.{false, _&&_}

@@ -89,10 +89,13 @@ P13 = record { bytes = 0x01 ∷ 0x00 ∷ 0x02 ∷ 0x01 ∷ 0x00 ∷ 0x00 ∷ [];
 
 -- with NOT of it
 abbrev pub P13-NOT : Block
-P13-NOT = record { bytes = 0x01 ∷ 0x00 ∷ 0x02 ∷ 0x01 ∷ 0x00 ∷ 0x03 ∷ 0x00 ∷ 0x00 ∷ []; expected = answers (suspectAt 1 1) (suspectAt 1 1) 1 2 }
+P13-NOT = record {
+  bytes = 0x01 ∷ 0x00 ∷ 0x02 ∷ 0x01 ∷ 0x00 ∷ 0x03 ∷ 0x00 ∷ 0x00 ∷ [];
+  expected = answers (suspectAt 1 1) (suspectAt 1 1) 1 2;
+}
 
--- variables a, b secret, then three masks; inputs 5, 4, 10, 8, 16; 5 AND(0,3), 6 XOR(5,4), 7 register 6, 8 AND(1,2), 9 XOR(8,4),
--- 10 register 9, 11 AND(0,2), 12 XOR(11,7), 13 AND(1,3), 14 XOR(13,10)
+-- variables a, b secret, then three masks; inputs 5, 4, 10, 8, 16; 5 AND(0,3), 6 XOR(5,4), 7 register 6, 8 AND(1,2),
+-- 9 XOR(8,4), 10 register 9, 11 AND(0,2), 12 XOR(11,7), 13 AND(1,3), 14 XOR(13,10)
 abbrev pub P14 : Block
 P14 = record {
   bytes =

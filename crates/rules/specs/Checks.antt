@@ -1,11 +1,12 @@
--- Document 01, "Where each check is made": the refusals, with number and place, in the order of its table, and with them what a whole file
--- says. Assumes nothing.
+-- Document 01, "Where each check is made": the refusals, with number and place, in the order of its table,
+-- and with them what a whole file says. Assumes nothing.
 use Prim.Native.Nat.{ℕ, zero, suc, _+_, _*_, _^_}
 use mathlib.Core.Bool.{Bool, true, false, _&&_, _||_}
 use mathlib.Core.List.{List, [], _∷_}
 use lib.Dec.{leb, ltb}
 use lib.ListN.{length, getD}
-use Rattle.rules.specs.Records.{Record, end, variable, node, Netlist, empty, withVariable, withNode, most-variables, most-nodes, last-kind, said, size, operands, setOf}
+use Rattle.rules.specs.Records.{Record, end, variable, node, Netlist, empty, withVariable, withNode}
+use Rattle.rules.specs.Records.{most-variables, most-nodes, last-kind, said, size, operands, setOf}
 
 -- something asked of the checker has an answer, or is refused with number and place
 pub data Outcome {ℓ} (A : Type ℓ) : Type ℓ where
@@ -45,7 +46,8 @@ overLimit v n end = false
 overLimit v n (variable c) = leb most-variables v
 overLimit v n (node c) = leb most-nodes n
 
--- a number has a bit of a variable that is not declared: with v variables the numbers of their sets are those below 2 to the power v
+-- a number has a bit of a variable that is not declared: with v variables the numbers of their sets
+-- are those below 2 to the power v
 unfoldable pub undeclared : (variables number : ℕ) → Bool
 undeclared v s = leb (2 ^ v) s
 
@@ -64,8 +66,8 @@ badOperand n end = false
 badOperand n (variable c) = false
 badOperand n (node cell) = notBelow n (operands cell)
 
--- The record of kind k with the body b, c whose kind byte stands at `here`, in a file of `total` bytes, after `v` variables and `n` nodes.
--- Row 8 stands first: where the bytes have run out there is no kind byte to judge.
+-- The record of kind k with the body b, c whose kind byte stands at `here`, in a file of `total` bytes, after `v`
+-- variables and `n` nodes. Row 8 stands first: where the bytes have run out there is no kind byte to judge.
 unfoldable pub judgedRecord : (total v n here k b c : ℕ) → Outcome Record
 judgedRecord total v n here k b c =
     let r = said k b c in

@@ -1,5 +1,5 @@
--- The customer's demand 3 as statements about netlist bytes, and what the last line of their listing reads. `proofs/Probe`, `proofs/Halves` and
--- `proofs/ClearLine` prove them. Assumes nothing.
+-- The customer's demand 3 as statements about netlist bytes, and what the last line of their listing reads.
+-- `proofs/Probe`, `proofs/Halves` and `proofs/ClearLine` prove them. Assumes nothing.
 use Prim.Native.Nat.{ℕ, _<_}
 use mathlib.Core.Path.{_≡_}
 use mathlib.Core.Bool.{not}
@@ -25,7 +25,8 @@ pub record TestedNode (n : Netlist) (i : ℕ) : Type 0 where
 
 -- no tested node's glitch family holds a suspect set
 unfoldable pub NoSuspect : Netlist → Type 0
-NoSuspect n = (i : ℕ) → TestedNode n i → (A : ℕ) → T (member A (familiesAt n i .glitch)) → T (not (suspect (n .variables) A))
+NoSuspect n =
+    (i : ℕ) → TestedNode n i → (A : ℕ) → T (member A (familiesAt n i .glitch)) → T (not (suspect (n .variables) A))
 
 -- the checker refuses nothing, and the glitch families hold no suspect set at a tested node
 pub record NothingSuspect (bytes : List ℕ) (entries work : ℕ) : Type 0 where
@@ -33,7 +34,8 @@ pub record NothingSuspect (bytes : List ℕ) (entries work : ℕ) : Type 0 where
   pub admits : admitted bytes entries work ≡ answered netlist
   pub noSuspect : NoSuspect netlist
 
--- One probe on any gate or register: in the netlist that the bytes are, the counts agree on the feeding points of every tested node.
+-- One probe on any gate or register: in the netlist that the bytes are, the counts agree on the feeding
+-- points of every tested node.
 unfoldable pub OneProbe : List ℕ → Type 0
 OneProbe bytes = (n : Netlist) → read bytes ≡ answered n → (i : ℕ) → TestedNode n i → CountsAgree n (feeding n i)
 

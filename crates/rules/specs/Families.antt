@@ -1,5 +1,6 @@
--- Document 01, "Rules for the two families": the families of each node, suspects, and the two halves of the answer. Source document 001
--- calls the settled family the stable set of labels and the glitch family the transient one. Assumes nothing.
+-- Document 01, "Rules for the two families": the families of each node, suspects, and the two halves of the answer.
+-- Source document 001 calls the settled family the stable set of labels and the glitch family the transient one.
+-- Assumes nothing.
 use Prim.Native.Nat.{ℕ, suc, _/_}
 use mathlib.Core.Bool.{Bool, true, false, not, cond, _&&_, _||_}
 use mathlib.Core.List.{List, [], _∷_, map}
@@ -9,7 +10,8 @@ use lib.Dec.{eqb, ltb}
 use lib.ListN.{length, getD}
 use Rattle.rules.specs.Lists.{insert, union}
 use Rattle.rules.specs.Tables.{table}
-use Rattle.rules.specs.Records.{Class, secret, mask, Cell, input, NOT, XOR, AND, OR, register, Netlist, odd, variableCount}
+use Rattle.rules.specs.Records.{Class, secret, mask, Netlist, odd, variableCount}
+use Rattle.rules.specs.Records.{Cell, input, NOT, XOR, AND, OR, register}
 use Rattle.rules.specs.Values.{same}
 
 -- a family of sets: their numbers, each once
@@ -88,7 +90,8 @@ tested (AND a b) = true
 tested (OR a b) = true
 tested (register a) = true
 
--- The order of report (change request A2): the set with fewer variables comes first, and of two with as many the lower-numbered.
+-- The order of report (change request A2): the set with fewer variables comes first, and of two with
+-- as many the lower-numbered.
 unfoldable pub earlier : (A B : ℕ) → Bool
 earlier A B = ltb (variableCount A) (variableCount B) || eqb (variableCount A) (variableCount B) && ltb A B
 

@@ -1,4 +1,5 @@
--- Document 01 as definitions, section by section, each file after those that it cites; first the two shapes that the sections share.
+-- Document 01 as definitions, section by section, each file after those that it cites; first the two
+-- shapes that the sections share.
 pub mod Lists
 pub mod Tables
 pub mod Records

@@ -43,7 +43,8 @@ unfoldable pub nodeLines : ℕ → List Cell → List Families → List ℕ
 nodeLines i [] Fs = []
 nodeLines i (c ∷ cells) [] = []
 nodeLines i (c ∷ cells) (F ∷ Fs) =
-    line (decimal i ∷ kindName c ∷ decimal (length (F .settled)) ∷ decimal (length (F .glitch)) ∷ []) ++ nodeLines (suc i) cells Fs
+    line (decimal i ∷ kindName c ∷ decimal (length (F .settled)) ∷ decimal (length (F .glitch)) ∷ [])
+    ++ nodeLines (suc i) cells Fs
 
 -- a half: `clear`, or node and set number
 unfoldable pub halfLine : List ℕ → Finding → List ℕ
@@ -61,7 +62,8 @@ unfoldable pub textOf : Outcome Netlist → List ℕ
 textOf (refused k p) = line (word "refused" ∷ decimal k ∷ decimal p ∷ [])
 textOf (answered n) = netlistText n
 
--- a netlist's text has at most 18 bytes a line, and three lines beside those of the nodes; a refusal's one line is shorter than all these
+-- a netlist's text has at most 18 bytes a line, and three lines beside those of the nodes; a refusal's
+-- one line is shorter than all these
 abbrev pub most-line : ℕ
 most-line = 18
 
@@ -76,7 +78,7 @@ most-input = 1024
 unfoldable pub listing : List ℕ → List ℕ
 listing bytes = textOf (read bytes)
 
--- what a slice that the text is written to holds at exit, which held `before`: the text at its front, and beyond that what stood there; a
--- slice that is too short for the text keeps its contents
+-- what a slice that the text is written to holds at exit, which held `before`: the text at its front, and beyond that
+-- what stood there; a slice that is too short for the text keeps its contents
 unfoldable pub shown : (text before : List ℕ) → List ℕ
 shown text before = cond (leb (length text) (length before)) (text ++ drop (length text) before) before

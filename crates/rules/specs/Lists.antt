@@ -1,5 +1,6 @@
--- Lists of numbers that name each number once: what a family is (of set numbers) and what feeding points are (of node numbers); and of any list how
--- many entries pass a test, the list without an entry, and one made entry by entry. Cited by the sections' definitions. Assumes nothing.
+-- Lists of numbers that hold each number once: what a family is (of set numbers) and what feeding points are (of node
+-- numbers); and of any list how many entries pass a test, the list without an entry, and one made entry by entry.
+-- Cited by the sections' definitions. Assumes nothing.
 use Prim.Native.Nat.{ℕ, zero, suc, _+_}
 use mathlib.Core.Bool.{Bool, true, false, cond, _||_}
 use mathlib.Core.List.{List, [], _∷_, _++_}
@@ -16,7 +17,7 @@ unfoldable pub member : ℕ → List ℕ → Bool
 member x [] = false
 member x (y ∷ ys) = eqb x y || member x ys
 
--- the list with x, which is not named a second time
+-- the list with x, which is not put in a second time
 unfoldable pub insert : ℕ → List ℕ → List ℕ
 insert x ys = cond (member x ys) ys (x ∷ ys)
 

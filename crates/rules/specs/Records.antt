@@ -1,5 +1,5 @@
--- Document 01, "Netlist records": variables, nodes, and what the bytes of one record say. Which records are refused is in `Checks`.
--- Assumes nothing.
+-- Document 01, "Netlist records": variables, nodes, and what the bytes of one record say.
+-- Which records are refused is in `Checks`. Assumes nothing.
 use Prim.Native.Nat.{ℕ, zero, suc, _+_, _*_, _/_, _%_, _^_, _≤_, _<_}
 use mathlib.Core.Bool.{Bool}
 use mathlib.Core.List.{List, [], _∷_, _++_}
@@ -151,8 +151,8 @@ pub record WellFormed (n : Netlist) : Type 0 where
   -- each input's set has declared variables only
   pub declared : (i : ℕ) → i < length (n .nodes) → setOf (getD (n .nodes) i (input 0)) < 2 ^ length (n .variables)
 
--- A set's number is the sum of 2 to the power v over its variables v. So its lowest bit tells whether it holds variable 0, and half of it
--- is the set of the other variables, each counted one lower.
+-- A set's number is the sum of 2 to the power v over its variables v. So its lowest bit tells whether it holds variable
+-- 0, and half of it is the set of the other variables, each counted one lower.
 abbrev pub odd : ℕ → Bool
 odd n = eqb (n % 2) 1
 

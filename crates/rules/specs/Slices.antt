@@ -1,5 +1,5 @@
--- Document 01, "Rules for the two families", its paragraph on the lent slices: what both hold at exit, node records with their marks (change
--- request A6), and with them the checker's reply. Assumes nothing.
+-- Document 01, "Rules for the two families", its paragraph on the lent slices: what both hold at exit, node records
+-- with their marks (change request A6), and with them the checker's reply. Assumes nothing.
 use Prim.Native.Nat.{ℕ, zero, suc, _+_, _*_}
 use mathlib.Core.Path.{_≡_}
 use mathlib.Core.List.{List, [], _∷_, _++_, map}
@@ -12,7 +12,8 @@ use Rattle.rules.specs.Records.{Cell, input, Netlist, kindOf, operands, 
 use Rattle.rules.specs.Families.{Family, Families, families, layerMarks, Finding, lowest, Findings, findings}
 use Rattle.rules.specs.Checks.{Outcome, answered, refused, andThen, admitted}
 
--- An entry holds the kind, the first and second operand (0 where the kind has none) and an input's set (0 for every other kind),
+-- An entry holds the kind, the first and second operand (0 where the kind has none) and an input's
+-- set (0 for every other kind),
 unfoldable pub entry : Cell → Node
 entry cell = record {
   kind = kindOf cell;
@@ -21,8 +22,8 @@ entry cell = record {
   set = setOf cell;
 }
 
--- and what the node reports in each layer. A mark is the number of the set, and 0 for none: the empty set is never suspect, so that no node
--- reports set 0 (`proofs/Marks`).
+-- and what the node reports in each layer. A mark is the number of the set, and 0 for none: the empty set is never
+-- suspect, so that no node reports set 0 (`proofs/Marks`).
 unfoldable pub markNumber : Option ℕ → ℕ
 markNumber none = 0
 markNumber (some A) = A
@@ -34,7 +35,8 @@ nodeRecord cell settled glitch = record { node = entry cell; settled = markNumbe
 unfoldable pub nodeRecords : Netlist → List NodeRecord
 nodeRecords n =
     tabulate
-    (λ i. nodeRecord (getD (n .nodes) i (input 0)) (getD (layerMarks (λ F. F .settled) n) i none) (getD (layerMarks (λ F. F .glitch) n) i none))
+    (λ i. nodeRecord (getD (n .nodes) i (input 0)) (getD (layerMarks (λ F. F .settled) n) i none)
+    (getD (layerMarks (λ F. F .glitch) n) i none))
     (length (n .nodes))
 
 -- a byte's worth of a family: its lowest bit is for the set A, and n bits in all

@@ -1,6 +1,6 @@
--- Document 01, "Values and feeding points": settled values, feeding points, the settings of each class, patterns, and the number of mask
--- settings that give a pattern. All of it follows from the netlist by these rules, and not from anything that the checker wrote.
--- Assumes nothing.
+-- Document 01, "Values and feeding points": settled values, feeding points, the settings of each class, patterns,
+-- and the number of mask settings that give a pattern. All of it follows from the netlist by these rules, and not from
+-- anything that the checker wrote. Assumes nothing.
 use Prim.Native.Nat.{ℕ, zero, suc, _/_}
 use mathlib.Core.Path.{_≡_}
 use mathlib.Core.Bool.{Bool, true, false, not, _&&_, _||_, xor, Bool·beq}
@@ -8,7 +8,8 @@ use mathlib.Core.List.{List, [], _∷_, _++_, map}
 use lib.ListN.{length, getD}
 use Rattle.rules.specs.Lists.{union, count}
 use Rattle.rules.specs.Tables.{table}
-use Rattle.rules.specs.Records.{Class, secret, mask, public, Cell, input, NOT, XOR, AND, OR, register, Netlist, odd}
+use Rattle.rules.specs.Records.{Class, secret, mask, public, Netlist, odd}
+use Rattle.rules.specs.Records.{Cell, input, NOT, XOR, AND, OR, register}
 
 -- An assignment gives each variable 0 or 1: here its entry v is the value of variable v.
 abbrev pub Assignment : Type 0
@@ -19,7 +20,8 @@ unfoldable pub exclusiveOr : (set : ℕ) → Assignment → Bool
 exclusiveOr s [] = false
 exclusiveOr s (x ∷ xs) = xor (odd s && x) (exclusiveOr (s / 2) xs)
 
--- The settled value of an input is the exclusive-or of its variables; of a register, its operand's value; of a gate, the usual function.
+-- The settled value of an input is the exclusive-or of its variables; of a register, its operand's value;
+-- of a gate, the usual function.
 unfoldable pub valueRule : Assignment → List Bool → Cell → Bool
 valueRule x done (input s) = exclusiveOr s x
 valueRule x done (NOT a) = not (getD done a false)
@@ -32,7 +34,8 @@ valueRule x done (register a) = getD done a false
 unfoldable pub values : Netlist → Assignment → List Bool
 values n x = table (valueRule x) [] (n .nodes)
 
--- The feeding points of an input or register are itself; of a gate, all those of its operands, each named once. (The glitch-extended probe.)
+-- The feeding points of an input or register are itself; of a gate, all those of its operands, each listed once.
+-- (The glitch-extended probe.)
 unfoldable pub feedingRule : List (List ℕ) → Cell → List ℕ
 feedingRule done (input s) = length done ∷ []
 feedingRule done (NOT a) = getD done a []
@@ -66,7 +69,8 @@ same public public = true
 unfoldable pub howMany : Class → List Class → ℕ
 howMany class variables = count (same class) variables
 
--- A setting of a class gives each variable of that class 0 or 1, in their order. With k of them there are 2 to the power k settings.
+-- A setting of a class gives each variable of that class 0 or 1, in their order. With k of them there
+-- are 2 to the power k settings.
 unfoldable pub settings : (k : ℕ) → List (List Bool)
 settings zero = [] ∷ []
 settings (suc k) = map (λ (s : List Bool). false ∷ s) (settings k) ++ map (λ (s : List Bool). true ∷ s) (settings k)
@@ -89,11 +93,12 @@ make (public ∷ variables) s m p = next p ∷ make variables s m (others p)
 
 -- ---- patterns
 
--- A pattern gives each of some points 0 or 1: here it is a function of the node number, and only its values at those points are looked at.
+-- A pattern gives each of some points 0 or 1: here it is a function of the node number, and only its values
+-- at those points are looked at.
 abbrev pub Pattern : Type 0
 Pattern = ℕ → Bool
 
--- every point has the settled value that the pattern names
+-- every point has the settled value that the pattern gives it
 unfoldable pub matches : List Bool → List ℕ → Pattern → Bool
 matches settled [] pattern = true
 matches settled (i ∷ points) pattern = Bool·beq (getD settled i false) (pattern i) && matches settled points pattern
@@ -101,10 +106,13 @@ matches settled (i ∷ points) pattern = Bool·beq (getD settled i false) (patte
 -- the number of mask settings that give the pattern on these points, beside fixed publics and secrets
 unfoldable pub giving : Netlist → (points : List ℕ) → Pattern → (publics secrets : List Bool) → ℕ
 giving n points pattern p s =
-    count (λ (m : List Bool). matches (values n (make (n .variables) s m p)) points pattern) (settings (howMany mask (n .variables)))
+    count (λ (m : List Bool). matches (values n (make (n .variables) s m p)) points pattern)
+    (settings (howMany mask (n .variables)))
 
--- The counts agree on a set of points: for every setting of the publics, any two settings of the secrets and every pattern on the points,
--- the number of mask settings that give the pattern is the same for both settings of the secrets.
+-- The counts agree on a set of points: for every setting of the publics, any two settings of the secrets
+-- and every pattern on the points, the number of mask settings that give the pattern is the same for
+-- both settings of the secrets.
 unfoldable pub CountsAgree : Netlist → (points : List ℕ) → Type 0
 CountsAgree n points =
-    (publics secrets secrets′ : List Bool) (pattern : Pattern) → giving n points pattern publics secrets ≡ giving n points pattern publics secrets′
+    (publics secrets secrets′ : List Bool) (pattern : Pattern)
+    → giving n points pattern publics secrets ≡ giving n points pattern publics secrets′

@@ -1,5 +1,6 @@
--- The rule of the order: each ten-bit number is in it once, and what stands at a lower place is earlier. antt computes one test over the whole
--- list, that each entry is a ten-bit number and later than the one before it; the laws turn the test into the rule at each place. Assumes nothing.
+-- The rule of the order: each ten-bit number is in it once, and what stands at a lower place is earlier.
+-- antt computes one test over the whole list, that each entry is a ten-bit number and later than the one before it;
+-- the laws turn the test into the rule at each place. Assumes nothing.
 use Prim.Native.Nat.{ℕ, zero, suc, _≤_, _<_}
 use mathlib.Core.Path.{_≡_, refl, sym, subst}
 use mathlib.Core.Logic.{⊎-elim}
@@ -61,7 +62,7 @@ all-low x [] l t = all-front (λ z. z < most-sets) x [] (ltb→lt x most-sets l)
 all-low x (y ∷ ys) l t =
     all-front (λ z. z < most-sets) x (y ∷ ys) (ltb→lt x most-sets l) (all-low y ys (next-low x y ys t) (others-follow x y ys t))
 
--- so it names each once
+-- so it holds each once
 follow-once : (x : ℕ) (ys : List ℕ) → T (follow x ys) → T (once (x ∷ ys))
 unfolding once
 follow-once x [] t = single-once x

@@ -1,11 +1,12 @@
--- The 1,024 sets in the order of their report, by number of variables and then by number. Cited by contracts; that it is the rules' order is proved
--- (`proofs/Order`). Assumes nothing.
+-- The 1,024 sets in the order of their report, by number of variables and then by number. Cited by contracts;
+-- that it is the rules' order is proved (`proofs/Order`). Assumes nothing.
 use Prim.Native.Nat.{ℕ, zero, suc, _+_, _^_}
 use mathlib.Core.List.{List, [], _∷_, _++_, map}
 use lib.ListN.{getD}
 use Rattle.rules.specs.Records.{most-variables}
 
--- the sets of k variables that hold n of them, from the lowest number on: those without the last variable, then those with it
+-- the sets of k variables that hold n of them, from the lowest number on: those without the last
+-- variable, then those with it
 unfoldable pub setsWith : (k n : ℕ) → List ℕ
 setsWith zero zero = 0 ∷ []
 setsWith zero (suc n) = []

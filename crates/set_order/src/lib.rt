@@ -1,16 +1,19 @@
-// The 1,024 sets in the order of their report: by number of variables, and then by number. A walk through it meets the set that is to be
-// reported before any other suspect one.
+// The 1,024 sets in the order of their report: by number of variables, and then by number.
+// A walk in that order meets the set that is to be reported before any other suspect one. A constant table;
+// it touches no lent slice. Used by `suspects`.
 ghost use mathlib.Core.Path.{_≡_};
 ghost use Rattle.set_order.specs.Order.{reportOrder};
 use families::SETS;
 
-// All sets in that order, by value: a caller keeps them in a local, because a constant that is indexed where it stands is laid out anew at each look.
+// All sets in that order, by value, so that a caller keeps them in a local: a constant that is indexed where it
+// stands is laid out anew each time.
 pub fn sets_in_order() -> [u16; SETS]
     ensures { λ r. ⌜ r ≡ reportOrder ⌝ }
 {
     ORDER
 }
 
+// The table; that it is in this order is proved with `sets_in_order`.
 const ORDER: [u16; SETS] = [
     0,
     1,

@@ -1,5 +1,6 @@
--- Maps of sets, as the bits of 128 bytes. Of a byte's eight sets, those that hold none of some variables, by the variables from 3 on and by those below;
--- and what a map and a part have in common, byte by byte. What is said of all small numbers is a test that antt computes at each. Assumes nothing.
+-- Maps of sets, as the bits of 128 bytes. Of a byte's eight sets, those that hold none of some variables,
+-- by the variables from 3 on and by those below; and what a map and a part have in common, byte by byte.
+-- What is said of all small numbers is a test that antt computes at each. Assumes nothing.
 use Prim.Native.Nat.{ℕ, zero, suc, _+_, _*_, _-_, _/_, _%_, _^_, _<_, _≤_}
 use mathlib.Core.Path.{_≡_, sym, _∙_}
 use mathlib.Core.Logic.{_⊎_, inl, inr, _↔_}
@@ -72,7 +73,8 @@ in-common j k variables h l =
 pub not-apart : (j k variables : ℕ) → j < 256 → k < 8 → 0 < bitAnd j (variables / 8 % 256) → eqb (bitAnd (8 * j + k) variables) 0 ≡ false
 not-apart j k variables h l some = ne-eqb (bitAnd (8 * j + k) variables) 0 (λ e. omega (arith, in-common j k variables h l))
 
--- none from 3 on: where bit k of byte v of a number says of the sets k and v below 8 whether they have none in common, it says so of this one
+-- none from 3 on: where bit k of byte v of a number says of the sets k and v below 8 whether they have none
+-- in common, it says so of this one
 abbrev saysApart : (number v k : ℕ) → Bool
 saysApart number v k = odd (number / 2 ^ (8 * v) % 256 / 2 ^ k)
 

@@ -1,4 +1,5 @@
--- Suspect sets by bit masks, and sets that two families have in common. Cited by the contracts of this crate and its callers'. Assumes nothing.
+-- Suspect sets by bit masks, and sets that two families have in common. Cited by the contracts of this crate
+-- and its callers'. Assumes nothing.
 use Prim.Native.Nat.{ℕ}
 use mathlib.Core.Bool.{Bool, not, _&&_}
 use lib.Bits.{bitAnd}

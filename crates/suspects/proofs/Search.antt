@@ -1,5 +1,6 @@
--- The scan of one layer of the work bytes from a node on: a node is passed or reports by the sets looked at so far, in the order of report, and the
--- first node that reports is what the scan finds; over the bytes of a netlist's families the nodes report what the rules say. Assumes nothing.
+-- The scan of one layer of the work bytes from a node on: a node is passed or reports by the sets looked at so far,
+-- in the order of report, and the first node that reports is what the scan finds; over the bytes of a netlist's
+-- families the nodes report what the rules say. Assumes nothing.
 use Prim.Native.Nat.{ℕ, zero, suc, _+_, _*_, _-_, _<_, _≤_}
 use mathlib.Core.Path.{_≡_, refl, sym, ap₂, _∙_}
 use mathlib.Core.Logic.{⊎-elim}
@@ -165,7 +166,8 @@ marks-same variables (c ∷ cells) (F ∷ Fs) (G ∷ Gs) d p q h =
     ap₂ {C = List (Option ℕ)} _∷_ (rw (reported-same variables F G (h 0 (omega arith) .same)))
     (marks-same variables cells Fs Gs d (omega arith) (omega arith) (λ i l. h (suc i) (omega arith)))
 
--- where a layer holds the sets of one of the two families of each node, the nodes report what they report over that family
+-- where a layer holds the sets of one of the two families of each node, the nodes report what
+-- they report over that family
 layer-reports : (n : Netlist) (layer : ℕ) (bytes : List ℕ) (pick : Families → Family)
     → ((i : ℕ) → i < length (n .nodes) → Alike (familyAt bytes (2 * i + layer)) (pick (familiesAt n i)))
     → reportsIn n layer bytes ≡ layerMarks pick n

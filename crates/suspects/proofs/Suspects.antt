@@ -1,5 +1,6 @@
--- Suspect sets by bit masks: a set holds a variable of a class if it meets the mask of the class, by induction on the variables; that mask by
--- one variable more; and what a family reports, by which of its sets are suspect, in the order of report. Assumes nothing.
+-- Suspect sets by bit masks: a set holds a variable of a class if it meets the mask of the class, by induction
+-- on the variables; that mask by one variable more; and what a family reports, by which of its sets are suspect,
+-- in the order of report. Assumes nothing.
 use Prim.Native.Nat.{ℕ, zero, suc, min, _+_, _*_, _/_, _%_, _^_, _<_, _≤_}
 use mathlib.Core.Path.{_≡_, refl, sym, ap, _∙_, subst}
 use mathlib.Core.Logic.{_↔_}
@@ -147,7 +148,8 @@ module _ (variables : List Class) where
             let not-passed : j < k → ⊥ = λ b. refuted (suspect variables B) (member B F) (rw e at (passed j b)) s m in
             subst (NotLater (setAt k)) e (set-not-later k j (omega arith) h)
 
--- where a family has no set in common with the map of the suspect sets, none of its sets is suspect, wherever it is in the order of report
+-- where a family has no set in common with the map of the suspect sets, none of its sets is suspect,
+-- wherever it is in the order of report
 pub none-suspect : (variables : List Class) (secrets masks : ℕ) (map F : Family) (met : Bool) → secrets ≡ variablesOf secret variables
     → masks ≡ variablesOf mask variables → ((A : ℕ) → A < most-sets → member A map ≡ suspectBy secrets masks A) → T met ↔ Common map F → met ≡ false
     → (k : ℕ) → k < most-sets → (suspect variables (setAt k) && member (setAt k) F) ≡ false

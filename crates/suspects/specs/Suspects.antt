@@ -23,7 +23,8 @@ reportOf A = cond (ltb A most-sets) (some A) none
 
 -- what the nodes report of one layer of the work bytes (settled 0, glitch 1)
 unfoldable pub reportsIn : Netlist → (layer : ℕ) → List ℕ → List (Option ℕ)
-reportsIn n layer bytes = marks (n .variables) (n .nodes) (tabulate (λ i. familyAt bytes (2 * i + layer)) (length (n .nodes)))
+reportsIn n layer bytes =
+    marks (n .variables) (n .nodes) (tabulate (λ i. familyAt bytes (2 * i + layer)) (length (n .nodes)))
 
 -- what a scan from a node on finds: the lowest one that reports a set, and that set
 unfoldable pub foundFrom : (from : ℕ) → List (Option ℕ) → Finding

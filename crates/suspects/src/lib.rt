@@ -1,5 +1,7 @@
-// The scan of the work bytes, from any node on, for the lowest suspect node and the set that it reports, and that of one part for its set. Both
-// walk through a part's sets in the order of their report, once a map of the suspect sets has told that it holds one.
+// The search for suspect sets in the work bytes: from any node on, the lowest suspect node with the set
+// that it reports; and of one part, its set. A map of the suspect sets says whether a part holds one,
+// and only then its sets are tried, in the order of their report. Reads the work bytes and writes to no lent slice.
+// Used by `marks`, `pair_search` and `edit_steps`.
 ghost use mathlib.Core.Path.{_≡_};
 ghost use mathlib.Core.Bool.{_&&_, cond};
 ghost use mathlib.Core.List.{List};
@@ -18,7 +20,7 @@ use netlists::Netlist;
 use rules::Half;
 use set_order::sets_in_order;
 
-// The bit of variable `v`, or 0 where the answer is no.
+// The bit of variable `v` in the number of a set where `yes`, and else 0.
 fn bit_if(yes: bool, v: usize) -> usize
     requires { ⌜ v < most-variables ⌝ }
     ensures { λ r. ⌜ r ≡ digit yes * 2 ^ v ⌝ }
@@ -26,7 +28,7 @@ fn bit_if(yes: bool, v: usize) -> usize
     if yes { 1usize << v } else { 0 }
 }
 
-// The variables of a class, as a set.
+// The declared variables of a class (0 secret, 1 mask, 2 public), as a set.
 pub fn variables_of(netlist: Netlist, class: u8) -> usize
     requires { ⌜ netlist .variables ≤ most-variables ⌝ }
     ensures { λ r. ⌜ ((n : Records.Netlist) (c : Class) → netlist ≡ flatOf n → class ≡ classByte c →
@@ -43,10 +45,11 @@ pub fn variables_of(netlist: Netlist, class: u8) -> usize
     set
 }
 
-// Whether a part of the work bytes holds a set that has a secret and no mask. Most sets have a mask, so that is looked at first.
+// Whether a set holds a secret and no mask and is in the part. Most sets hold a mask, so that is tested first.
 fn suspect_in(work: &[u8], part: usize, secrets: usize, masks: usize, set: usize) -> bool
     requires { ⌜ HasPart (now work) part × (set < most-sets) ⌝ }
-    ensures { λ r. ⌜ ((variables : List Class) → secrets ≡ variablesOf secret variables → masks ≡ variablesOf mask variables →
+    ensures { λ r. ⌜ ((variables : List Class) → secrets ≡ variablesOf secret variables →
+        masks ≡ variablesOf mask variables →
         r ≡ (suspect variables set && member set (familyAt (now (work .entry)) part))) ⌝ }
 {
     if set & masks != 0 {
@@ -58,10 +61,12 @@ fn suspect_in(work: &[u8], part: usize, secrets: usize, masks: usize, set: usize
     families::holds(work, part, set)
 }
 
-// The set that a part reports, or `SETS` if it has no suspect one.
+// The suspect set that a part reports: the one with fewest variables, and of those with as many the lowest-numbered;
+// or `SETS` if it holds none. Secrets and masks are given as sets.
 pub fn first_suspect(work: &[u8], part: usize, secrets: usize, masks: usize) -> usize
     requires { ⌜ HasPart (now work) part ⌝ }
-    ensures { λ r. ⌜ ((variables : List Class) → secrets ≡ variablesOf secret variables → masks ≡ variablesOf mask variables →
+    ensures { λ r. ⌜ ((variables : List Class) → secrets ≡ variablesOf secret variables →
+        masks ≡ variablesOf mask variables →
         reportOf r ≡ reported variables (familyAt (now (work .entry)) part)) ⌝ }
 {
     let map = suspect_maps::suspect_map(secrets, masks);
@@ -87,18 +92,19 @@ pub fn is_tested(kind: u8) -> bool
     kind != 2
 }
 
-// The place in the order from which a node is scanned, by its kind and by whether it holds a suspect set: of one that is not tested or holds none, no
-// place is left.
+// The place in the order of report from which the sets of a node are tried, by its kind and by whether its family holds
+// a suspect set (`met`): 0, or `SETS`, so that none is tried, where the node is not tested or holds none.
 fn first_place(kind: u8, met: bool) -> usize
     ensures { λ r. ⌜ ((cell : Cell) → kind ≡ kindOf cell → r ≡ cond (tested cell && met) 0 most-sets) ⌝ }
 {
     if is_tested(kind) & met { 0 } else { SETS }
 }
 
-// From a node on, the lowest suspect node of a layer (settled 0, glitch 1) and the set that it reports.
+// The lowest suspect node from node `from` on in a layer (settled 0, glitch 1) and the set that it reports, or clear.
 pub fn scan(netlist: Netlist, layer: usize, from: usize, work: &[u8]) -> Half
     requires { ⌜ Sized netlist (length (now work)) × (layer < 2) × (from ≤ netlist .count) ⌝ }
-    ensures { λ r. ⌜ ((n : Records.Netlist) → netlist ≡ flatOf n → findingOf r ≡ foundFrom from (reportsIn n layer (now (work .entry)))) ⌝ }
+    ensures { λ r. ⌜ ((n : Records.Netlist) → netlist ≡ flatOf n →
+        findingOf r ≡ foundFrom from (reportsIn n layer (now (work .entry)))) ⌝ }
     ensures within { λ r. ⌜ Within from (netlist .count) r ⌝ }
 {
     let secrets = variables_of(netlist, 0);

@@ -17,7 +17,6 @@ use files::ReadBlock;
 use netlists::Netlist;
 use read_words::MOST_BLOCK;
 use read_words::is_word;
-use rules::MOST_WORK;
 use rules::QueryOutcome;
 
 // The commands.
@@ -125,11 +124,7 @@ fn obey(
         Command::Value => ask::value(bytes, numbers[0], numbers[1]),
         Command::Feeding => ask::feeding(bytes, numbers[0]),
         Command::Member => ask::member(bytes, numbers[0], numbers[1]),
-        Command::Edit => {
-            let mut work = [0u8; MOST_WORK];
-            let opened = held_blocks::open_held(bytes, &mut work);
-            editing::edit(opened, &mut work);
-        }
+        Command::Edit => editing::edit(bytes),
         Command::Picture => picture::picture(bytes, netlist),
         Command::Help => {}
         Command::None => {}

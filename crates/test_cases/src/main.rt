@@ -302,7 +302,8 @@ fn put_block(bytes: &mut [u8; MOST_BLOCK], words: &[u8]) -> usize {
 
 // Checks a block over so many entries and this work slice: prints the reply, and gives all entries.
 fn reply_to(bytes: &[u8], entries: usize, work: &mut [u8]) -> [NodeRecord; MOST_NODES] {
-    let seen = test_trial::check_over(bytes, entries, test_trial::entry_before(), work);
+    let before = [test_trial::entry_before(); MOST_NODES];
+    let seen = test_trial::check_over(bytes, entries, before, work);
     let reply = seen.reply;
     let nodes = seen.nodes;
     print_byte(b':');
@@ -357,13 +358,8 @@ fn check_pairs(bytes: &[u8], limit: usize, entries: usize, room: usize)
     let mut most = [0u8; MOST_WORK];
     let work = &mut most[0..room];
     test_trial::fill(work);
-    let seen = test_trial::check_pairs_over(
-        bytes,
-        entries,
-        test_trial::entry_before(),
-        work,
-        limit,
-    );
+    let before = [test_trial::entry_before(); MOST_NODES];
+    let seen = test_trial::check_pairs_over(limit, bytes, entries, before, work);
     let reply = seen.reply;
     let nodes = seen.nodes;
     print_pairs(reply);

@@ -1,4 +1,5 @@
-// Opening and edits over node records by value, of which a part is lent to `edits::open` and `edits::edit`. For test programs and the benchmark.
+// A trial of `open` and of `edit` over node records by value, of which the first are lent, as `test_trial` has it for `check`. Touches
+// nothing but what it is given. For the test programs and the benchmark.
 ghost use mathlib.Core.Path.{_≡_};
 ghost use mathlib.Core.List.{_++_};
 ghost use Prim.Native.Nat.{min};

@@ -219,7 +219,8 @@ fn compare_check(
     let settled = test_second_checker::first_suspect(block, store, 0);
     let glitch = test_second_checker::first_suspect(block, store, 1);
     let records = test_second_checker::records_of(block, store);
-    let seen = test_trial::check_over(bytes, lent.entries, test_trial::entry_before(), work);
+    let before = [test_trial::entry_before(); 200];
+    let seen = test_trial::check_over(bytes, lent.entries, before, work);
     let reply = seen.reply;
     let nodes = seen.nodes;
     let answered = expected.number == 0;

@@ -187,8 +187,8 @@ fn compare_check(
     let expected = expected_check(block, lent);
     let settled = test_second_checker::first_suspect(block, store, 0);
     let records = test_second_checker::records_of(block, store);
-    let before = test_trial::entry_before();
-    let seen = test_trial::check_pairs_over(bytes, lent.entries, before, work, sought.limit);
+    let before = [test_trial::entry_before(); 200];
+    let seen = test_trial::check_pairs_over(sought.limit, bytes, lent.entries, before, work);
     let reply = seen.reply;
     let nodes = seen.nodes;
     let answered = expected.number == 0;

@@ -7,16 +7,13 @@ use native.Mathlib.Numerals.{add-one}
 use lib.ListN.{length, getD, take}
 use lib.Seq.{take-suc}
 use borrow.Author.Tests.{eq-eqb, ne-eqb}
-use Rattle.rules.specs.Records.{Record}
+use Rattle.rules.specs.declared.Node.{Node}
+use Rattle.rules.specs.Records.{Cell, Record, kindOf}
 use Rattle.rules.specs.Listing.{decimal, line}
-use Rattle.write_words.specs.Worded.{variablesBelow, recordLine, recordLines}
+use Rattle.rules.specs.Slices.{entry}
+use Rattle.write_words.specs.Worded.{variablesBelow, fields, recordLine, recordLines}
 
 -- ---- numbers
-
--- numbers, a blank before each
-unfoldable pub fields : List ℕ → List ℕ
-fields [] = []
-fields (x ∷ numbers) = 32 ∷ (decimal x ++ fields numbers)
 
 -- a line of a word and numbers
 pub line-fields : (name : List ℕ) (numbers : List ℕ) → (name ++ fields numbers) ++ (10 ∷ []) ≡ line (name ∷ map decimal numbers)
@@ -25,7 +22,7 @@ line-fields name [] = rw append-nil
 line-fields name (x ∷ numbers) = rw (← line-fields (decimal x) numbers) (append-assoc name _ _)
 
 -- one number more
-fields-more : (numbers : List ℕ) (x : ℕ) → fields numbers ++ (32 ∷ decimal x) ≡ fields (numbers ++ (x ∷ []))
+pub fields-more : (numbers : List ℕ) (x : ℕ) → fields numbers ++ (32 ∷ decimal x) ≡ fields (numbers ++ (x ∷ []))
 unfolding fields
 fields-more [] x = rw append-nil
 fields-more (y ∷ numbers) x = rw (append-assoc, fields-more numbers x)
@@ -39,6 +36,12 @@ module _ (s i : ℕ) where
   pub held-same : (s / 2 ^ i % 2 ≡ 1 → ⊥) → fields (variablesBelow i s) ≡ fields (variablesBelow (i + 1) s)
   unfolding variablesBelow
   held-same e = rw (add-one, variablesBelow, ne-eqb (s / 2 ^ i % 2) 1 e, append-nil)
+
+-- ---- a node
+
+pub kind-of : {n : Node} (cell : Cell) → n ≡ entry cell → n .kind ≡ kindOf cell
+unfolding entry
+kind-of cell e = rw e
 
 -- ---- lines
 

@@ -37,9 +37,18 @@ recordLines (r ∷ records) = recordLine r ++ recordLines records
 unfoldable pub wordedOut : Netlist → List ℕ
 wordedOut n = recordLines (map variable (n .variables)) ++ recordLines (map node (n .nodes)) ++ recordLine end
 
--- the most bytes of a variable's line, `secret` or `public`; of a node's, `in 0 1 2 3 4 5 6 7 8 9`; and of a netlist in words
+-- numbers, a blank before each: what stands behind a record's word in its line (`line-fields` of `proofs/Worded`)
+unfoldable pub fields : List ℕ → List ℕ
+fields [] = []
+fields (x ∷ numbers) = 32 ∷ (decimal x ++ fields numbers)
+
+-- the most bytes of a variable's line, `secret` or `public`; of a node's numbers and of its line, `in 0 1 2 3 4 5 6 7 8 9`;
+-- and of a netlist in words
 abbrev pub most-variable-line : ℕ
 most-variable-line = 7
+
+abbrev pub most-numbers : ℕ
+most-numbers = 2 * most-variables
 
 abbrev pub most-node-line : ℕ
 most-node-line = 23

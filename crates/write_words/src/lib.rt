@@ -3,21 +3,24 @@
 // program uses it. Each function that is not public puts lines behind the first `at` bytes of a text, or at its front,
 // and answers where the next ones go; its caller shows that there is room.
 ghost use mathlib.Core.Path.{_≡_};
-ghost use mathlib.Core.List.{List, [], _∷_, _++_, map};
+ghost use mathlib.Core.Logic.{_⊎_};
+ghost use mathlib.Core.List.{List, _++_, map};
 ghost use Prim.Native.Nat.{ℕ, _+_, _*_, _≤_};
 ghost use lib.ListN.{length, drop};
 ghost use Rattle.rules.specs.Records as Records;
 ghost use Rattle.rules.specs.Records.{Class, Cell, WellFormed, classByte, most-variables, most-nodes};
-ghost use Rattle.rules.specs.Listing.{word, decimal, line};
 ghost use Rattle.rules.specs.Slices.{entry};
 ghost use Rattle.listing_lines.specs.Text.{Room, Appended};
 ghost use Rattle.netlists.specs.Netlists.{flatOf};
 ghost use Rattle.edit_rules.specs.Meaning.{IsOpen};
-ghost use Rattle.write_words.specs.Worded.{variablesBelow, recordLine, recordLines, wordedOut};
-ghost use Rattle.write_words.specs.Worded.{most-variable-line, most-node-line, most-words};
+ghost use Rattle.write_words.specs.Worded.{variablesBelow, numbersOf, fields, recordLine, recordLines, wordedOut};
+ghost use Rattle.write_words.specs.Worded.{most-variable-line, most-numbers, most-node-line, most-words};
 use edit_rules::State;
+use listing_lines::name_of;
+use listing_lines::operands_of;
 use listing_lines::put_byte;
 use listing_lines::put_field;
+use listing_lines::put_name;
 use listing_lines::put_word;
 use netlists::Netlist;
 use rules::MOST_NODES;
@@ -31,27 +34,28 @@ pub const MOST_WORDS: usize = 7 * MOST_VARIABLES + 23 * MOST_NODES + 4;
 
 // ---- one line
 
-// A variable, by its class byte.
+// A variable, by its class byte; forms 1 to 3 of a record are those of the classes 0 to 2.
 fn put_class(text: &mut [u8], at: usize, class: u8) -> usize
     requires { ⌜ Room (now text) at most-variable-line ⌝ }
     ensures { λ r. ⌜ ((c : Class) → class ≡ classByte c →
         Appended (now (text .entry)) (now (text .exit)) at r (recordLine (Records.variable c))) ⌝ }
     ensures few { λ r. ⌜ r ≤ at + most-variable-line ⌝ }
 {
-    match class {
-        0 => put_word(text, at, b"secret\n"),
-        1 => put_word(text, at, b"mask\n"),
-        _ => put_word(text, at, b"public\n"),
+    let mut form = 3;
+    if class < 2 {
+        form = class + 1;
     }
+    let end = put_name(text, at, read_words::word_of(form));
+    put_byte(text, end, b'\n')
 }
 
-// An input: the variables of its set, ascending.
-fn put_input(text: &mut [u8], at: usize, set: u16) -> usize
-    requires { ⌜ Room (now text) at most-node-line ⌝ }
-    ensures { λ r. ⌜ Appended (now (text .entry)) (now (text .exit)) at r (line (word "in" ∷ map decimal (variablesBelow most-variables set))) ⌝ }
-    ensures few { λ r. ⌜ r ≤ at + most-node-line ⌝ }
+// The variables of a set, ascending, with a blank before each.
+fn put_set(text: &mut [u8], at: usize, set: u16) -> usize
+    requires { ⌜ Room (now text) at most-numbers ⌝ }
+    ensures { λ r. ⌜ Appended (now (text .entry)) (now (text .exit)) at r (fields (variablesBelow most-variables set)) ⌝ }
+    ensures few { λ r. ⌜ r ≤ at + most-numbers ⌝ }
 {
-    let mut end = put_word(text, at, b"in");
+    let mut end = at;
     let mut variable = 0;
     while variable < MOST_VARIABLES {
         if (set >> variable) % 2 == 1 {
@@ -59,50 +63,36 @@ fn put_input(text: &mut [u8], at: usize, set: u16) -> usize
         }
         variable += 1;
     }
-    put_byte(text, end, b'\n')
+    end
 }
 
-// A node of one operand, and one of two.
-fn put_one(text: &mut [u8], at: usize, name: &[u8], operand: u8) -> usize
-    requires { ⌜ Room (now text) at (length (now name) + 5) ⌝ }
-    ensures { λ r. ⌜ Appended (now (text .entry)) (now (text .exit)) at r (line (now (name .entry) ∷ decimal operand ∷ [])) ⌝ }
-    ensures few { λ r. ⌜ r ≤ at + (length (now (name .entry)) + 5) ⌝ }
+// What stands behind a node's name, with a blank before each number: the variables of an input's set, or the operands.
+fn put_numbers(text: &mut [u8], at: usize, node: Node) -> usize
+    requires { ⌜ Room (now text) at most-numbers ⌝ }
+    ensures { λ r. ⌜ ((cell : Cell) → node ≡ entry cell →
+        Appended (now (text .entry)) (now (text .exit)) at r (fields (numbersOf cell))) ⌝ }
+    ensures few { λ r. ⌜ (r ≤ at + most-numbers) × ((node .kind ≡ 2) ⊎ (r ≤ at + 8)) ⌝ }
 {
-    let first = put_word(text, at, name);
-    let end = put_field(text, first, operand as usize);
-    put_byte(text, end, b'\n')
+    if node.kind == 2 {
+        return put_set(text, at, node.set);
+    }
+    let end = put_field(text, at, node.first as usize);
+    if operands_of(node.kind) == 1 {
+        return end;
+    }
+    put_field(text, end, node.second as usize)
 }
 
-fn put_two(text: &mut [u8], at: usize, name: &[u8], operand: u8, other: u8) -> usize
-    requires { ⌜ Room (now text) at (length (now name) + 9) ⌝ }
-    ensures { λ r. ⌜ Appended (now (text .entry)) (now (text .exit)) at r
-        (line (now (name .entry) ∷ decimal operand ∷ decimal other ∷ [])) ⌝ }
-    ensures few { λ r. ⌜ r ≤ at + (length (now (name .entry)) + 9) ⌝ }
-{
-    let first = put_word(text, at, name);
-    let second = put_field(text, first, operand as usize);
-    let end = put_field(text, second, other as usize);
-    put_byte(text, end, b'\n')
-}
-
-// A node.
+// A node: the name of its kind, and its numbers.
 fn put_node(text: &mut [u8], at: usize, node: Node) -> usize
     requires { ⌜ Room (now text) at most-node-line ⌝ }
     ensures { λ r. ⌜ ((cell : Cell) → node ≡ entry cell →
         Appended (now (text .entry)) (now (text .exit)) at r (recordLine (Records.node cell))) ⌝ }
     ensures few { λ r. ⌜ r ≤ at + most-node-line ⌝ }
 {
-    let kind = node.kind;
-    let first = node.first;
-    let second = node.second;
-    match kind {
-        2 => put_input(text, at, node.set),
-        3 => put_one(text, at, b"not", first),
-        4 => put_two(text, at, b"xor", first, second),
-        5 => put_two(text, at, b"and", first, second),
-        6 => put_two(text, at, b"or", first, second),
-        _ => put_one(text, at, b"reg", first),
-    }
+    let name = put_name(text, at, name_of(node.kind));
+    let end = put_numbers(text, name, node);
+    put_byte(text, end, b'\n')
 }
 
 // ---- all lines

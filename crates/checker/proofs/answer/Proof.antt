@@ -1,5 +1,5 @@
--- `checker::answer` meets its contract: the work slice holds the families of all nodes, the marks found over them are the netlist's, and from these the
--- answer is read. Assumes nothing.
+-- `checker::answer` meets its contract: the work slice holds the families of all nodes, the marks found over them are
+-- the netlist's, and from these the answer is read. Assumes nothing.
 use mathlib.Core.Path.{_∙_}
 use borrow.Author.Needs.{needs}
 use Rattle.netlists.proofs.Netlists.{few-variables, few-nodes, well-formed}

@@ -1,5 +1,5 @@
--- `checker::examine` meets its contract: what is examined is what the rules admit, whether reading refuses, the slices are too short, or
--- neither. Assumes nothing.
+-- `checker::examine` meets its contract: what is examined is what the rules admit, whether reading refuses,
+-- the slices are too short, or neither. Assumes nothing.
 use borrow.Author.Needs.{needs}
 use Rattle.netlists.proofs.Netlists.{read-stands, read-refused, read-formed}
 use Rattle.checker.proofs.Core.{of-read, of-refused, promises}

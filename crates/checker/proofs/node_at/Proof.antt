@@ -1,5 +1,5 @@
--- `checker::node_at` meets its contract: a walk of its MIR, by hand. The slice is looked into, record i is taken out of the row, copied, and put back.
--- The code has no check of the bound: it is the contract's to ask.
+-- `checker::node_at` meets its contract: a walk of its MIR, by hand. The slice is looked into, record i is taken out of
+-- the row, copied, and put back. The code has no check of the bound: it is the contract's to ask.
 -- Assumes nothing.
 use mathlib.Core.Path.{refl, sym}
 use Prim.Native.Nat.{ℕ, _*_, _<_, _^_}
@@ -87,7 +87,8 @@ module _ {M : Type 1} (𝓤 : URA M) (H : Heap 𝓤) (A : Atoms 𝓤) (W : Given
         move ! (13 ∷ []) $ fsplit ! $ fsplit ! $ move ! (1 ∷ []) $ fsplit ! $ move ! (16 ∷ []) $ split ! $ move ! (3 ∷ 0 ∷ []) $
         looks-slice ! tt T.the-row (Is T.the-row) (shows 𝓤 H A T.the-row) vals (LL.tells T.the-type T′.the-laws) (LL.copy T.the-type T′.the-copy 𝓤 H A W) ys b o (λ q′.
         elem-out ! T.the-row (Is T.the-row) (shows 𝓤 H A T.the-row) vals (LL.tells T.the-type T′.the-laws) q′ ys i unwritten b o within (λ is.
-        -- [nodes[i]; what it owns; the others; what shuts; the fractured borrow; true; res; nodes' fact; i's; _5; …; _4; …; _3; …; _2; …; _1; …; _0; …]
+        -- [nodes[i]; what it owns; the others; what shuts; the fractured borrow; true; res; nodes' fact; i's; _5;
+        -- …; _4; …; _3; …; _2; …; _1; …; _0; …]
         assigns ! (of-opd ! (load ! (from ! (hop ! (look ! 11 refl) (stop !))) (look-raw ! 0 refl))) (from ! (stop !)) (init ! 9 refl (LL.lawful T.the-type T′.the-laws 𝓤 H A W .typed elem _ is .0)) $
         assigns ! (of-opd ! (load ! (from ! (stop !)) (look ! 9 refl))) (from ! (stop !)) (init ! 19 refl (LL.lawful T.the-type T′.the-laws 𝓤 H A W .typed elem _ is .0)) $
         elem-back ! T.the-row q′ ys i unwritten (vals elem) b o within $ shuts-slice ! tt T.the-row q′ ys b o $

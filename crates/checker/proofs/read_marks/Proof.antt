@@ -1,4 +1,5 @@
--- `checker::read_marks` meets its contract: the lowest marked node of either layer is that half of the answer. Assumes nothing.
+-- `checker::read_marks` meets its contract: the lowest marked node of either layer is that half of the answer.
+-- Assumes nothing.
 use borrow.Author.Needs.{needs}
 use Rattle.checker.proofs.Core.{looks}
 use Rattle.checker.proofs.read_marks.Statement.{statement}

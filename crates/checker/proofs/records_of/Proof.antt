@@ -1,4 +1,5 @@
--- `checker::records_of` meets its contract. The loop's invariant: the entries have so many of the records at their front. The measure is what is left of them. Assumes nothing.
+-- `checker::records_of` meets its contract. The loop's invariant: the entries have so many of the records at their
+-- front. The measure is what is left of them. Assumes nothing.
 use Prim.Native.Nat.{_-_, _≤_}
 use mathlib.Core.Path.{_≡_, sym}
 use native.Mathlib.Omega.{arith}

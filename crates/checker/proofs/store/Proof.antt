@@ -1,6 +1,7 @@
--- `checker::store` meets its contract: a walk of its MIR, by hand. The borrow of the slice is opened once, before the loop, and closed once, after it; after i turns the slice holds
--- `stored` of i records, which is the loop's invariant. The records by value are laid out as a row before the loop too (`Laid.antt`). All that is known of `count_of` and of `records_of` is that each meets its contract.
--- Assumes nothing.
+-- `checker::store` meets its contract: a walk of its MIR, by hand. The borrow of the slice is opened once, before the
+-- loop, and closed once, after it; after i turns the slice holds `stored` of i records, which is the loop's invariant.
+-- The records by value are laid out as a row before the loop too (`Laid.antt`). All that is known of `count_of` and of
+-- `records_of` is that each meets its contract. Assumes nothing.
 use mathlib.Core.Path.{_≡_, refl, sym, _∙_, ap, subst}
 use Prim.Native.Nat.{ℕ, _+_, _*_, _-_, _<_, _≤_, _^_, zero-le}
 use native.Mathlib.Nat.{le-antisymm, lt-of-lt-of-le}
@@ -228,7 +229,8 @@ module _ {M : Type 1} (𝓤 : URA M) (H : Heap 𝓤) (A : Atoms 𝓤) (W : Given
           assigns ! (of-opd ! (unit-lit !)) (from ! (stop !)) (init ! 30 refl (tt, tt)) $
           rewrite ! 0 (λ (k : ℕ). ‵ (row T.the-row fullShare (after k) b o)) (le-antisymm (i .1) (ltb-false (i .0) n fails)) refl $
           move ! (1 ∷ []) $ takes-up ! records l₄ records-length (λ _. move ! (1 ∷ 2 ∷ 3 ∷ 4 ∷ []) $ closes-slice ! tt T.the-row ys (after n) (same-length n) b o $
-          -- [obs; the borrow; the token; _4; _13; …; _12; …; _11; …; _10; …; _9; …; _8; …; _7; …; _6; …; _5; …; …; _3; …; _2; …; _1; …; _0; …]
+          -- [obs; the borrow; the token; _4; _13; …; _12; …; _11; …; _10; …; _9; …; _8; …; _7; …; _6; …; _5;
+          -- …; …; _3; …; _2; …; _1; …; _0; …]
           returns ! (look ! 29 refl) $ forget ! 3 refl $ forget ! 16 refl $ forget ! 18 refl $ forget ! 20 refl $ forget ! 23 refl $ forget ! 25 refl $ forget ! 27 refl $ forget ! 29 refl $
           move ! (29 ∷ 30 ∷ []) $ free1 ! $ move ! (27 ∷ 28 ∷ []) $ free1 ! $ move ! (25 ∷ 26 ∷ []) $ free1 ! $ move ! (23 ∷ 24 ∷ []) $ free1 ! $ move ! (3 ∷ 22 ∷ []) $ free1 ! $
           move ! (19 ∷ 20 ∷ []) $ free1 ! $ move ! (17 ∷ 18 ∷ []) $ free1 ! $ move ! (15 ∷ 16 ∷ []) $ free1 ! $ move ! (13 ∷ 14 ∷ []) $ free1 ! $ move ! (11 ∷ 12 ∷ []) $ free1 ! $

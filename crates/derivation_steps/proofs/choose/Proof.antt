@@ -1,4 +1,5 @@
--- `choose` meets its contract: the way is one test of the record's kind, by cases on the node that the record is of. Assumes nothing.
+-- `choose` meets its contract: the way is one test of the record's kind, by cases on the node that the record is of.
+-- Assumes nothing.
 use Prim.Native.Nat.{ℕ, _<_}
 use mathlib.Core.Path.{_≡_, refl, ap, _∙_}
 use mathlib.Core.Bool.{cond}

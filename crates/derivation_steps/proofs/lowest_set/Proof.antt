@@ -1,4 +1,5 @@
--- `lowest_set` meets its contract: the walk over the sets stops at the first that works, so no lower one does. Assumes nothing.
+-- `lowest_set` meets its contract: the walk over the sets stops at the first that works, so no lower one does.
+-- Assumes nothing.
 use Prim.Native.Nat.{ℕ, _-_, _≤_, _<_}
 use mathlib.Core.Path.{_≡_, sym, _∙_}
 use mathlib.Core.Bool.{Bool, true, false, _&&_}

@@ -1,4 +1,5 @@
--- `way_of_not` meets its contract: in the settled layer the operand has the set; in the glitch layer it has it, or the set is empty. Assumes nothing.
+-- `way_of_not` meets its contract: in the settled layer the operand has the set; in the glitch layer it has it,
+-- or the set is empty. Assumes nothing.
 use borrow.Author.Needs.{needs}
 use Rattle.derivation_rules.specs.Derivations.{chosen}
 use Rattle.derivation_steps.specs.Meaning.{needsOf, Layered}

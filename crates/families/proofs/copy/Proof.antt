@@ -1,5 +1,5 @@
--- `families::copy` meets its contract: the part is emptied, and then all sets of a lower part are put into it, which emptying left as it was
--- (`with-other`). Assumes nothing.
+-- `families::copy` meets its contract: the part is emptied, and then all sets of a lower part are put into it,
+-- which emptying left as it was (`with-other`). Assumes nothing.
 use mathlib.Core.Path.{_∙_}
 use mathlib.Core.Bool.{or-false}
 use mathlib.Core.List.{[]}

@@ -1,4 +1,5 @@
--- `families::holds` meets its contract: the bit that it reads is that of the set in its part (`member-at`). Assumes nothing.
+-- `families::holds` meets its contract: the bit that it reads is that of the set in its part (`member-at`).
+-- Assumes nothing.
 use mathlib.Core.Path.{sym}
 use borrow.Author.Needs.{needs}
 use denote.Ref.{now}

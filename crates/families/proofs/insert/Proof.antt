@@ -1,5 +1,5 @@
--- `families::insert` meets its contract: one byte of the part is written, and has one more bit, that of the set; every other byte of the part
--- has the bits that it had, and no other set is in that byte at that bit. Assumes nothing.
+-- `families::insert` meets its contract: one byte of the part is written, and has one more bit, that of the set;
+-- every other byte of the part has the bits that it had, and no other set is in that byte at that bit. Assumes nothing.
 use Prim.Native.Nat.{ℕ, _+_, _*_, _/_, _%_, _^_, _<_}
 use mathlib.Core.Path.{_≡_, refl, ap₂, _∙_}
 use mathlib.Core.Logic.{⊎-elim}

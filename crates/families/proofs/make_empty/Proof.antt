@@ -1,5 +1,5 @@
--- `families::make_empty` meets its contract. The loop's invariant: the part's bytes so far are those of the empty family, and all else is as it
--- was (`Filled`). The measure is what is left of the 128 bytes. Assumes nothing.
+-- `families::make_empty` meets its contract. The loop's invariant: the part's bytes so far are those of the empty
+-- family, and all else is as it was (`Filled`). The measure is what is left of the 128 bytes. Assumes nothing.
 use Prim.Native.Nat.{ℕ, _-_, _^_}
 use mathlib.Core.Path.{ap}
 use mathlib.Core.List.{[]}

@@ -1,4 +1,5 @@
--- `families::single` meets its contract: the part is emptied, and then one set is put into it (`with-one`). Assumes nothing.
+-- `families::single` meets its contract: the part is emptied, and then one set is put into it (`with-one`).
+-- Assumes nothing.
 use mathlib.Core.Path.{_∙_}
 use mathlib.Core.List.{[]}
 use borrow.Author.Needs.{needs}

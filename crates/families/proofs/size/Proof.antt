@@ -1,5 +1,5 @@
--- `families::size` meets its contract. The loop's invariant: `sets` counts those of the sets of the bytes passed that the part holds. The measure is
--- what is left of the 128 bytes. Assumes nothing.
+-- `families::size` meets its contract. The loop's invariant: `sets` counts those of the sets of the bytes passed that
+-- the part holds. The measure is what is left of the 128 bytes. Assumes nothing.
 use Prim.Native.Nat.{_+_, _*_, _-_, _≤_}
 use mathlib.Core.Path.{_≡_, refl}
 use native.Mathlib.Omega.{arith}

@@ -1,5 +1,6 @@
--- `families::unite` meets its contract. The loop's invariant: the part's first j bytes are those of the union, and all else is as it was
--- (`Filled`), so that each byte read is one at entry. The measure is what is left of the 128 bytes. Assumes nothing.
+-- `families::unite` meets its contract. The loop's invariant: the part's first j bytes are those of the union,
+-- and all else is as it was (`Filled`), so that each byte read is one at entry. The measure is what is left
+-- of the 128 bytes. Assumes nothing.
 use Prim.Native.Nat.{_+_, _*_, _-_}
 use mathlib.Core.Logic.{inl, inr}
 use native.Mathlib.Omega.{arith}

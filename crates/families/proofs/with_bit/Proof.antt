@@ -1,5 +1,5 @@
--- `families::with_bit` meets its contract: of a byte joined with 2 to the power k, bit k is set, and every other bit is as it was (`bit-or`,
--- `bit-power`). Assumes nothing.
+-- `families::with_bit` meets its contract: of a byte joined with 2 to the power k, bit k is set, and every other bit is
+-- as it was (`bit-or`, `bit-power`). Assumes nothing.
 use Prim.Native.Nat.{ℕ, _*_, _/_, _%_, _^_, _<_}
 use mathlib.Core.Path.{_≡_, ap, _∙_}
 use mathlib.Core.Bool.{Bool, _||_, or-comm}

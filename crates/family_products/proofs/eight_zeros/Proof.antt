@@ -1,5 +1,5 @@
--- `family_products::eight_zeros` meets its contract. The loop's invariant: the bytes passed, joined, are 0 just if each of them is. The measure is what is left of
--- the eight. Assumes nothing.
+-- `family_products::eight_zeros` meets its contract. The loop's invariant: the bytes passed, joined, are 0 just if each
+-- of them is. The measure is what is left of the eight. Assumes nothing.
 use Prim.Native.Nat.{ℕ, _+_, _-_, _<_, _≤_}
 use mathlib.Core.Path.{_≡_, refl}
 use mathlib.Core.Logic.{_↔_}

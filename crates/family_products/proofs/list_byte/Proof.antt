@@ -1,5 +1,5 @@
--- `family_products::list_byte` meets its contract. The loop's invariant: those of the sets up to the bits passed are listed. The measure is what is left of the
--- 8 bits. Assumes nothing.
+-- `family_products::list_byte` meets its contract. The loop's invariant: those of the sets up to the bits passed are
+-- listed. The measure is what is left of the 8 bits. Assumes nothing.
 use Prim.Native.Nat.{ℕ, _+_, _-_, _≤_}
 use mathlib.Core.Path.{_≡_, refl, sym, _∙_}
 use mathlib.Core.Logic.{⊎-elim}

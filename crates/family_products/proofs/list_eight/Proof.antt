@@ -1,5 +1,6 @@
--- `family_products::list_eight` meets its contract. The loop's invariant: the sets of the bytes passed that the part holds are listed. A byte that is 0 has none
--- (`listed-zero`). The measure is what is left of the eight bytes. Assumes nothing.
+-- `family_products::list_eight` meets its contract. The loop's invariant: the sets of the bytes passed that the
+-- part holds are listed. A byte that is 0 has none (`listed-zero`). The measure is what is left of the eight bytes.
+-- Assumes nothing.
 use Prim.Native.Nat.{ℕ, _+_, _*_, _-_, _≤_}
 use mathlib.Core.Path.{_≡_, refl, _∙_}
 use mathlib.Core.Logic.{⊎-elim}

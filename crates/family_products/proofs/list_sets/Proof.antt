@@ -1,5 +1,6 @@
--- `family_products::list_sets` meets its contract. The loop's invariant: the sets of the bytes passed that the part holds are listed. Eight bytes that are 0 have none
--- (`listed-zeros`). The measure is what is left of the sixteen times eight. Assumes nothing.
+-- `family_products::list_sets` meets its contract. The loop's invariant: the sets of the bytes passed that the
+-- part holds are listed. Eight bytes that are 0 have none (`listed-zeros`). The measure is what is left of the
+-- sixteen times eight. Assumes nothing.
 use Prim.Native.Nat.{_+_, _*_, _-_, _≤_}
 use mathlib.Core.Path.{_≡_, refl, _∙_}
 use mathlib.Core.Logic.{⊎-elim}

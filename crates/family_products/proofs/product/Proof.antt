@@ -1,6 +1,6 @@
--- `family_products::product` meets its contract. The loop's invariant: the part has the product of the sets passed with the second family, all else is as it was
--- after emptying, and the pairs counted are those of the rows passed. The lists of both families are theirs (`front-listed`). The measure is what is left
--- of the rows. Assumes nothing.
+-- `family_products::product` meets its contract. The loop's invariant: the part has the product of the sets passed
+-- with the second family, all else is as it was after emptying, and the pairs counted are those of the rows passed.
+-- The lists of both families are theirs (`front-listed`). The measure is what is left of the rows. Assumes nothing.
 use Prim.Native.Nat.{ℕ, _+_, _*_, _-_, _<_, _≤_}
 use mathlib.Core.Path.{_≡_, refl, sym, ap, ap₂, _∙_}
 use mathlib.Core.List.{List, [], map}

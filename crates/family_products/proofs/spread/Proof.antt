@@ -1,5 +1,5 @@
--- `family_products::spread` meets its contract: the part has the product, and then the second family, the first and the empty set are put into it
--- (`with-other`, `with-one`). Assumes nothing.
+-- `family_products::spread` meets its contract: the part has the product, and then the second family, the first and the
+-- empty set are put into it (`with-other`, `with-one`). Assumes nothing.
 use mathlib.Core.Path.{_∙_}
 use native.Mathlib.Omega.{arith}
 use borrow.Author.Needs.{needs}

@@ -1,4 +1,5 @@
--- `family_products::try_pair` meets its contract: the symmetric difference of two sets is a set (`xor-lt`), and is put into the part. Assumes nothing.
+-- `family_products::try_pair` meets its contract: the symmetric difference of two sets is a set (`xor-lt`),
+-- and is put into the part. Assumes nothing.
 use Prim.Native.Nat.{_<_}
 use mathlib.Core.Path.{refl}
 use native.Mathlib.Omega.{arith}

@@ -1,5 +1,5 @@
--- `family_products::try_row` meets its contract. The loop's invariant: the differences with the sets passed are in the part, all else is as it was, and as many
--- pairs are counted. The measure is what is left of the row. Assumes nothing.
+-- `family_products::try_row` meets its contract. The loop's invariant: the differences with the sets passed are in the
+-- part, all else is as it was, and as many pairs are counted. The measure is what is left of the row. Assumes nothing.
 use Prim.Native.Nat.{ℕ, _+_, _-_, _<_, _≤_}
 use mathlib.Core.Path.{_≡_, refl, sym, ap, _∙_}
 use mathlib.Core.Bool.{Bool, _||_, or-comm, or-assoc, or-false}

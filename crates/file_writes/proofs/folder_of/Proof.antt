@@ -1,4 +1,5 @@
--- `file_writes::folder_of` meets its contract: `end` is at most `k`, which is at most the length, also where a `/` sets it anew. Assumes nothing.
+-- `file_writes::folder_of` meets its contract: `end` is at most `k`, which is at most the length, also where a
+-- `/` sets it anew. Assumes nothing.
 use Prim.Native.Nat.{_-_, _≤_}
 use native.Mathlib.Omega.{arith}
 use mathlib.Core.Path.{sym}

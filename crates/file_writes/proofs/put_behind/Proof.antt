@@ -1,4 +1,5 @@
--- `file_writes::put_behind` meets its contract: the path keeps its length, and `end`, which grows only below it, is at most that. Assumes nothing.
+-- `file_writes::put_behind` meets its contract: the path keeps its length, and `end`, which grows only below it,
+-- is at most that. Assumes nothing.
 use Prim.Native.Nat.{_-_, _≤_}
 use native.Mathlib.Omega.{arith}
 use mathlib.Core.Path.{_≡_, sym}

@@ -1,4 +1,5 @@
--- `input_bytes::read_behind` meets its contract: what one read put at the front of the part has room behind the bytes before the part. Assumes nothing.
+-- `input_bytes::read_behind` meets its contract: what one read put at the front of the part has room behind the
+-- bytes before the part. Assumes nothing.
 use Prim.Native.Nat.{ℕ, _-_, _≤_}
 use native.Mathlib.Nat.{le-refl}
 use native.Mathlib.Omega.{arith}

@@ -1,4 +1,5 @@
--- `input_bytes::read_input` meets its contract: `count` is at most the length, which stays, and each turn that goes on adds to it. Assumes nothing.
+-- `input_bytes::read_input` meets its contract: `count` is at most the length, which stays, and each turn that
+-- goes on adds to it. Assumes nothing.
 use Prim.Native.Nat.{_+_, _-_, _≤_}
 use native.Mathlib.Omega.{arith}
 use mathlib.Core.Path.{_≡_, sym, subst}

@@ -1,5 +1,5 @@
--- `listing::list_file` meets its contract: `telgouin_listing` writes the listing of the bytes that were read, which is that of the whole file
--- (`read-first`), and there is room for it. Assumes nothing.
+-- `listing::list_file` meets its contract: `telgouin_listing` writes the listing of the bytes that were read,
+-- which is that of the whole file (`read-first`), and there is room for it. Assumes nothing.
 use Prim.Native.Nat.{ℕ, _≤_}
 use mathlib.Core.Path.{_≡_, refl, sym, ap, _∙_}
 use mathlib.Core.Bool.{true}

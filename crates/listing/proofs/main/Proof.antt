@@ -1,5 +1,5 @@
--- `listing::main` is safe and ends: what it reads to is as long as the definitions have it, and no listing is longer than the slice that it is written
--- to. Assumes nothing.
+-- `listing::main` is safe and ends: what it reads to is as long as the definitions have it, and no listing is longer
+-- than the slice that it is written to. Assumes nothing.
 use mathlib.Core.Path.{sym}
 use native.Mathlib.Omega.{arith}
 use lib.Seq.{length-take-le}

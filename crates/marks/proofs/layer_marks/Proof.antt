@@ -1,5 +1,5 @@
--- `marks::layer_marks` meets its contract. The loop's invariant: the nodes below `from` are marked, and no other. The measure is what is left of
--- them. Assumes nothing.
+-- `marks::layer_marks` meets its contract. The loop's invariant: the nodes below `from` are marked, and no other.
+-- The measure is what is left of them. Assumes nothing.
 use Prim.Native.Nat.{_-_, _≤_}
 use mathlib.Core.Path.{_≡_, sym, ap, _∙_}
 use native.Mathlib.Omega.{arith}

@@ -1,5 +1,5 @@
--- `marks::lowest_marked` meets its contract. The loop's invariant: the nodes passed have no mark. The measure is what is left of them. Assumes
--- nothing.
+-- `marks::lowest_marked` meets its contract. The loop's invariant: the nodes passed have no mark.
+-- The measure is what is left of them. Assumes nothing.
 use Prim.Native.Nat.{ℕ, _-_, _≤_, _<_}
 use mathlib.Core.Path.{_≡_, sym, ap, _∙_}
 use mathlib.Core.Logic.{⊎-elim}

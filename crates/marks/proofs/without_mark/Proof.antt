@@ -1,5 +1,5 @@
--- `marks::without_mark` meets its contract. The loop's invariant: of the marks behind the one that is removed those up to `i` have moved down
--- by one, and all others stand. The measure is what is left of the marks. Assumes nothing.
+-- `marks::without_mark` meets its contract. The loop's invariant: of the marks behind the one that is removed those up
+-- to `i` have moved down by one, and all others stand. The measure is what is left of the marks. Assumes nothing.
 use Prim.Native.Nat.{_-_, _≤_}
 use mathlib.Core.Path.{_≡_}
 use native.Mathlib.Omega.{arith}

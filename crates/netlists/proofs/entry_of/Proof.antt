@@ -1,5 +1,5 @@
--- `netlists::entry_of` meets its contract: the fields returned are those of the entry of the node that the bytes say. By the tests on the kind, and by
--- cases on the kinds that are left. Assumes nothing.
+-- `netlists::entry_of` meets its contract: the fields returned are those of the entry of the node that the bytes say.
+-- By the tests on the kind, and by cases on the kinds that are left. Assumes nothing.
 use Prim.Native.Nat.{ℕ, zero, suc}
 use mathlib.Core.Path.{_≡_, refl}
 use borrow.Author.Needs.{needs}

@@ -1,5 +1,6 @@
--- `netlists::read` meets its contract. The loop's invariant: after as many records as were taken, at most `most-records`, the rules are still reading,
--- with this netlist at this offset (`Reached`). The measure is what is left of them. Assumes nothing.
+-- `netlists::read` meets its contract. The loop's invariant: after as many records as were taken,
+-- at most `most-records`, the rules are still reading, with this netlist at this offset (`Reached`).
+-- The measure is what is left of them. Assumes nothing.
 use Prim.Native.Nat.{_-_, _≤_, _<_}
 use mathlib.Core.Path.{_≡_, refl, sym, ap, _∙_}
 use native.Mathlib.Omega.{arith}

@@ -1,4 +1,5 @@
--- `netlists::size_of` meets its contract: by the tests on the kind, and by cases on the kinds that are left. Assumes nothing.
+-- `netlists::size_of` meets its contract: by the tests on the kind, and by cases on the kinds that are left.
+-- Assumes nothing.
 use Prim.Native.Nat.{ℕ, zero, suc, _<_, _≤_}
 use mathlib.Core.Path.{_≡_, refl}
 use native.Mathlib.Omega.{arith}

@@ -1,4 +1,5 @@
--- `netlists::with_node` meets its contract: the store behind the nodes is one node more of the flat netlist. Assumes nothing.
+-- `netlists::with_node` meets its contract: the store behind the nodes is one node more of the flat netlist.
+-- Assumes nothing.
 use mathlib.Core.Path.{refl}
 use borrow.Author.Needs.{needs}
 use Rattle.netlists.proofs.Netlists.{value-node}

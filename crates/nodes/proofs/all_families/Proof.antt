@@ -1,5 +1,5 @@
--- `nodes::all_families` meets its contract. The invariant: the first i nodes are done, of the netlist that is checked. The measure is the number
--- of nodes left. Assumes nothing.
+-- `nodes::all_families` meets its contract. The invariant: the first i nodes are done, of the netlist that is checked.
+-- The measure is the number of nodes left. Assumes nothing.
 use Prim.Native.Nat.{ℕ, _+_, _*_, _-_, _≤_, _<_}
 use mathlib.Core.Path.{_≡_, sym, ap, _∙_}
 use mathlib.Core.List.{List, _++_}

@@ -1,5 +1,6 @@
--- `nodes::glitch_family` meets its contract: each arm of the match has the kind that the rule's case is of (`Operands`), and the operands are
--- lower nodes, so their parts are lower. For NOT the part is written twice. Assumes nothing.
+-- `nodes::glitch_family` meets its contract: each arm of the match has the kind that the rule's case is of
+-- (`Operands`), and the operands are lower nodes, so their parts are lower. For NOT the part is written twice.
+-- Assumes nothing.
 use Prim.Native.Nat.{ℕ}
 use mathlib.Core.Path.{_≡_, _∙_}
 use mathlib.Core.Logic.{inl, inr}

@@ -1,5 +1,5 @@
--- `nodes::node_families` meets its contract: writing the settled family of node i leaves the families of the nodes below, from which its
--- glitch family is worked out. Assumes nothing.
+-- `nodes::node_families` meets its contract: writing the settled family of node i leaves the families of the nodes
+-- below, from which its glitch family is worked out. Assumes nothing.
 use Prim.Native.Nat.{ℕ, _+_, _*_}
 use mathlib.Core.Path.{_≡_, _∙_}
 use mathlib.Core.List.{List}

@@ -1,5 +1,5 @@
--- `nodes::settled_family` meets its contract: each arm of the match has the kind that the rule's case is of (`Operands`), and the operands are
--- lower nodes, so their parts are lower. Assumes nothing.
+-- `nodes::settled_family` meets its contract: each arm of the match has the kind that the rule's case is of
+-- (`Operands`), and the operands are lower nodes, so their parts are lower. Assumes nothing.
 use Prim.Native.Nat.{ℕ}
 use mathlib.Core.Path.{_≡_}
 use mathlib.Core.Logic.{_⊎_, inl, inr}

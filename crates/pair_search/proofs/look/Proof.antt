@@ -1,4 +1,5 @@
--- `pair_search::look` meets its contract: the search over one pair or none, by the limit and by what the pair reports. Assumes nothing.
+-- `pair_search::look` meets its contract: the search over one pair or none, by the limit and by what the pair reports.
+-- Assumes nothing.
 use Prim.Native.Nat.{ℕ}
 use mathlib.Core.Path.{_≡_, sym, ap, _∙_}
 use mathlib.Core.Bool.{Bool, not, cond, Bool·not-not}

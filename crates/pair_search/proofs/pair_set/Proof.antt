@@ -1,5 +1,5 @@
--- `pair_search::pair_set` meets its contract: the two glitch families stand in bytes of their own, and their product behind them.
--- Assumes nothing.
+-- `pair_search::pair_set` meets its contract: the two glitch families stand in bytes of their own, and their
+-- product behind them. Assumes nothing.
 use Prim.Native.Nat.{ℕ, _+_, _*_}
 use mathlib.Core.Path.{ap, _∙_}
 use mathlib.Core.List.{List}

@@ -1,5 +1,5 @@
--- `pair_search::search_row` meets its contract. The loop's invariant: the search over the pairs of node j with the nodes passed has found no
--- pair yet. The measure is what is left to pass. Assumes nothing.
+-- `pair_search::search_row` meets its contract. The loop's invariant: the search over the pairs of node j with the
+-- nodes passed has found no pair yet. The measure is what is left to pass. Assumes nothing.
 use Prim.Native.Nat.{ℕ, _+_, _-_, _<_, _≤_}
 use mathlib.Core.Path.{_≡_, sym, ap, _∙_}
 use mathlib.Core.Bool.{Bool, false}

@@ -1,5 +1,5 @@
--- `pair_search::take_family` meets its contract. The loop's invariant: the part's first k bytes are those of the family, and all else is as it
--- was (`Filled`). The measure is what is left of the 128 bytes. Assumes nothing.
+-- `pair_search::take_family` meets its contract. The loop's invariant: the part's first k bytes are those of the
+-- family, and all else is as it was (`Filled`). The measure is what is left of the 128 bytes. Assumes nothing.
 use Prim.Native.Nat.{_+_, _*_, _-_}
 use native.Mathlib.Omega.{arith}
 use denote.Ref.{now}

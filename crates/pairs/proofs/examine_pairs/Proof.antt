@@ -1,4 +1,5 @@
--- `pairs::examine_pairs` meets its contract. The loop's invariant: what was under way where it began still is. The measure is how many nodes are left. Assumes nothing.
+-- `pairs::examine_pairs` meets its contract. The loop's invariant: what was under way where it began still is.
+-- The measure is how many nodes are left. Assumes nothing.
 use Prim.Native.Nat.{ℕ, _-_}
 use mathlib.Core.Path.{sym, _∙_}
 use mathlib.Core.List.{List}

@@ -1,4 +1,5 @@
--- `pairs::reply_after` meets its contract: what the checker refuses is refused, and else the search stands beside its answer. Assumes nothing.
+-- `pairs::reply_after` meets its contract: what the checker refuses is refused, and else the search stands
+-- beside its answer. Assumes nothing.
 use borrow.Author.Needs.{needs}
 use Rattle.rules.specs.Checks.{andThen}
 use Rattle.pairs.proofs.Core.{of-refused, of-answered, searches}

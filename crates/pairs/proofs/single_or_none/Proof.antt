@@ -1,4 +1,5 @@
--- `pairs::single_or_none` meets its contract: where the reply is an answer, its half of glitching signals decides. Assumes nothing.
+-- `pairs::single_or_none` meets its contract: where the reply is an answer, its half of glitching signals decides.
+-- Assumes nothing.
 use Prim.Native.Nat.{ℕ}
 use mathlib.Core.Path.{_≡_}
 use native.Mathlib.Omega.{arith}

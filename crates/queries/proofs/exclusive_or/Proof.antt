@@ -1,5 +1,5 @@
--- `queries::exclusive_or` meets its contract. The invariant: what is summed so far, with the exclusive-or of the variables from v on, is the
--- whole. The measure is the number of variables left. Assumes nothing.
+-- `queries::exclusive_or` meets its contract. The invariant: what is summed so far, with the exclusive-or of the
+-- variables from v on, is the whole. The measure is the number of variables left. Assumes nothing.
 use Prim.Native.Nat.{ℕ, suc, _+_, _-_, _/_, _≤_, _<_}
 use mathlib.Core.Path.{_≡_, refl, sym, _∙_}
 use mathlib.Core.Bool.{Bool, true, false, not, _&&_, xor, Bool·beq}

@@ -1,5 +1,5 @@
--- `queries::feeding_marks` meets its contract. The invariant: the marks lead to the points that feed the node, with i nodes to go. The measure
--- is i. Assumes nothing.
+-- `queries::feeding_marks` meets its contract. The invariant: the marks lead to the points that feed the node,
+-- with i nodes to go. The measure is i. Assumes nothing.
 use Prim.Native.Nat.{ℕ, _+_, _≤_, _<_}
 use mathlib.Core.Path.{_≡_, ap, _∙_}
 use mathlib.Core.Bool.{Bool, false, true}

@@ -1,4 +1,5 @@
--- `queries::feeding_points` meets its contract: a refused query gives no mark, and of one that stands the feeding points are marked. Assumes nothing.
+-- `queries::feeding_points` meets its contract: a refused query gives no mark, and of one that stands the feeding
+-- points are marked. Assumes nothing.
 use mathlib.Core.Bool.{false}
 use borrow.Author.Needs.{needs}
 use lib.ListN.{replicate}

@@ -1,5 +1,5 @@
--- `queries::hand_on` meets its contract: the definition, by cases on the node, is the code's tests of the mark and of the record's kind.
--- Assumes nothing.
+-- `queries::hand_on` meets its contract: the definition, by cases on the node, is the code's tests of the mark and
+-- of the record's kind. Assumes nothing.
 use Prim.Native.Nat.{ℕ}
 use mathlib.Core.Path.{_≡_, refl, sym}
 use mathlib.Core.Bool.{Bool, true, false, not, cond}

@@ -1,5 +1,6 @@
--- `queries::in_families` meets its contract: the work bytes hold the families of all nodes, and a part of them holds just the sets of one of a
--- node's two families. They are `most-work`, which have room for every netlist. Assumes nothing.
+-- `queries::in_families` meets its contract: the work bytes hold the families of all nodes, and a part of them
+-- holds just the sets of one of a node's two families. They are `most-work`, which have room for every netlist.
+-- Assumes nothing.
 use Prim.Native.Nat.{ℕ, _+_, _*_, _≤_, _<_}
 use mathlib.Core.Path.{_≡_, refl, _∙_}
 use mathlib.Core.List.{List, _++_}

@@ -1,4 +1,5 @@
--- `queries::memberships` meets its contract: a refused query gives no for both, and of one that stands both are looked up. Assumes nothing.
+-- `queries::memberships` meets its contract: a refused query gives no for both, and of one that stands both
+-- are looked up. Assumes nothing.
 use borrow.Author.Needs.{needs}
 use Rattle.rules.specs.Queries.{membershipQuery}
 use Rattle.netlists.proofs.Netlists.{read-stands}

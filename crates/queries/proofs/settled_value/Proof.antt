@@ -1,5 +1,5 @@
--- `queries::settled_value` meets its contract: a refused query gives 0, and one that stands the node's value among those of all nodes.
--- Assumes nothing.
+-- `queries::settled_value` meets its contract: a refused query gives 0, and one that stands the node's value among
+-- those of all nodes. Assumes nothing.
 use Prim.Native.Nat.{ℕ}
 use mathlib.Core.Path.{_≡_}
 use mathlib.Core.Bool.{Bool, false}

@@ -10,10 +10,12 @@ use Rattle.read_words.proofs.record_of.Statement.{statement}
 use Rattle.read_words.proofs.record_of.Tie as tie
 
 -- what the line says is what its first word and the words behind it say
-says : (c : tie.After-record-with) → c .record-with .result ≡ lineOf (recordIn (words (now (c .before .before .before .before .before .before .args .line))))
+says : (c : tie.After-record-by) → c .record-by .result ≡ lineOf (recordIn (words (now (c .before .before .before .before .before .before .before .args .line))))
 says c =
-    let read = c .before .before .before in
-    (rw to-the-end at (c .record-with .ensures)) ∙ ap lineOf (sym (record-in _ _ _ (one-more (read .before .next-word .ensures) (read .if1 .left))))
+    let formed = c .before .before in
+    let read = formed .before .before in
+    (rw to-the-end at (c .record-by .ensures))
+    ∙ ap lineOf (sym (record-in _ _ _ (one-more (read .before .next-word .ensures) (read .if1 .left)) ∙ formed .form-of .ensures _))
 
 next-word-requires : tie.Need-next-word-requires
 next-word-requires c κs = search needs
@@ -22,26 +24,29 @@ returns : tie.Need-returns
 unfolding recordIn
 returns c = (ap recordIn (none-left (c .before .next-word .ensures) (c .if1 .taken)), refl)
 
-sub-record-with : tie.Need-sub-record-with
-sub-record-with c = search needs
+sub-form-of : tie.Need-sub-form-of
+sub-form-of c = search needs
 
-part-record-with-start : tie.Need-part-record-with-start
-part-record-with-start c = search needs
+part-form-of-start : tie.Need-part-form-of-start
+part-form-of-start c = search needs
 
-part-record-with-end : tie.Need-part-record-with-end
-part-record-with-end c = search needs
+part-form-of-end : tie.Need-part-form-of-end
+part-form-of-end c = search needs
 
-sub-record-with-2 : tie.Need-sub-record-with-2
-sub-record-with-2 c = search needs
+form-of-requires : tie.Need-form-of-requires
+form-of-requires c κs = search needs
 
-part-record-with-start-2 : tie.Need-part-record-with-start-2
-part-record-with-start-2 c = search needs
+sub-record-by : tie.Need-sub-record-by
+sub-record-by c = search needs
 
-part-record-with-end-2 : tie.Need-part-record-with-end-2
-part-record-with-end-2 c = search needs
+part-record-by-start : tie.Need-part-record-by-start
+part-record-by-start c = search needs
 
-record-with-requires : tie.Need-record-with-requires
-record-with-requires c κs = search needs
+part-record-by-end : tie.Need-part-record-by-end
+part-record-by-end c = search needs
+
+record-by-requires : tie.Need-record-by-requires
+record-by-requires c κs = search needs
 
 enum-told : tie.Need-enum-told
 enum-told c = search needs
@@ -67,13 +72,14 @@ record-of-spec =
     (tie.spec
     next-word-requires
     returns
-    sub-record-with
-    part-record-with-start
-    part-record-with-end
-    sub-record-with-2
-    part-record-with-start-2
-    part-record-with-end-2
-    record-with-requires
+    sub-form-of
+    part-form-of-start
+    part-form-of-end
+    form-of-requires
+    sub-record-by
+    part-record-by-start
+    part-record-by-end
+    record-by-requires
     enum-told
     enum-known-fault
     enum-known-size

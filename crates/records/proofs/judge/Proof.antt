@@ -1,5 +1,5 @@
--- `records::judge` meets its contract: outside the file and above kind 7 by the first two rows of the table, else by what the function for
--- the kind ensures. Assumes nothing.
+-- `records::judge` meets its contract: outside the file and above kind 7 by the first two rows of the table,
+-- else by what the function for the kind ensures. Assumes nothing.
 use Prim.Native.Nat.{_≤_}
 use native.Mathlib.Omega.{arith}
 use borrow.Author.Needs.{needs}

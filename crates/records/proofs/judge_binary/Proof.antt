@@ -1,4 +1,5 @@
--- `records::judge_binary` meets its contract: its tests are the rows that are left for XOR, AND and OR. Assumes nothing.
+-- `records::judge_binary` meets its contract: its tests are the rows that are left for XOR, AND and OR.
+-- Assumes nothing.
 use borrow.Author.Needs.{needs}
 use borrow.Author.Tests.{lt-ltb, le-ltb, le-leb, lt-leb}
 use Rattle.rules.specs.Checks.{judged}

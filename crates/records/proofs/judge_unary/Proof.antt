@@ -1,4 +1,5 @@
--- `records::judge_unary` meets its contract: its tests are the rows that are left for NOT and a register. Assumes nothing.
+-- `records::judge_unary` meets its contract: its tests are the rows that are left for NOT and a register.
+-- Assumes nothing.
 use borrow.Author.Needs.{needs}
 use borrow.Author.Tests.{lt-ltb, le-ltb, le-leb, lt-leb}
 use Rattle.rules.specs.Checks.{judged}

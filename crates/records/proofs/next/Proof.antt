@@ -1,6 +1,7 @@
--- `records::next` meets its contract: a walk of its MIR, by hand. The struct is taken apart, and `record_at` is called on the slice, the offset and the two counts. All that the proof knows of `record_at` is that it meets its contract.
--- The struct is Copy: what it owns is had twice, one copy is kept whole for the exit, and of the other what bytes owns goes to the callee, beside the numbers' facts and the lifetime's token, which comes back.
--- Assumes nothing.
+-- `records::next` meets its contract: a walk of its MIR, by hand. The struct is taken apart, and `record_at` is called
+-- on the slice, the offset and the two counts. All that the proof knows of `record_at` is that it meets its contract.
+-- The struct is Copy: what it owns is had twice, one copy is kept whole for the exit, and of the other what bytes owns
+-- goes to the callee, beside the numbers' facts and the lifetime's token, which comes back. Assumes nothing.
 use mathlib.Core.Path.{_≡_, refl}
 use Prim.Native.Nat.{ℕ, _<_, _^_}
 use mathlib.Core.List.{[], _∷_}

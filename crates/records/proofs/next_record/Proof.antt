@@ -1,6 +1,8 @@
--- `records::next_record` meets its contract: a walk of its MIR, by hand. A `Reader` that one call returns is held in a local and passed to the next. All that the proof knows of `reader_at` and of `next` is that each meets its contract.
--- The machine value that `reader_at` returns is stored and passed on as it is. In a local of a body MIR erases the lifetime of the struct's type, so the value is shown to have the type at `erased`: what the struct owns does not say the lifetime's name.
--- Assumes nothing.
+-- `records::next_record` meets its contract: a walk of its MIR, by hand. A `Reader` that one call returns is held in a
+-- local and passed to the next. All that the proof knows of `reader_at` and of `next` is that each meets its contract.
+-- The machine value that `reader_at` returns is stored and passed on as it is. In a local of a body MIR erases the
+-- lifetime of the struct's type, so the value is shown to have the type at `erased`: what the struct owns does not say
+-- the lifetime's name. Assumes nothing.
 use mathlib.Core.Path.{_≡_, refl, ap, _∙_}
 use Prim.Native.Nat.{ℕ, _<_, _^_}
 use mathlib.Core.List.{List, [], _∷_}
@@ -147,7 +149,8 @@ module _ {M : Type 1} (𝓤 : URA M) (H : Heap 𝓤) (A : Atoms 𝓤) (W : Given
         calls-at ! fm (ReaderAt 𝓤 H A mem run) known-reader-at to-reader-at (and-then ! (load ! (from ! (stop !)) (look ! 10 refl)) (and-then ! (load ! (from ! (stop !)) (look ! 8 refl)) (no-more !))) (λ u.
         use1 W (later (some (λ (r : Reader). ((‵ (flft κ q) ⊛ ‵ ftrue) ⊛ ‵ (B (κ, tt) .own r (u ∷ []))) ⊛ raw (ensured 𝓤 H A reader-at.ended (reader-at.clauses 𝓤 H A mem run) (κ, tt) (s, (h, tt)) tt r)))) (id⊢ 𝓤 _) $ await ! tt $ pick ! (λ r.
         split ! $ move ! (1 ∷ []) $ use1 W (raw (fact 𝓤 ((r .bytes ≡ s) × (r .here ≡ h)))) (reader-at-said r) $ heard ! ((r .bytes ≡ s) × (r .here ≡ h)) (λ e. split ! $ move ! (1 ∷ []) $
-        -- [what the struct owns; the token; what the parameters own; room for _5; …; _4; …; _3; …; _2; …; _1; …; room for _0; …]
+        -- [what the struct owns; the token; what the parameters own; room for _5; …; _4; …; _3; …;
+        -- _2; …; _1; …; room for _0; …]
         peeks ! (B (κ, tt)) (Is (B (κ, tt))) (shows 𝓤 H A (B (κ, tt))) r (u ∷ []) (λ is.
         land ! (from ! (stop !)) (init ! 3 refl (LL.lawful (T.the-type αᵉ) (T′.the-laws αᵉ) 𝓤 H A W .typed r _ is .0)) $
         use2 W (raw (Next 𝓤 H A mem run .pre (to-next r u))) (goes-next r u) $

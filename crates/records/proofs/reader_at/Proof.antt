@@ -1,6 +1,6 @@
--- `records::reader_at` meets its contract: a walk of its MIR, by hand. A `Reader` is made of the slice and the offset passed, in the result's local.
--- A `&[u8]` is Copy, so what it owns is had twice: once for bytes at exit, and once inside the result, beside the facts of here.
--- Assumes nothing.
+-- `records::reader_at` meets its contract: a walk of its MIR, by hand. A `Reader` is made of the slice and the
+-- offset passed, in the result's local. A `&[u8]` is Copy, so what it owns is had twice: once for bytes at exit,
+-- and once inside the result, beside the facts of here. Assumes nothing.
 use mathlib.Core.Path.{refl}
 use Prim.Native.Nat.{ℕ, _<_, _^_}
 use mathlib.Core.List.{List, [], _∷_}

@@ -1,4 +1,5 @@
--- `records::record_at` meets its contract: `judge` is handed the three bytes that the specification judges. Assumes nothing.
+-- `records::record_at` meets its contract: `judge` is handed the three bytes that the specification judges.
+-- Assumes nothing.
 use borrow.Author.Needs.{needs}
 use native.Mathlib.Nat.{add-zero}
 use Rattle.records.proofs.record_at.Statement.{statement}

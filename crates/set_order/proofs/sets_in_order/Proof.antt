@@ -1,4 +1,5 @@
--- `set_order::sets_in_order` meets its contract: antt computes that the table is the order, the whole list at once. Assumes nothing.
+-- `set_order::sets_in_order` meets its contract: antt computes that the table is the order, the whole list at once.
+-- Assumes nothing.
 use mathlib.Core.Path.{refl}
 use Rattle.set_order.specs.Order.{setsWith, setsWithFewer, reportOrder}
 use Rattle.set_order.proofs.sets_in_order.Statement.{statement}

@@ -1,5 +1,5 @@
--- `suspect_maps::byte_numbers` meets its contract. The loop's invariant: each entry passed is its own number. The measure is what is left of the 128. Assumes
--- nothing.
+-- `suspect_maps::byte_numbers` meets its contract. The loop's invariant: each entry passed is its own number.
+-- The measure is what is left of the 128. Assumes nothing.
 use Prim.Native.Nat.{ℕ, _-_, _<_}
 use mathlib.Core.Path.{_≡_, sym, _∙_}
 use native.Mathlib.Omega.{arith}

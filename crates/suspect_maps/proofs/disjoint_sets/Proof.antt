@@ -1,5 +1,6 @@
--- `suspect_maps::disjoint_sets` meets its contract: a set with a variable from 3 on in common is left out (`not-apart`), and of the others the number `APART` says it,
--- by a test that antt computes at each two sets of variables 0 to 2 (`apart-below`). Assumes nothing.
+-- `suspect_maps::disjoint_sets` meets its contract: a set with a variable from 3 on in common is left out
+-- (`not-apart`), and of the others the number `APART` says it, by a test that antt computes at each two sets of
+-- variables 0 to 2 (`apart-below`). Assumes nothing.
 use Prim.Native.Nat.{_^_}
 use mathlib.Core.Path.{sym, ap, _∙_}
 use native.Mathlib.Nat.{zero-div}

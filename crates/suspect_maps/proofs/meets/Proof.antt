@@ -1,5 +1,5 @@
--- `suspect_maps::meets` meets its contract. The loop's invariant: `common` is not 0 just if one of the sets in the bytes passed is both in the map and in the part.
--- The measure is what is left of the 128 bytes. Assumes nothing.
+-- `suspect_maps::meets` meets its contract. The loop's invariant: `common` is not 0 just if one of the sets in the
+-- bytes passed is both in the map and in the part. The measure is what is left of the 128 bytes. Assumes nothing.
 use Prim.Native.Nat.{_+_, _*_, _-_}
 use native.Mathlib.Omega.{arith}
 use borrow.Author.Needs.{needs}

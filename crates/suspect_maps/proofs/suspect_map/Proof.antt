@@ -1,5 +1,6 @@
--- `suspect_maps::suspect_map` meets its contract. The loop's invariant: of the bytes passed, each bit says whether its set meets the mask of the secrets, and not
--- that of the masks; each other one is its own number. The measure is what is left of the 128 bytes. Assumes nothing.
+-- `suspect_maps::suspect_map` meets its contract. The loop's invariant: of the bytes passed, each bit says
+-- whether its set meets the mask of the secrets, and not that of the masks; each other one is its own number.
+-- The measure is what is left of the 128 bytes. Assumes nothing.
 use Prim.Native.Nat.{ℕ, _+_, _*_, _-_, _/_, _%_, _^_, _<_, _≤_}
 use mathlib.Core.Path.{_≡_, sym, _∙_}
 use native.Mathlib.Nat.{div-add-mod}

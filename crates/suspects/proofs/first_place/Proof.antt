@@ -1,5 +1,5 @@
--- `suspects::first_place` meets its contract: what is tested and holds a suspect set is scanned from the first place on, and else none is left.
--- Assumes nothing.
+-- `suspects::first_place` meets its contract: what is tested and holds a suspect set is scanned from the first place
+-- on, and else none is left. Assumes nothing.
 use borrow.Author.Needs.{needs}
 use Rattle.suspects.proofs.first_place.Statement.{statement}
 use Rattle.suspects.proofs.first_place.Tie as tie

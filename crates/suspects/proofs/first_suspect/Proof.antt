@@ -1,5 +1,6 @@
--- `suspects::first_suspect` meets its contract. Where the part and the map have no set in common, none is suspect (`none-suspect`). The loop's invariant: the
--- sets at the places passed are not suspect members. The measure is what is left to pass. Assumes nothing.
+-- `suspects::first_suspect` meets its contract. Where the part and the map have no set in common,
+-- none is suspect (`none-suspect`). The loop's invariant: the sets at the places passed are not suspect members.
+-- The measure is what is left to pass. Assumes nothing.
 use Prim.Native.Nat.{ℕ, _-_, _<_}
 use mathlib.Core.Path.{_≡_, sym, ap, _∙_}
 use mathlib.Core.Bool.{Bool, true, false, _&&_}

@@ -1,6 +1,7 @@
--- `suspects::scan` meets its contract. The nodes' loop: the nodes passed, from the first one scanned on, report nothing. The loop in it: the sets at the places
--- passed are not suspect members of the node's family, and all are passed where it has none in common with the map (`none-suspect`). Each measure is what is
--- left to pass. Assumes nothing.
+-- `suspects::scan` meets its contract. The nodes' loop: the nodes passed, from the first one scanned on,
+-- report nothing. The loop in it: the sets at the places passed are not suspect members of the node's family,
+-- and all are passed where it has none in common with the map (`none-suspect`). Each measure is what is left to pass.
+-- Assumes nothing.
 use Prim.Native.Nat.{ℕ, _-_, _≤_, _<_}
 use mathlib.Core.Path.{_≡_, refl, sym, ap, _∙_}
 use mathlib.Core.Logic.{⊎-elim}

@@ -1,5 +1,5 @@
--- `suspects::suspect_in` meets its contract: its two tests are those of the masks of the classes (`Suspects`), and what is left is membership.
--- Assumes nothing.
+-- `suspects::suspect_in` meets its contract: its two tests are those of the masks of the classes (`Suspects`),
+-- and what is left is membership. Assumes nothing.
 use mathlib.Core.Bool.{and-false}
 use borrow.Author.Needs.{needs}
 use borrow.Author.Tests.{eq-eqb, ne-eqb}

@@ -1,5 +1,5 @@
--- `suspects::variables_of` meets its contract. The loop's invariant: the set is that of the variables passed, and below 2 to the power of their
--- number. The measure is what is left of them. Assumes nothing.
+-- `suspects::variables_of` meets its contract. The loop's invariant: the set is that of the variables passed,
+-- and below 2 to the power of their number. The measure is what is left of them. Assumes nothing.
 use Prim.Native.Nat.{_+_, _-_, _*_, _^_, _<_, _≤_}
 use mathlib.Core.Path.{_≡_, refl, sym, ap₂, _∙_}
 use native.Mathlib.Nat.{two-pow-succ}

@@ -6,7 +6,7 @@ use native.Mathlib.Omega.{arith}
 use borrow.Author.Needs.{needs}
 use lib.ListN.{length, take}
 use lib.Seq.{take-all}
-use Rattle.rules.specs.Records.{Netlist, recordBytes, variablesOut, most-variables}
+use Rattle.rules.specs.Records.{Netlist, recordBytes, variablesOut}
 use Rattle.netlists.specs.Netlists.{flatOf}
 use Rattle.netlists.proofs.Netlists.{flat-class-at, value-variables}
 use Rattle.listing_lines.specs.Text.{Appended}

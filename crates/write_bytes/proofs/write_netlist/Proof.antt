@@ -1,8 +1,7 @@
 -- `write_bytes::write_netlist` meets its contract: a netlist is within the limits, and the records of its variables, those
 -- of its nodes and the end are stored one behind the other. Assumes nothing.
-use Prim.Native.Nat.{ℕ, _+_}
+use Prim.Native.Nat.{_+_}
 use mathlib.Core.Path.{_≡_}
-use mathlib.Core.List.{List}
 use native.Mathlib.Omega.{arith}
 use borrow.Author.Needs.{needs}
 use lib.ListN.{set}

@@ -17,17 +17,17 @@ no-path-requires c κs = search needs
 returns : tie.Need-returns
 returns c = search needs
 
-slice-aggregate-derive : tie.Need-slice-aggregate-derive
-slice-aggregate-derive c = search needs
+slice-aggregate-derive-held : tie.Need-slice-aggregate-derive-held
+slice-aggregate-derive-held c = search needs
 
-derive-requires : tie.Need-derive-requires
-derive-requires c κs = search needs
+derive-held-requires : tie.Need-derive-held-requires
+derive-held-requires c κs = search needs
 
 enum-known-count : tie.Need-enum-known-count
 enum-known-count c = search needs
 
 path-of-requires : tie.Need-path-of-requires
-path-of-requires c κs = c .before .before .before .before .before .derive .ensures .1 .1 .1 _ (ap derivedOf (c .before .before .count .given .1))
+path-of-requires c κs = c .before .before .before .before .before .derive-held .ensures .1 .1 .1 _ (ap derivedOf (c .before .before .count .given .1))
 
 enum-known-refusal : tie.Need-enum-known-refusal
 enum-known-refusal c = search needs
@@ -55,8 +55,8 @@ suspect-path-spec =
     enum-told
     no-path-requires
     returns
-    slice-aggregate-derive
-    derive-requires
+    slice-aggregate-derive-held
+    derive-held-requires
     enum-known-count
     path-of-requires
     enum-known-refusal

@@ -1,19 +1,18 @@
--- `write_words::put_input` meets its contract. The loop's invariant: behind the name are the variables of the set that are below the next one, each
+-- `write_words::put_set` meets its contract. The loop's invariant: the variables of the set that are below the next one are put, each
 -- in two bytes with its blank. The measure is how many variables are left. Assumes nothing.
 use Prim.Native.Nat.{_+_, _*_, _-_, _≤_}
-use mathlib.Core.Path.{_≡_, _∙_}
+use mathlib.Core.Path.{_≡_}
 use mathlib.Core.Logic.{⊎-elim}
 use native.Mathlib.Omega.{arith}
 use borrow.Author.Needs.{needs}
-use Rattle.rules.specs.Listing.{word}
 use Rattle.rules.specs.Records.{most-variables}
 use Rattle.rules.proofs.Decimal.{decimal-short}
 use Rattle.listing_lines.specs.Text.{Appended}
 use Rattle.listing_lines.proofs.Text.{appended-none, appended-more, appended-as}
-use Rattle.write_words.specs.Worded.{variablesBelow}
-use Rattle.write_words.proofs.Worded.{fields, line-fields, held-more, held-same}
-use Rattle.write_words.proofs.put_input.Statement.{statement}
-use Rattle.write_words.proofs.put_input.Tie as tie
+use Rattle.write_words.specs.Worded.{variablesBelow, fields}
+use Rattle.write_words.proofs.Worded.{held-more, held-same}
+use Rattle.write_words.proofs.put_set.Statement.{statement}
+use Rattle.write_words.proofs.put_set.Tie as tie
 
 abbrev Inv-loop : tie.InvT-loop
 Inv-loop text₀ at set end₀ variable₀ text end variable =
@@ -21,12 +20,6 @@ Inv-loop text₀ at set end₀ variable₀ text end variable =
 
 abbrev μ-loop : tie.MeasureT-loop
 μ-loop text₀ at set end₀ variable₀ text end variable = most-variables - variable
-
-slice-aggregate-put-word : tie.Need-slice-aggregate-put-word Inv-loop μ-loop
-slice-aggregate-put-word c = search needs
-
-put-word-requires : tie.Need-put-word-requires Inv-loop μ-loop
-put-word-requires c κs = search needs
 
 loop-holds : tie.Need-loop-holds Inv-loop μ-loop
 unfolding fields variablesBelow
@@ -63,34 +56,20 @@ loop-again c =
     (λ w. (omega arith, omega arith, rw (w .1, w .2) (appended-as (held-same _ variable (w .0 .left)) (turn .loop .inv .2))))
     (c .if1 .came)
 
-put-byte-requires : tie.Need-put-byte-requires Inv-loop μ-loop
-put-byte-requires c κs = omega arith
-
 same-length : tie.Need-same-length Inv-loop μ-loop
-same-length c =
-    let loop = c .before .before .before .before .before in
-    c .before .before .put-byte .ensures .long ∙ loop .loop .inv .2 .long ∙ loop .before .before .before .put-word .ensures .long
+same-length c = search needs
 
 returns : tie.Need-returns Inv-loop μ-loop
-unfolding word
 returns c =
-    let end = c .before .before in
-    let loop = end .before .before .before in
-    let all : loop .loop .variable ≡ most-variables = omega arith in (
-      rw (← all)
-          (appended-as (line-fields (word "in") _)
-          (appended-more (appended-more (loop .before .before .before .put-word .ensures) (loop .loop .inv .2)) (end .put-byte .ensures))),
-      omega arith,
-    )
+    let all : c .before .loop .variable ≡ most-variables = omega arith in
+    (rw (← all) (c .before .loop .inv .2), omega arith)
 
-pub put-input-spec : {M : Type 1} → statement M
-put-input-spec =
+pub put-set-spec : {M : Type 1} → statement M
+put-set-spec =
     tie.close
     (tie.spec
     Inv-loop
     μ-loop
-    slice-aggregate-put-word
-    put-word-requires
     loop-holds
     cast-if1
     shr-if1
@@ -98,6 +77,5 @@ put-input-spec =
     add-variable
     loop-less
     loop-again
-    put-byte-requires
     same-length
     returns)

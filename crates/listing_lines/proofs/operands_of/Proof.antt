@@ -1,12 +1,12 @@
--- `desk::nodes::operands_of` meets its contract: the kinds of nodes are 2 to 7, and each has its number of operands. Assumes nothing.
+-- `listing_lines::operands_of` meets its contract: the kinds of nodes are 2 to 7, and each has its number of operands. Assumes nothing.
 use Prim.Native.Nat.{ℕ}
 use mathlib.Core.Path.{_≡_, refl}
 use mathlib.Core.Logic.{inl, inr, ⊎-elim}
 use native.Mathlib.Omega.{arith}
 use lib.ListN.{length}
 use Rattle.rules.specs.Records.{Cell, input, NOT, XOR, AND, OR, register, kindOf, operands}
-use Rattle.desk.proofs.nodes.operands_of.Statement.{statement}
-use Rattle.desk.proofs.nodes.operands_of.Tie as tie
+use Rattle.listing_lines.proofs.operands_of.Statement.{statement}
+use Rattle.listing_lines.proofs.operands_of.Tie as tie
 
 -- what holds of each kind with its number of operands holds of every node
 each-kind : (P : ℕ → ℕ → Type 0) → P 2 0 → P 3 1 → P 4 2 → P 5 2 → P 6 2 → P 7 1 → (cell : Cell) → P (kindOf cell) (length (operands cell))
