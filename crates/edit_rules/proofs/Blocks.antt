@@ -174,7 +174,7 @@ pub marks-after : (recordsAfter two-marked (remove 2) (nodeRecords two-marked) 1
 unfolding replyTo editedTo entry markNumber nodeRecord nodeRecords tabulate filled recordsAfter
 marks-after = (refl, refl)
 
--- OpenBlock A with its node records, but for the mark of its last gate, which is not there: it is not as a check leaves it.
+-- Block A with its node records, but for the mark of its last gate, which is not there: it is not as a check leaves it.
 abbrev unmarked-a : OpenBlock
 unmarked-a = record {
   netlist = p9;

@@ -105,7 +105,7 @@ lowered-suc removed a = go (decLe a removed)
 
 -- ---- a node that is not named
 
--- no node of the list names node `removed`
+-- no node of the list uses node `removed`
 abbrev pub Unused : ℕ → List Cell → Type 0
 Unused removed cells = length cells ≤ lowestUser removed cells
 

@@ -1,6 +1,7 @@
--- Change request A3, "Cells come and go": an open block takes a new node at the end, or gives up a node that no other names. Its sentences in
--- their order: the two edits, the refusals with number and place, and what an edit leaves. `tested`, families, findings and what both slices
--- hold are document 01's. Assumes nothing.
+-- Change request A3, "Cells come and go": an open block takes a new node at the end, or loses a node that no other uses
+-- (the request: gives up a node that no other names). Its sentences in their order: the two edits, the refusals with
+-- number and place, and what an edit leaves. `tested`, families, findings and what both slices hold are document 01's.
+-- Assumes nothing.
 use Prim.Native.Nat.{ℕ, suc, _*_, _-_}
 use mathlib.Core.Path.{_≡_}
 use mathlib.Core.Bool.{Bool, cond, _||_}
@@ -15,7 +16,7 @@ use Rattle.rules.specs.Checks.{Outcome, answered, refused, andThen, check, judg
 use Rattle.rules.specs.Slices.{nodeRecords, workBytes, filled, reply, nodesAfter, workAfter}
 use Rattle.rules.specs.Demands.{NoSuspect}
 
--- a new node, offered as one record's bytes; or a node to give up
+-- a new node, offered as one record's bytes; or a node to remove
 pub data Edit : Type 0 where
   add : (bytes : List ℕ) → Edit
   remove : (node : ℕ) → Edit
@@ -49,7 +50,7 @@ abbrev pub offered : Netlist → (bytes : List ℕ) → Outcome Cell
 offered n bytes =
     judgedNode (length bytes) (length (n .variables)) (length (n .nodes)) (getD bytes 0 0) (getD bytes 1 0) (getD bytes 2 0)
 
--- ---- a node is given up
+-- ---- a node is removed
 
 -- higher nodes move down by one, and operands follow
 unfoldable pub lowered : (removed a : ℕ) → ℕ
@@ -66,16 +67,16 @@ renumbered removed (register a) = register (lowered removed a)
 unfoldable pub withoutNode : Netlist → (removed : ℕ) → Netlist
 withoutNode n removed = record { variables = n .variables; nodes = map (renumbered removed) (without removed (n .nodes)) }
 
--- whether a node names node i
+-- whether a node uses node i
 unfoldable pub uses : (i : ℕ) → Cell → Bool
 uses i cell = member i (operands cell)
 
--- the lowest node that names node i, or the number of nodes where none does
+-- the lowest node that uses node i, or the number of nodes where none does
 unfoldable pub lowestUser : (i : ℕ) → List Cell → ℕ
 lowestUser i [] = 0
 lowestUser i (cell ∷ cells) = cond (uses i cell) 0 (suc (lowestUser i cells))
 
--- the netlist without node i; refusal 14 if another node names it (in a netlist that obeys the record rules no node names itself)
+-- the netlist without node i; refusal 14 if another node uses it (in a netlist that obeys the record rules no node uses itself)
 unfoldable pub removedIfUnused : (i : ℕ) → Netlist → Outcome Netlist
 removedIfUnused i n = judged (check 14 (ltb (lowestUser i (n .nodes)) (length (n .nodes))) (lowestUser i (n .nodes)) ∷ []) (withoutNode n i)
 

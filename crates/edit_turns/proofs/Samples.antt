@@ -24,7 +24,7 @@ ran s events = afterEvents s events
 abbrev block-b : Bool → Standing
 block-b faulty = record { netlist = p10; faulty = faulty; made = 3 }
 
--- block A's last gate is given up, and added again behind a register
+-- block A's last gate is removed, and added again behind a register
 abbrev lines : List Event
 lines = line (word "remove 4") true ∷ line (word "add reg 3") true ∷ line (word "add xor 4 1") true ∷ []
 

@@ -130,7 +130,7 @@ pub fn open(bytes: &[u8], nodes: &mut [NodeRecord], work: &mut [u8]) -> Edited
     opened_of(examined)
 }
 
-// Edits an open block: a new node at the end, which is one record's bytes, or a node given up, for which those bytes are not looked at.
+// Edits an open block: a new node at the end, which is one record's bytes, or a node removed, for which those bytes are not looked at.
 // The state is the last one returned for these slices, and the slices are as that call left them: then reply, state, node records
 // with their marks and families are those of the block as it now is, and its glitch half is clear exactly when no tested node's glitch family there holds a
 // suspect set; and then one probe on any gate or register of it sees each pattern of settled values as often for one setting of the
