@@ -1,4 +1,5 @@
--- What the walks that pass the three lent slices on share: the slices, what is had of them at entry and at exit, a clause that is shown, a call by what the callee's contract says, and the call of `store`. Assumes nothing.
+-- What the walks that pass the three lent slices on share: the slices, what is had of them at entry and at exit, a
+-- clause that is shown, a call by what the callee's contract says, and the call of `store`. Assumes nothing.
 use mathlib.Core.Path.{_≡_, sym, _∙_, subst}
 use Prim.Native.Nat.{ℕ, _≤_}
 use mathlib.Core.List.{List, [], _∷_}
@@ -15,7 +16,7 @@ use prog.Wp.{Heap, Env, Calls, Loops}
 use ghost.Atoms.{Atoms, sem}
 use contract.Monad.{Fun, fact, factI}
 use contract.Lifetimes.{Lfts, Shares}
-use types.Kit.{Given, Goal, Item, Post, ‵, raw, some, later, _⊛_, ⋆, runs, lands, Seq, Step, step, _$_, _∵_, !, qed, move, keep, drop, use0, use1, use2, split, join, pick, fsplit, fjoin, feqL, frame, await, done}
+use types.Kit.{Given, Goal, Item, Post, ‵, raw, some, later, _⊛_, runs, lands, Seq, Step, step, _$_, _∵_, !, qed, move, keep, drop, use0, use1, use2, split, join, pick, fsplit, fjoin, feqL, frame, await, done}
 use types.Run.{Opds}
 use sound.WpLaws.{FmC}
 use denote.RattleType.{RattleType, Denots}
@@ -175,7 +176,8 @@ slices κs qs a are = record {
   room₂ = are .1 .1 .0 .0 .1;
 }
 
--- what is had at exit, put in order: what the slices leave, bytes, nodes and work, in front of what the parameters behind them own
+-- what is had at exit, put in order: what the slices leave, bytes, nodes and work, in front of what the parameters
+-- behind them own
 pub slices-left : {M : Type 1} {𝓤 : URA M} {H : Heap 𝓤} {A : Atoms 𝓤} {K : Type 0} {W : Given 𝓤 H A} {Γ : List (Item 𝓤)} {G : Goal 𝓤 H} → K → {others nodes work bytes : Fml} {result token tokens : Item 𝓤}
     → Step K W (‵ (fsep bytes (fsep nodes (fsep work others))) ∷ result ∷ token ∷ tokens ∷ Γ) G (‵ others ∷ result ∷ token ∷ ‵ nodes ∷ tokens ∷ ‵ work ∷ ‵ bytes ∷ Γ) G
 slices-left t = step (λ s. move t (5 ∷ 0 ∷ []) $ fjoin t $ move t (3 ∷ 0 ∷ []) $ fjoin t $ move t (4 ∷ 0 ∷ []) $ fjoin t $ s)
@@ -200,7 +202,8 @@ pub goes-one : {M : Type 1} (𝓤 : URA M) (H : Heap 𝓤) (A : Atoms 𝓤) → 
 goes-one 𝓤 H A W R makes x vs is = qed W [] ∵ nothing ! $ nothing ! $ owned ! R (Is R) makes x vs is $ fjoin ! $ move ! (1 ∷ 0 ∷ []) $ join ! $ frame ! $ done !
 
 module _ {M : Type 1} (𝓤 : URA M) (H : Heap 𝓤) (A : Atoms 𝓤) (W : Given 𝓤 H A) (T : Ended) (c : Clauses 𝓤 T) (y : tripleOf 𝓤 H A (T .signature) (closing 𝓤 H A T c) .Ghost) where
-  -- the callee's contract, its result, what its clauses say, the last values, the parameters at exit, what the result owns, and the tokens
+  -- the callee's contract, its result, what its clauses say, the last values, the parameters at exit, what the result
+  -- owns, and the tokens
   abbrev Cited : Contract 𝓤
   Cited = tripleOf 𝓤 H A (T .signature) (closing 𝓤 H A T c)
 
@@ -254,7 +257,8 @@ module _ {M : Type 1} (𝓤 : URA M) (H : Heap 𝓤) (A : Atoms 𝓤) (W : Given
       nothing ! $ owned ! E.the-row (Is E.the-row) (LL.makes E.the-type E′.the-plain 𝓤 H A) e _ is-e $ fjoin ! $ move ! (1 ∷ 0 ∷ []) $ fjoin ! $ done !
 
   module _ {K : Type 0} {Γ : List (Item 𝓤)} {En : Env 𝓤 H} {C : Calls 𝓤 H} {f : Name} {os : List Opd} {Λ : Loops 𝓤 H} {Q : Post 𝓤 H} {d : Place} {rest : Body} where
-    -- the call of `store` with what was examined: the borrow of nodes is passed on, and its last list has the records at its front
+    -- the call of `store` with what was examined: the borrow of nodes is passed on, and its last list has the records
+    -- at its front
     pub calls-stores : K → FmC 𝓤 H (W .laws) C → Triple 𝓤 (C f) (Store 𝓤 H A mem run) → (e .netlist .count ≤ entries o) × (e .netlist .count ≤ most-nodes) → ((i : Item 𝓤) → Opds K W (i ∷ Γ) En os (s₁ o ∷ v ∷ []))
         → ((u : Val) (ns : List NodeRecord) → Holds (hasTy tyUnit u) × WT u → ns ≡ stored (recordIn e) (o .nodes .now) (e .netlist .count) → length ns ≡ entries o
         → Seq K W ((‵ (flft (o .κ₁) (o .q₁)) ⊛ ‵ ftrue) ∷ ‵ (finally T.the-row (o .nodes .name) ns) ∷ Γ) (lands C Λ En d u rest Q))

@@ -1,5 +1,5 @@
--- Steps that any walk by hand may cite: a local by its number behind others, all clauses of a callee heard at once, all locals
--- freed at once, and a walk taken to the contract. It says nothing of the crate. Assumes `Given`.
+-- Steps that any walk by hand may cite: a local by its number behind others, all clauses of a callee heard at once, all
+-- locals freed at once, and a walk taken to the contract. It says nothing of the crate. Assumes `Given`.
 use mathlib.Core.Path.{_≡_, refl, sym, _∙_, ap, subst}
 use Prim.Native.Nat.{ℕ, zero, suc}
 use mathlib.Core.List.{List, [], _∷_, _++_}
@@ -112,7 +112,8 @@ module _ {M : Type 1} {𝓤 : URA M} {H : Heap 𝓤} {A : Atoms 𝓤} {K : Type 
         (via 𝓤 (release 𝓤 H E (⋆ 𝓤 H A (take n Γ))) (behind-freed 𝓤 H A E (take n Γ)) (after 𝓤 H E (s .prf)));
   })
 
--- ---- a walk at every choice of what the contract binds, of a function with no `requires`, or whose `requires` it does not need
+-- ---- a walk at every choice of what the contract binds, taken to the contract
+-- of a function with no `requires`, or whose `requires` the walk does not need
 module _ {M : Type 1} (𝓤 : URA M) (H : Heap 𝓤) (A : Atoms 𝓤) (W : Given 𝓤 H A) (T : Ended) (hs : Stays (T .signature .params) (T .kept)) (c : Clauses 𝓤 T) (f : Fn) (𝓣 : Tables 𝓤 H) where
   pub by-walk : AllGo 𝓤 H A W (T .signature .lifetimes) (T .signature .params) (T .kept) hs → (sp : (κs : Lfts (T .signature .lifetimes)) → Spells (typesAt (T .signature .params) κs))
       → ((κs : Lfts (T .signature .lifetimes)) → Tellss (typesAt (T .signature .params) κs) (Ises (typesAt (T .signature .params) κs)) (sp κs))

@@ -26,8 +26,8 @@ fn say_answered(outcome: QueryOutcome, text: &[u8; ROOM], count: usize)
     }
 }
 
-// Prints the settled value of a node under an assignment. A refusal is left to the caller to print, who knows the lines of the block's text; so it is
-// by the two below.
+// Prints the settled value of a node under an assignment. A refusal is left to the caller to print, who knows the lines
+// of the block's text; so it is by the two below.
 pub fn value(bytes: &[u8], node: usize, assignment: usize) -> QueryOutcome {
     let reply = queries::settled_value(bytes, node, assignment);
     let outcome = reply.outcome;

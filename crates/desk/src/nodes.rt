@@ -11,19 +11,14 @@ use netlists::Netlist;
 use rules::MOST_NODES;
 use rules::Node;
 
-// A node of a netlist, where there may be one, and else one of zeros.
+// Node `i` of a netlist by value; the blank one beyond the nodes that there may be.
 pub fn node_of(netlist: Netlist, i: usize) -> Node
     ensures { λ r. ⌜ (i < most-nodes → r ≡ getD (netlist .nodes) i blank) × (most-nodes ≤ i → r ≡ blank) ⌝ }
 {
     if i < MOST_NODES {
         return netlist.nodes[i];
     }
-    Node {
-        kind: 0,
-        first: 0,
-        second: 0,
-        set: 0,
-    }
+    netlists::blank_node()
 }
 
 // The name of a kind.
@@ -34,7 +29,7 @@ pub fn say_kind(kind: u8) {
     say(&letters[..size]);
 }
 
-// A node in words: its kind and its operands.
+// Prints a node in words: its kind and its operands.
 pub fn say_node(node: Node) {
     say_kind(node.kind);
     let operands = operands_of(node.kind);

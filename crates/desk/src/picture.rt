@@ -70,8 +70,8 @@ fn path_of(steps: &[u8; MOST_BYTES], count: usize) -> Path
     path
 }
 
-// The path of the derivation of the first glitch suspect, in a netlist whose families are in the work bytes; none where no node is suspect, or where the
-// derivation is refused.
+// The path of the derivation of the first glitch suspect, in a netlist whose families are in the work bytes;
+// none where no node is suspect, or where the derivation is refused.
 fn suspect_path(netlist: Netlist, work: &[u8; MOST_WORK], glitch: Half) -> Path
     requires { ⌜ Known netlist (now work) ⌝ }
 {

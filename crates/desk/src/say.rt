@@ -1,4 +1,5 @@
-// Printing: answers, refusals, sets, and what was expected.
+// What several commands print, and the program for them: answers, refusals, sets, and what was expected
+// where something else was found.
 ghost use Prim.Native.Nat.{_≤_};
 ghost use Rattle.rules.specs.Listing.{most-text};
 use desk_text::ROOM;
@@ -12,21 +13,23 @@ use rules::Refusal;
 // The most bytes that are shown of what was found.
 const SHOWN: usize = 80;
 
+// Writes a text to standard output.
 pub fn say(text: &[u8]) {
     io::write_all(STDOUT_FILENO, text);
 }
 
+// Prints a number in base ten.
 pub fn say_number(x: usize) {
     io::print_decimal(STDOUT_FILENO, x as u64);
 }
 
-// A blank and a number.
+// Prints a blank and a number.
 pub fn say_field(x: usize) {
     say(b" ");
     say_number(x);
 }
 
-// The first bytes of a text, to standard output or standard error.
+// Writes the first `count` bytes of a text to standard output or standard error.
 pub fn put_first(to: i32, text: &[u8; ROOM], count: usize)
     requires { ⌜ count ≤ most-text ⌝ }
 {
@@ -34,6 +37,7 @@ pub fn put_first(to: i32, text: &[u8; ROOM], count: usize)
     io::write_all(to, &whole[..count]);
 }
 
+// Prints the first `count` bytes of a text.
 pub fn say_first(text: &[u8; ROOM], count: usize)
     requires { ⌜ count ≤ most-text ⌝ }
 {
@@ -42,7 +46,7 @@ pub fn say_first(text: &[u8; ROOM], count: usize)
 
 // ---- answers and refusals
 
-// The variables of a suspect set, for people, and the end of the line.
+// Ends the line of a half: where it is suspect, with the variables of its set, for people.
 fn say_suspect(half: Half, classes: [u8; MOST_VARIABLES]) {
     if let Half::Suspect(_, set) = half {
         say(b" # ");
@@ -51,7 +55,7 @@ fn say_suspect(half: Half, classes: [u8; MOST_VARIABLES]) {
     say(b"\n");
 }
 
-// The lines `vars`, `settled` and `glitch`, of a block whose variables have these classes.
+// Prints the lines `vars`, `settled` and `glitch` of an answer, for a block whose variables have these classes.
 pub fn say_answer(answer: Answer, classes: [u8; MOST_VARIABLES]) {
     let mut text = [0u8; ROOM];
     let counts = desk_text::counts_fields(&mut text, answer);
@@ -67,7 +71,8 @@ pub fn say_answer(answer: Answer, classes: [u8; MOST_VARIABLES]) {
     say_suspect(glitch, classes);
 }
 
-// How a run of edits ended, of a block whose variables have these classes.
+// Prints how a run of edits ended, of which so many were made: at fault, or with this answer, for a block
+// whose variables have these classes.
 pub fn say_closing(faulty: bool, answer: Answer, made: usize, classes: [u8; MOST_VARIABLES]) {
     let mut text = [0u8; ROOM];
     let count = desk_text::edits_fields(&mut text, faulty, answer, made);
@@ -80,7 +85,7 @@ pub fn say_closing(faulty: bool, answer: Answer, made: usize, classes: [u8; MOST
     say_suspect(glitch, classes);
 }
 
-// The reason of a refusal.
+// The reason of a refusal, by its number, in words.
 fn say_reason(number: usize) {
     match number {
         1 => say(b"a kind above 7; words are read from a file whose name ends in .txt"),
@@ -102,14 +107,14 @@ fn say_reason(number: usize) {
     }
 }
 
-// A refusal's fields, and what stands before its reason.
+// A refusal's fields, with which its line begins.
 fn say_refusal_fields(refusal: Refusal) {
     let mut text = [0u8; ROOM];
     let count = desk_text::refusal_fields(&mut text, refusal);
     say_first(&text, count);
 }
 
-// The line in a text in words, unless it is 0, and the end of the line.
+// Ends a line: with the number of the line in a block's text, unless that is 0.
 fn say_line(line: usize) {
     if line > 0 {
         say(b", line ");
@@ -118,7 +123,7 @@ fn say_line(line: usize) {
     say(b"\n");
 }
 
-// A refusal with its reason, and the line of the text that it stands on, where that is not 0.
+// Prints a refusal with its reason, and with the line of the block's text that the record stands on, unless that is 0.
 pub fn say_refused(refusal: Refusal, line: usize) {
     say_refusal_fields(refusal);
     say(b" # ");
@@ -126,7 +131,8 @@ pub fn say_refused(refusal: Refusal, line: usize) {
     say_line(line);
 }
 
-// The refusal of a new node: of kinds it names those that are no node's too.
+// Prints the refusal of a new node. Refusal 1 then is of every kind that is no node's, and not of those above
+// 7 alone, so its reason is another.
 pub fn say_refused_node(refusal: Refusal) {
     if refusals::number_of(refusal) == 1 {
         say_refusal_fields(refusal);
@@ -138,6 +144,7 @@ pub fn say_refused_node(refusal: Refusal) {
 
 // ---- sets, for people
 
+// The letter of a class: of secrets, masks and publics.
 fn say_class(class: u8) {
     match class {
         0 => say(b"s"),
@@ -146,7 +153,8 @@ fn say_class(class: u8) {
     }
 }
 
-// A variable that the set holds, behind a blank if others stand there: whether any stands there now.
+// Prints a variable if the set holds it, behind a blank if others stand there, and returns
+// whether any stands there now.
 fn say_variable(held: bool, others: bool, class: u8, v: usize) -> bool {
     if !held {
         return others;
@@ -159,7 +167,7 @@ fn say_variable(held: bool, others: bool, class: u8, v: usize) -> bool {
     true
 }
 
-// A set as its variables, by class and number.
+// Prints a set as its variables, by class and number, as in `s0 m1`.
 pub fn say_set(classes: [u8; MOST_VARIABLES], set: usize) {
     let mut rest = set;
     let mut others = false;
@@ -176,6 +184,7 @@ pub fn say_set(classes: [u8; MOST_VARIABLES], set: usize) {
 
 // ---- what was expected
 
+// Prints a byte; `?` for one that is no printable character of ASCII.
 fn say_byte(byte: u8) {
     let mut shown = byte;
     if byte < 32 {
@@ -188,7 +197,7 @@ fn say_byte(byte: u8) {
     say(&one);
 }
 
-// What was found, and the end of the line.
+// Prints what was found, at most `SHOWN` bytes of it, and ends the line.
 pub fn say_found(word: &[u8]) {
     let mut k = 0;
     while k < word.len() {
@@ -201,7 +210,7 @@ pub fn say_found(word: &[u8]) {
     say(b"\n");
 }
 
-// What a record in words was expected to be.
+// What was expected of a record in words that has this fault.
 fn say_expected(fault: Fault) {
     match fault {
         Fault::Record => say(b"expected secret, mask, public, in, not, xor, and, or, reg or end"),
@@ -214,20 +223,20 @@ fn say_expected(fault: Fault) {
     }
 }
 
-// The same with the line of a text.
+// Prints what was expected of a record in words, and the line of the text that it stands on.
 pub fn say_fault(fault: Fault, line: usize) {
     say_expected(fault);
     say_line(line);
 }
 
-// The same with what was found.
+// Prints what was expected of a record in words, and what was found.
 pub fn say_fault_found(fault: Fault, word: &[u8]) {
     say_expected(fault);
     say(b", found: ");
     say_found(word);
 }
 
-// A number that is none.
+// Prints that a number was expected, and what was found.
 pub fn say_no_number(word: &[u8]) {
     say(b"expected a number from 0 to 18446744073709551615, found: ");
     say_found(word);

@@ -33,7 +33,7 @@ fn tell(text: &[u8]) {
     io::write_all(STDERR_FILENO, text);
 }
 
-// How far a search is, in the place of what was told before.
+// Tells how far a search is, if that is to be shown, in the place of what was told before.
 fn tell_progress(shown: bool, progress: Progress) {
     if shown & (progress.next >= FIRST) {
         let mut text = [0u8; ROOM];
@@ -52,8 +52,8 @@ fn wipe_progress(shown: bool) {
 
 // ---- the search
 
-// What `pairs::check_pairs` replies to the netlist bytes that were examined, with slices that hold every netlist. After each node it tells how far it
-// is, if that is to be shown.
+// What `pairs::check_pairs` replies to the netlist bytes that were examined, with slices that hold every netlist.
+// After each node it tells how far it is, if that is to be shown.
 fn searched(examined: Examined, work: &[u8; MOST_WORK], limit: usize, shown: bool) -> PairsReply
     requires { ⌜ Seen examined (now work) ⌝ }
     ensures { λ r. ⌜ ((bytes before : List ℕ) → Leaves bytes before examined (now (work .entry)) →
@@ -83,7 +83,8 @@ fn say_search(search: Search, classes: [u8; MOST_VARIABLES]) {
     say(b"\n");
 }
 
-// Searches the pairs of nodes of a block that was examined, at most `limit` of them, and prints its answer and what was found.
+// Searches the pairs of nodes of a block that was examined, at most `limit` of them, and prints
+// its answer and what was found.
 pub fn pairs(examined: Examined, work: &[u8; MOST_WORK], limit: usize)
     requires { ⌜ Seen examined (now work) ⌝ }
 {

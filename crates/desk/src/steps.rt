@@ -6,7 +6,7 @@ ghost use Rattle.derivation_rules.specs.Derivations.{most-steps};
 use derivation_steps::STEP;
 use derivations::MOST_BYTES;
 
-// One step.
+// A step, by its five bytes: node, layer, rule, and the set's low and high byte.
 pub struct Step {
     pub node: u8,
     pub layer: u8,

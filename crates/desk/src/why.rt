@@ -27,7 +27,8 @@ const MOST_WAITING: usize = MOST_STEPS + 1;
 
 // ---- how deep a step stands
 
-// Of the steps that wait to be told, `depths` has the depths, the next one's last. Puts one more behind the first `waiting`, and returns how many wait then.
+// Of the steps that wait to be told, `depths` has the depths, the next one's last. Puts one more behind the first
+// `waiting`, and returns how many wait then.
 fn wait(depths: &mut [usize; MOST_WAITING], waiting: usize, depth: usize) -> usize
     requires { ⌜ waiting ≤ most-steps ⌝ }
     ensures { λ r. ⌜ r ≡ waiting + 1 ⌝ }
@@ -37,7 +38,8 @@ fn wait(depths: &mut [usize; MOST_WAITING], waiting: usize, depth: usize) -> usi
     waiting + 1
 }
 
-// Lets the steps wait that a step of this depth and rule needs, one level below it: one by rules 2, 4 and 5, two by rule 6, and else none.
+// Lets the steps wait that a step of this depth and rule needs, one level below it: one by rules 2, 4 and 5,
+// two by rule 6, and else none.
 fn wait_operands(
     depths: &mut [usize; MOST_WAITING],
     waiting: usize,
@@ -118,7 +120,8 @@ fn one_less(waiting: usize) -> usize
     if waiting == 0 { 0 } else { waiting - 1 }
 }
 
-// Prints the first `count` steps, a line each. A step's indentation is its depth: that of the step that needs it, and one more.
+// Prints the first `count` steps, a line each. A step's indentation is its depth: that of the step
+// that needs it, and one more.
 fn say_steps(netlist: Netlist, steps: &[u8; MOST_BYTES], count: usize)
     requires { ⌜ count ≤ most-steps ⌝ }
 {
@@ -143,7 +146,8 @@ fn say_step_count(count: usize) {
     say(b"\n");
 }
 
-// Prints the derivation of a set of a node's family in a layer, or its refusal, for a netlist whose families are in the work bytes.
+// Prints the derivation of a set of a node's family in a layer, or its refusal, for a netlist whose
+// families are in the work bytes.
 pub fn why(netlist: Netlist, work: &[u8; MOST_WORK], node: usize, layer: usize, set: usize)
     requires { ⌜ Known netlist (now work) ⌝ }
 {
@@ -166,7 +170,8 @@ fn say_clear(answer: Answer) {
     say_step_count(0);
 }
 
-// Prints the derivation of the first glitch suspect of a netlist that got this answer, and whose families are in the work bytes.
+// Prints the derivation of the first glitch suspect of a netlist that got this answer, and whose
+// families are in the work bytes.
 pub fn why_first(answer: Answer, netlist: Netlist, work: &[u8; MOST_WORK])
     requires { ⌜ Known netlist (now work) ⌝ }
 {

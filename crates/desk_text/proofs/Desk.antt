@@ -1,5 +1,5 @@
--- Fields behind fields; and what is printed beside what the documents say: of a refusal and of an answer lines of the listing, of the bytes of a
--- step the step. Assumes nothing.
+-- Fields behind fields; and what is printed beside what the documents say: of a refusal and of an answer lines of the
+-- listing, of the bytes of a step the step. Assumes nothing.
 use Prim.Native.Nat.{ℕ, _+_, _*_, _/_, _%_}
 use mathlib.Core.Path.{_≡_, refl, sym, ap}
 use mathlib.Core.Bool.{Bool, true, false}
@@ -60,8 +60,8 @@ unfolding halfText halfLine
 half-listed name clear = sym (line-parted _)
 half-listed name (suspectAt node set) = sym (line-parted _)
 
--- an answer's counts and halves, a line feed behind each, are the first line of the listing and its last two, which has those of the nodes
--- between them
+-- an answer's counts and halves, a line feed behind each, are the first line of the listing and its last two,
+-- which has those of the nodes between them
 pub answer-listed : (n : Netlist) → let f = findings n in
     (countsText (f .variables) (f .nodes) ++ (10 ∷ [])) ++ nodeLines 0 (n .nodes) (families n) ++ (halfText (word "settled") (f .settled) ++ (10 ∷ []))
     ++ (halfText (word "glitch") (f .glitch) ++ (10 ∷ []))

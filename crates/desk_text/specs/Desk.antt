@@ -1,4 +1,5 @@
--- What commands print, byte for byte: fields parted by one blank, with no line feed, so that words may follow. Assumes nothing.
+-- What commands print, byte for byte: fields parted by one blank, with no line feed, so that words may follow.
+-- Assumes nothing.
 use Prim.Native.Nat.{ℕ, zero, suc}
 use mathlib.Core.Bool.{Bool, true, false, cond}
 use mathlib.Core.List.{List, [], _∷_, _++_, map}
@@ -79,8 +80,8 @@ memberText m = parted (word "member" ∷ word "settled" ∷ yesNo (m .settled) �
 unfoldable pub stepsText : (count : ℕ) → List ℕ
 stepsText count = parted (word "steps" ∷ decimal count ∷ [])
 
--- How a run of edits ended, and how many were made: where something was at fault no half is told, whatever the block then is, and else the glitch half of the
--- block as it then is.
+-- How a run of edits ended, and how many were made: where something was at fault no half is told, whatever the block
+-- then is, and else the glitch half of the block as it then is.
 unfoldable pub editsFields : (faulty : Bool) → Finding → List (List ℕ)
 editsFields true glitch = word "faulty" ∷ []
 editsFields false clear = word "clear" ∷ []

@@ -1,5 +1,6 @@
-// The lines that commands print. Each public function puts a text at the front of bytes that have room for it and answers how
-// many bytes the text has: fields parted by one blank, and no line feed, so that words may follow. The bytes beyond are as they were.
+// The lines that commands print. Each public function puts a text at the front of bytes that have room for it and
+// answers how many bytes the text has: fields parted by one blank, and no line feed, so that words may follow.
+// The bytes beyond are as they were. Nothing is printed here, and nothing but those bytes is written to. For `desk`.
 ghost use mathlib.Core.Path.{_≡_};
 ghost use mathlib.Core.List.{_∷_, _++_, map};
 ghost use Prim.Native.Nat.{_+_, _*_, _≤_};
@@ -25,7 +26,8 @@ pub const ROOM: usize = listing_text::MOST_TEXT;
 
 // ---- words and numbers
 
-// Numbers, a blank before each: at most 20 digits a number.
+// Puts numbers behind the first `at` bytes, a blank before each, and answers where the next text goes.
+// A number has at most 20 digits.
 fn put_numbers(text: &mut [u8], at: usize, numbers: &[usize]) -> usize
     requires { ⌜ Room (now text) at (21 * length (now numbers)) ⌝ }
     ensures { λ r. ⌜ Appended (now (text .entry)) (now (text .exit)) at r (behind (map decimal (now (numbers .entry)))) ⌝ }
@@ -40,7 +42,7 @@ fn put_numbers(text: &mut [u8], at: usize, numbers: &[usize]) -> usize
     end
 }
 
-// Words, and numbers behind them.
+// Puts words behind the first `at` bytes and numbers behind them, and answers where the next text goes.
 fn put_fields(text: &mut [u8], at: usize, words: &[u8], numbers: &[usize]) -> usize
     requires { ⌜ Room (now text) at (length (now words) + 21 * length (now numbers)) ⌝ }
     ensures { λ r. ⌜ Appended (now (text .entry)) (now (text .exit)) at r
@@ -89,7 +91,7 @@ fn put_half(text: &mut [u8; ROOM], name: &[u8], half: Half) -> usize
     }
 }
 
-// The half of settled signals, `settled clear` or `settled NODE SET`, and that of glitching ones.
+// The half of settled signals: `settled clear` or `settled NODE SET`.
 pub fn settled_fields(text: &mut [u8; ROOM], answer: Answer) -> usize
     ensures { λ r. ⌜ Appended (now (text .entry)) (now (text .exit)) 0 r (halfText (word "settled") (findingOf (answer .settled))) ⌝ }
     ensures most { λ r. ⌜ r ≤ most-text ⌝ }
@@ -98,6 +100,7 @@ pub fn settled_fields(text: &mut [u8; ROOM], answer: Answer) -> usize
     put_half(text, b"settled", settled)
 }
 
+// The half of glitching signals: `glitch clear` or `glitch NODE SET`.
 pub fn glitch_fields(text: &mut [u8; ROOM], answer: Answer) -> usize
     ensures { λ r. ⌜ Appended (now (text .entry)) (now (text .exit)) 0 r (halfText (word "glitch") (findingOf (answer .glitch))) ⌝ }
     ensures most { λ r. ⌜ r ≤ most-text ⌝ }
@@ -122,8 +125,8 @@ fn put_found(text: &mut [u8; ROOM], found: Found) -> usize
     }
 }
 
-// What a search over pairs found, and how many it looked at: `pairs clear COUNT`, `pairs suspect I J SET COUNT`, `pairs spent COUNT`
-// or `pairs single COUNT`.
+// What a search over pairs found, and how many it looked at: `pairs clear COUNT`, `pairs suspect I J SET COUNT`,
+// `pairs spent COUNT` or `pairs single COUNT`.
 pub fn search_fields(text: &mut [u8; ROOM], search: Search) -> usize
     ensures { λ r. ⌜ Appended (now (text .entry)) (now (text .exit)) 0 r (pairsText (searchedOf search)) ⌝ }
     ensures most { λ r. ⌜ r ≤ most-text ⌝ }
@@ -237,7 +240,8 @@ fn put_ended(text: &mut [u8; ROOM], faulty: bool, glitch: Half) -> usize
     }
 }
 
-// The same, and how many were made: `edits faulty COUNT`, `edits clear COUNT` or `edits suspect NODE SET COUNT`.
+// How a run of edits ended, and how many were made: `edits faulty COUNT`, `edits clear COUNT` or
+// `edits suspect NODE SET COUNT`.
 pub fn edits_fields(text: &mut [u8; ROOM], faulty: bool, answer: Answer, made: usize) -> usize
     ensures { λ r. ⌜ Appended (now (text .entry)) (now (text .exit)) 0 r (editsText faulty (findingOf (answer .glitch)) made) ⌝ }
     ensures most { λ r. ⌜ r ≤ most-text ⌝ }

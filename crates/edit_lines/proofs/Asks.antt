@@ -1,4 +1,5 @@
--- What the words of a line of edits ask for, and whether a comment is stuck to one, as the functions find it. Assumes nothing.
+-- What the words of a line of edits ask for, and whether a comment is stuck to one, as the functions find it.
+-- Assumes nothing.
 use Prim.Native.Nat.{ℕ, zero, suc, _+_, _-_, _≤_, _<_}
 use mathlib.Core.Path.{_≡_, refl, sym, ap, _∙_}
 use mathlib.Core.Bool.{Bool, false, not}

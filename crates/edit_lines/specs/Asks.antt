@@ -1,4 +1,5 @@
--- What a line of edits asks for: `add RECORD`, `remove NODE`, `list`, `write OUT`, `quit`, or nothing; or it is no edit. Assumes nothing.
+-- What a line of edits asks for: `add RECORD`, `remove NODE`, `list`, `write OUT`, `quit`, or nothing;
+-- or it is no edit. Assumes nothing.
 use Prim.Native.Nat.{ℕ}
 use mathlib.Core.Bool.{Bool, true, false, cond, not}
 use mathlib.Core.List.{List, [], _∷_}
@@ -53,7 +54,8 @@ asked (name ∷ behind) =
     (cond (same name (word "list")) (alone lists behind)
     (cond (same name (word "quit")) (alone quits behind) noEdit))))
 
--- Whether a comment is stuck to a word: no blank stands before its `#`. `begun` says whether a word stands right before the line.
+-- Whether a comment is stuck to a word: no blank stands before its `#`. `begun` says whether a word
+-- stands right before the line.
 unfoldable pub stuck : (begun : Bool) (line : List ℕ) → Bool
 stuck begun [] = false
 stuck begun (letter ∷ line) = cond (startsComment letter) begun (stuck (not (isBlank letter)) line)

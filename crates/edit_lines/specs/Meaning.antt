@@ -1,4 +1,5 @@
--- What the cases of the code's answer mean: what the line asks for. Cited by the contracts of this crate. Assumes nothing.
+-- What the cases of the code's answer mean: what the line asks for. Cited by the contracts of this crate.
+-- Assumes nothing.
 use Prim.Native.Nat.{ℕ, _≤_}
 use mathlib.Core.List.{List, [], _∷_}
 use lib.ListN.{take}

@@ -1,4 +1,5 @@
-// A line of edits: what it asks for. Only its form is looked at; whether the edit can be made is for the open block to say.
+// A line of edits: what it asks for. Only its form is looked at; whether the edit can be made is for the open block to
+// say. It touches nothing. `edit_turns` asks it, and with the program `telgouin` does what it answers.
 ghost use mathlib.Core.Path.{_≡_};
 ghost use mathlib.Core.Bool.{true, false};
 ghost use mathlib.Core.List.{List};
@@ -17,9 +18,9 @@ use read_words::is_blank;
 use read_words::is_word;
 use read_words::next_word;
 
-// What a line asks for: nothing; a new node, by the first so many of three bytes; a node to give up; the listing; the block written to the file
-// that a part of the line names; the end of the edits. Or it is no edit: no record of a known form behind `add`, no number behind `remove`, or
-// nothing of that sort at all.
+// What a line asks for: nothing; a new node, by the first so many of three bytes; a node to remove; the listing;
+// the block written to the file that a part of the line names; the end of the edits. Or it is no edit:
+// no record of a known form behind `add`, no number behind `remove`, or nothing of that sort at all.
 pub enum Asked {
     Nothing,
     Add(usize, u8, u8, u8),
@@ -65,7 +66,7 @@ fn added(line: &[u8], at: usize) -> Asked
     }
 }
 
-// A node to give up.
+// A node to remove.
 fn removed(line: &[u8], at: usize) -> Asked
     requires { ⌜ at ≤ length (now line) ⌝ }
     ensures { λ r. ⌜ asksOf r (now (line .entry)) ≡ removal (numberIn (only (words (drop at (now (line .entry)))))) ⌝ }

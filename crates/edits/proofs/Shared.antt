@@ -1,5 +1,6 @@
--- A `&κ mut [T]` that is lent as a `&κ′ [T]` for a lifetime κ′ of a call, and comes back as it was: `sl-reshare` and `sl-reshare-back` of `Borrow/Rule/Slice/Reshare.antt`, where machine values are spelt out.
--- It says nothing of the crate. Assumes `Given`.
+-- A `&κ mut [T]` that is lent as a `&κ′ [T]` for a lifetime κ′ of a call, and comes back as it was: `sl-reshare` and
+-- `sl-reshare-back` of `Borrow/Rule/Slice/Reshare.antt`, where machine values are spelt out. It says nothing of the
+-- crate. Assumes `Given`.
 use mathlib.Core.Path.{refl}
 use Prim.Native.Nat.{ℕ}
 use mathlib.Core.List.{List, [], _∷_}

@@ -1,5 +1,6 @@
--- A text behind the front of a slice: a byte that is stored there is such a text, and two of them, one behind the other, are one. Each function
--- that writes a text is a composition of those that it calls, and an equation between texts. Assumes nothing.
+-- A text behind the front of a slice: a byte that is stored there is such a text, and two of them,
+-- one behind the other, are one. Each function that writes a text is a composition of those that it calls,
+-- and an equation between texts. Assumes nothing.
 use Prim.Native.Nat.{ℕ, _+_, _-_, _≤_, _<_}
 use mathlib.Core.Path.{_≡_, refl, sym, ap, _∙_}
 use mathlib.Core.List.{List, [], _∷_, _++_, append-nil, append-assoc}

@@ -1,7 +1,8 @@
-// Words, numbers and lines of text, first those of the listing: `listing_text`, `desk_text`, `derivations`, `write_bytes`
-// and `write_words` put them together, and `read_words` and `desk` take what a kind of node is called from here. Each function
-// that puts a text puts it behind the first `at` bytes of a slice, or at its front, and answers where the next one goes;
-// its caller shows that there is room. Nothing but that slice is touched.
+// Words, numbers and lines of text, first those of the listing. `listing_text`, `desk_text` and `write_words` put them
+// together, `read_words` and `desk` take from here what a kind of node is called, and each crate that writes behind
+// the front of a slice says so by `Appended`. Each function that puts a text puts it behind the first `at` bytes of a
+// slice, or at its front, and answers where the next one goes; its caller shows that there is room. Nothing but that
+// slice is touched.
 ghost use mathlib.Core.Path.{_≡_};
 ghost use mathlib.Core.List.{[], _∷_, _++_};
 ghost use Prim.Native.Nat.{_+_, _*_, _<_, _≤_};

@@ -1,5 +1,5 @@
--- The forms of a record by their numbers: the rows of the table that the code goes by, and a word that is looked for in it
--- from the front on. Assumes nothing.
+-- The forms of a record by their numbers: the rows of the table that the code goes by, and a word that is looked for in
+-- it from the front on. Assumes nothing.
 use Prim.Native.Nat.{ℕ, zero, suc, _+_, _-_, _≤_, _<_}
 use mathlib.Core.Path.{_≡_, refl}
 use mathlib.Core.Logic.{_⊎_, inl, inr}

@@ -70,7 +70,8 @@ module _ (bytes lines : List ℕ) (k : ℕ) (this : List ℕ) (rest : List (List
   unfolding blockBehind
   by-wrong fault e = rw (e, blockBehind)
 
--- What the text says is said by the bytes and lines so far and the lines from `at` on. These bytes are stored at the front, as far as there is room.
+-- What the text says is said by the bytes and lines so far and the lines from `at` on. These bytes are stored at
+-- the front, as far as there is room.
 pub record Reached (text had before bytes lines : List ℕ) (count line at : ℕ) : Type 0 where
   pub own : List ℕ
   pub so-far : blockIn text before ≡ blockBehind own lines (line + 1) (linesOf (drop at text))

@@ -1,4 +1,5 @@
--- What stands behind a record's word, as the functions test it: how many numbers there are, and what each is. Assumes nothing.
+-- What stands behind a record's word, as the functions test it: how many numbers there are, and what each is.
+-- Assumes nothing.
 use Prim.Native.Nat.{ℕ, zero, suc, _+_, _*_, _/_, _%_, _^_, _≤_, _<_}
 use mathlib.Core.Path.{_≡_, refl, sym, ap}
 use mathlib.Core.Bool.{true, false}

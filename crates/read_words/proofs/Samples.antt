@@ -1,4 +1,5 @@
--- Texts and what they say, computed: block A, every kind of record, and each way in which something else is expected. Assumes nothing.
+-- Texts and what they say, computed: block A, every kind of record, and each way in which something else is expected.
+-- Assumes nothing.
 use mathlib.Core.Path.{_≡_, refl}
 use mathlib.Core.List.{[], _∷_}
 use lib.ListN.{length, replicate}
@@ -8,14 +9,16 @@ use Rattle.read_words.specs.declared.Fault.the-variants as Fault
 use Rattle.read_words.specs.Numbers.{allDigits, valueBehind, numberBehind, numberIn}
 use Rattle.read_words.specs.Words.{closed, linesBehind, linesOf, wordsBehind, words, same, cut, alone, withOperand, withOne, withTwo, withVariables, forms, readBy, recordIn, block, wrongIn, blockBehind, blockIn}
 
--- block A has the bytes that document 01 gives it; with a comment before it and a line of no words in it, its records are in lines 2 to 4 and 6 to 11
+-- block A has the bytes that document 01 gives it; with a comment before it and a line of no words in it,
+-- its records are in lines 2 to 4 and 6 to 11
 block-a : blockIn (word "# block A\nsecret\nmask\nmask\n\nin 0 1  # node 0\nin 1\nin 2\nxor 0 2\nxor 3 1\nend\n") (replicate 24 0)
     ≡ block (1 ∷ 0 ∷ 1 ∷ 1 ∷ 1 ∷ 1 ∷ 2 ∷ 3 ∷ 0 ∷ 2 ∷ 2 ∷ 0 ∷ 2 ∷ 4 ∷ 0 ∷ 4 ∷ 0 ∷ 2 ∷ 4 ∷ 3 ∷ 1 ∷ 0 ∷ [])
     (2 ∷ 0 ∷ 3 ∷ 0 ∷ 4 ∷ 0 ∷ 6 ∷ 0 ∷ 0 ∷ 7 ∷ 0 ∷ 0 ∷ 8 ∷ 0 ∷ 0 ∷ 9 ∷ 0 ∷ 0 ∷ 10 ∷ 0 ∷ 0 ∷ 11 ∷ 0 ∷ 0 ∷ [])
 unfolding blockIn blockBehind linesOf linesBehind closed words wordsBehind recordIn readBy forms word same alone withOperand withOne withTwo withVariables cut numberIn numberBehind allDigits valueBehind recordBytes classByte kindOf operands body
 block-a = refl
 
--- every other kind of record, with tabs, carriage returns, leading zeros and a last line that lacks its line feed; and a text that says nothing
+-- every other kind of record, with tabs, carriage returns, leading zeros and a last line that lacks its line feed;
+-- and a text that says nothing
 other-kinds : (blockIn (word "public\r\n\tin 15 8#9\r\nnot 255\nand 7 007\n  or 1\t2\nreg 10") []
     ≡ block (1 ∷ 2 ∷ 2 ∷ 0 ∷ 129 ∷ 3 ∷ 255 ∷ 5 ∷ 7 ∷ 7 ∷ 6 ∷ 1 ∷ 2 ∷ 7 ∷ 10 ∷ []) [])
     × (blockIn (word "  \n# in 0\n") [] ≡ block [] [])

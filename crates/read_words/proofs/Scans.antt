@@ -1,4 +1,5 @@
--- Where a scan stops, as a loop finds it: at a letter that it stops at, at the end, and else no sooner than one letter further. Assumes nothing.
+-- Where a scan stops, as a loop finds it: at a letter that it stops at, at the end, and else no sooner than
+-- one letter further. Assumes nothing.
 use Prim.Native.Nat.{ℕ, _+_, _≤_, _<_}
 use mathlib.Core.Path.{_≡_}
 use mathlib.Core.Bool.{Bool, true, false}

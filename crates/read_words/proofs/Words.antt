@@ -1,4 +1,5 @@
--- The words of a line from a place on, as a loop takes them: one that two scans find, and those behind it. Assumes nothing.
+-- The words of a line from a place on, as a loop takes them: one that two scans find, and those behind it.
+-- Assumes nothing.
 use Prim.Native.Nat.{ℕ, _+_, _-_, _≤_, _<_}
 use mathlib.Core.Path.{_≡_, refl, sym, ap, _∙_}
 use mathlib.Core.Bool.{Bool, true, false, _&&_, false≢true, or-true}

@@ -1,4 +1,5 @@
--- What the answers of this crate's functions tell of a line and of a text. Cited by the contracts of this crate. Assumes nothing.
+-- What the answers of this crate's functions tell of a line and of a text. Cited by the contracts of this crate.
+-- Assumes nothing.
 use Prim.Native.Nat.{ℕ, _≤_, min, max}
 use mathlib.Core.Path.{_≡_}
 use mathlib.Core.List.{List, [], _∷_, _++_}
@@ -41,7 +42,8 @@ lineOf (says r) =
     Line.Record (length bytes) (getD bytes 0 0) (getD bytes 1 0) (getD bytes 2 0)
 lineOf (wrong fault) = Line.Wrong fault
 
--- a line says a record, whose bytes are the first n of those that were stored, with 0 behind them; a record has at most three
+-- a line says a record, whose bytes are the first n of those that were stored, with 0 behind them;
+-- a record has at most three
 pub record IsRecord (said : Said) (n : ℕ) (bytes : List ℕ) : Type 0 where
   pub own : Record
   pub is : said ≡ says own
@@ -51,7 +53,8 @@ pub record IsRecord (said : Said) (n : ℕ) (bytes : List ℕ) : Type 0 where
       bytes ≡ getD b 0 0 ∷ getD b 1 0 ∷ getD b 2 0 ∷ []
   pub few : n ≤ 3
 
--- the answer for a line, with the bytes before and those that were stored; where there is no record, they are as they were
+-- the answer for a line, with the bytes before and those that were stored; where there is no record,
+-- they are as they were
 abbrev pub TellsRecord : Worded → (before bytes : List ℕ) → Said → Type 0
 TellsRecord Worded.Nothing before bytes said = (said ≡ nothing) × (bytes ≡ before)
 TellsRecord (Worded.Bytes n) before bytes said = IsRecord said n bytes
@@ -63,8 +66,8 @@ TellsRecord (Worded.Wrong fault) before bytes said = (said ≡ wrong fault) × (
 abbrev pub stored : (own before : List ℕ) → List ℕ
 stored own before = let n = min (length own) (length before) in take n own ++ drop n before
 
--- A text says a block, whose bytes were stored: all n of them, or 1,024 of more. The lines of its records were stored too, and `last` is how many lines
--- the text has, or 1 if it has none.
+-- A text says a block, whose bytes were stored: all n of them, or 1,024 of more. The lines of its records were stored
+-- too, and `last` is how many lines the text has, or 1 if it has none.
 pub record IsBlock (said : BlockSaid) (text : List ℕ) (n last : ℕ) (before bytes lines : List ℕ) : Type 0 where
   pub own : List ℕ
   pub is : said ≡ block own lines

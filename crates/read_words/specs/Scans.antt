@@ -1,4 +1,5 @@
--- Where a scan of a text stops, and where the next word of a line is. Cited by the contracts of this crate. Assumes nothing.
+-- Where a scan of a text stops, and where the next word of a line is. Cited by the contracts of this crate.
+-- Assumes nothing.
 use Prim.Native.Nat.{ℕ, suc, _-_, _≤_}
 use mathlib.Core.Path.{_≡_}
 use mathlib.Core.Bool.{Bool, not, cond, _||_}

@@ -1,5 +1,5 @@
--- Blocks in words: what a text says, a record to a line. Only the form of each line is judged here; whether the records obey the rules is in
--- `Checks` of the rules. Assumes nothing.
+-- Blocks in words: what a text says, a record to a line. Only the form of each line is judged here; whether the records
+-- obey the rules is in `Checks` of the rules. Assumes nothing.
 use Prim.Native.Nat.{ℕ, suc, _+_, _/_, _^_, min}
 use mathlib.Core.Bool.{Bool, true, false, cond, _&&_, _||_}
 use mathlib.Core.List.{List, [], _∷_, _++_}
@@ -119,8 +119,8 @@ recordIn (name ∷ numbers) = readBy forms name numbers
 
 -- ---- the block of a text
 
--- What a text says: the bytes of its records, and at the offset of each kind byte the line of its record, in a list that held something
--- before; or in which line something else was expected, and what the lines before it say.
+-- What a text says: the bytes of its records, and at the offset of each kind byte the line of its record, in a list
+-- that held something before; or in which line something else was expected, and what the lines before it say.
 pub data BlockSaid : Type 0 where
   block : (bytes lines : List ℕ) → BlockSaid
   wrongIn : Fault → (line : ℕ) (bytes lines : List ℕ) → BlockSaid

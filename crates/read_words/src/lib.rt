@@ -301,10 +301,9 @@ fn binary_record(numbers: &[u8], kind: u8) -> Line
     Line::Record(3, kind, first as u8, second as u8)
 }
 
-// ---- the forms of a record, by their numbers: 0 is the end, 1 to 3 are a variable of class 0 to 2, and 4 to 9 a node of
-// kind 2 to 7
+// ---- the forms of a record, by their numbers
 
-// How many forms there are.
+// How many there are: 0 is the end, 1 to 3 are a variable of class 0 to 2, and 4 to 9 a node of kind 2 to 7.
 const FORMS: u8 = 10;
 
 // The word of a form; a number that is no form's has no letters.
@@ -376,8 +375,8 @@ fn record_by(form: u8, numbers: &[u8]) -> Line
     }
 }
 
-// The record that a line says, without its line feed: no words, so many bytes at the front of `bytes` with 0 behind them,
-// or what was expected instead. Where there is no record, `bytes` is as it was.
+// The record that a line says, without its line feed: no words, so many bytes at the front of `bytes` with 0 behind
+// them, or what was expected instead. Where there is no record, `bytes` is as it was.
 pub fn record_of(line: &[u8], bytes: &mut [u8; 3]) -> Worded
     ensures { λ r. ⌜ TellsRecord r (now (bytes .entry)) (now (bytes .exit)) (recordIn (words (now (line .entry)))) ⌝ }
 {
@@ -450,10 +449,10 @@ fn put_record(bytes: &mut [u8], at: usize, own: [u8; 3], size: usize) -> usize
     lower(at + size, bytes.len())
 }
 
-// The block that a text says: how many bytes it has, those beyond 1,024 left out, and how many lines the text has, at
-// least 1; or what was expected instead, and in which line. `lines[k]` is the line of the record whose kind byte is at
-// offset `k` of the block. Where something else was expected, both arrays hold what the lines before it say. All else in
-// them is as it was.
+// The block that a text says: how many bytes it has, those beyond 1,024 left out, and how many lines the text has,
+// at least 1; or what was expected instead, and in which line. `lines[k]` is the line of the record whose kind byte
+// is at offset `k` of the block. Where something else was expected, both arrays hold what the lines before it say.
+// All else in them is as it was.
 pub fn block_of(
     text: &[u8],
     bytes: &mut [u8; MOST_BLOCK],

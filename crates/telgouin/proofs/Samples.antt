@@ -16,11 +16,13 @@ names
 unfolding hasWords same word
 names = (refl, refl, refl, refl, refl)
 
--- a block of bytes has no line; refusal 8, that there is no end record, has the last one; another has that of its place, and the last one behind them
+-- a block of bytes has no line; refusal 8, that there is no end record, has the last one; another has that of its place, and the last one behind them;
+-- refusal 12, of a query, has none
 lines-told
     : (lineIn 7 1 (3 ∷ 5 ∷ []) 0 ≡ 0)
     × (lineIn 8 1 (3 ∷ 5 ∷ []) 9 ≡ 9)
     × (lineIn 7 1 (3 ∷ 5 ∷ []) 9 ≡ 5)
     × (lineIn 7 2 (3 ∷ 5 ∷ []) 9 ≡ 9)
+    × (lineIn 12 1 (3 ∷ 5 ∷ []) 9 ≡ 0)
 unfolding lineIn
-lines-told = (refl, refl, refl, refl)
+lines-told = (refl, refl, refl, refl, refl)

@@ -1,9 +1,9 @@
 -- What is known of arguments and files once they are read. Cited by the contracts of this program. Assumes nothing.
 use Prim.Native.Nat.{ℕ, _-_, _≤_, _<_}
 use mathlib.Core.Path.{_≡_}
-use mathlib.Core.Bool.{Bool, cond}
+use mathlib.Core.Bool.{Bool, cond, _||_}
 use mathlib.Core.List.{List}
-use lib.Dec.{eqb}
+use lib.Dec.{eqb, ltb}
 use lib.ListN.{length, getD, drop}
 use Rattle.io.specs.Counts.{Counts}
 use Rattle.rules.specs.Listing.{word, most-input}
@@ -45,7 +45,7 @@ AsBytes ReadBlock.None = Unit {0}
 unfoldable pub hasWords : (name : List ℕ) → Bool
 hasWords name = same (drop (length name - 4) name) (word ".txt")
 
--- The line that a refused record stands on: none of a block that is given as bytes, the last one where there is no end record, and else that of the
--- record at the place.
+-- The line that a refused record stands on: none of a block that is given as bytes, and none of a refusal that is of no record; the last one where there
+-- is no end record, and else that of the record at the place.
 unfoldable pub lineIn : (number place : ℕ) (lines : List ℕ) (last : ℕ) → ℕ
-lineIn number place lines last = cond (eqb last 0) 0 (cond (eqb number 8) last (getD lines place last))
+lineIn number place lines last = cond (eqb last 0 || ltb 9 number) 0 (cond (eqb number 8) last (getD lines place last))

@@ -220,15 +220,16 @@ pub fn read_block(
     read_bytes(STDIN_FILENO, &path[..length], bytes)
 }
 
-// The line of a text in words that a refused record stands on, where the text has so many lines; 0 for a block that is given as bytes. With no
-// end record it is the last line.
+// The line of a text in words that a refused record stands on, where the text has so many lines: with no end record it is the last line. 0 for a block
+// that is given as bytes, and for a refusal that is of no record, from 10 on.
 pub fn line_of(refusal: Refusal, lines: &[usize; MOST_BLOCK], last: usize) -> usize
     ensures { λ r. ⌜ r ≡ lineIn (numberOf refusal) (placeOf refusal) (now (lines .entry)) last ⌝ }
 {
-    if last == 0 {
+    let number = refusals::number_of(refusal);
+    if (last == 0) | (number > 9) {
         return 0;
     }
-    if refusals::number_of(refusal) == 8 {
+    if number == 8 {
         return last;
     }
     let all: &[usize] = lines;

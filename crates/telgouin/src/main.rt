@@ -1,9 +1,14 @@
-// The designer's desk: one program for what the library can do. `telgouin help` tells what it takes and prints.
+// The designer's desk: one program for what the library can do. `telgouin help` tells what it takes and prints. This file reads the command, `files` the
+// numbers and the block, `editing` runs edits, and the crate `desk` prints. A block is examined once, and what was found of it is handed on. Reads
+// the file that is named and standard input, and writes to standard output, to standard error and to the files that edits name.
 mod editing;
 mod files;
 
 ghost use Prim.Native.Nat.{_≤_};
 ghost use Rattle.rules.specs.Listing.{most-input};
+ghost use Rattle.derivations.specs.Written.{Known};
+ghost use Rattle.desk.specs.Examined.{Seen};
+use checker::Examined;
 use desk::ask;
 use desk::help;
 use desk::picture;
@@ -14,12 +19,15 @@ use desk::search;
 use desk::why;
 use files::MOST_NUMBERS;
 use files::ReadBlock;
-use netlists::Netlist;
 use read_words::MOST_BLOCK;
 use read_words::is_word;
+use rules::Answer;
+use rules::MOST_NODES;
+use rules::MOST_WORK;
 use rules::QueryOutcome;
+use rules::Reply;
 
-// The commands.
+// The commands; none where the first argument is no command's word.
 enum Command {
     List,
     Pairs,
@@ -33,6 +41,7 @@ enum Command {
     None,
 }
 
+// The command of a word.
 fn command_of(word: &[u8]) -> Command {
     if is_word(word, b"list") {
         return Command::List;
@@ -80,6 +89,7 @@ fn takes(command: Command, behind: usize) -> bool {
     }
 }
 
+// Prints what a command takes.
 fn say_usage(command: Command) {
     say(b"expected ./telgouin ");
     match command {
@@ -96,42 +106,77 @@ fn say_usage(command: Command) {
     }
 }
 
-// A command over a block that obeys the record rules, with so many numbers.
-fn obey(
+// Obeys a command over a whole block that was examined and got this answer, with so many numbers. The work bytes hold the block's families.
+fn obey_examined(
     command: Command,
-    bytes: &[u8],
-    netlist: Netlist,
+    examined: Examined,
+    answer: Answer,
+    work: &mut [u8; MOST_WORK],
     numbers: [usize; MOST_NUMBERS],
     count: usize,
-) {
+)
+    requires { ⌜ Seen examined (now work) × Known (examined .netlist) (now work) ⌝ }
+{
+    let netlist = examined.netlist;
+    let marks = examined.marks;
     match command {
-        Command::List => ask::list(bytes),
+        Command::List => ask::list_held(answer, netlist, work),
         Command::Pairs => {
-            let classes = netlist.classes;
             if count == 0 {
-                search::pairs(bytes, classes, usize::MAX);
+                search::pairs(examined, work, usize::MAX);
             } else {
-                search::pairs(bytes, classes, numbers[0]);
+                search::pairs(examined, work, numbers[0]);
             }
         }
         Command::Why => {
             if count == 0 {
-                why::why_first(bytes, netlist);
+                why::why_first(answer, netlist, work);
             } else {
-                why::why(bytes, netlist, numbers[0], numbers[1], numbers[2]);
+                why::why(netlist, work, numbers[0], numbers[1], numbers[2]);
             }
         }
-        Command::Value => ask::value(bytes, numbers[0], numbers[1]),
-        Command::Feeding => ask::feeding(bytes, numbers[0]),
-        Command::Member => ask::member(bytes, numbers[0], numbers[1]),
-        Command::Edit => editing::edit(bytes),
-        Command::Picture => picture::picture(bytes, netlist),
-        Command::Help => {}
-        Command::None => {}
+        Command::Edit => editing::edit(examined, work),
+        Command::Picture => picture::picture(answer, netlist, marks, work),
+        _ => {}
     }
 }
 
-// Whether standard input has the edits.
+// Examines the block that these bytes are, and obeys a command over it, with so many numbers. A block that is refused is left to the caller to print.
+fn examine(
+    command: Command,
+    bytes: &[u8],
+    numbers: [usize; MOST_NUMBERS],
+    count: usize,
+) -> QueryOutcome {
+    let mut work = [0u8; MOST_WORK];
+    let examined = checker::examine(bytes, MOST_NODES, &mut work);
+    let reply = examined.reply;
+    match reply {
+        Reply::Refused(refusal) => QueryOutcome::Refused(refusal),
+        Reply::Answered(answer) => {
+            obey_examined(command, examined, answer, &mut work, numbers, count);
+            QueryOutcome::Answered
+        }
+    }
+}
+
+// Obeys a command over the block that these bytes are, with so many numbers: the queries read it for themselves, and for all others it is examined. Where
+// the block is refused, or a query of it, nothing is printed.
+fn obey(
+    command: Command,
+    bytes: &[u8],
+    numbers: [usize; MOST_NUMBERS],
+    count: usize,
+) -> QueryOutcome {
+    match command {
+        Command::Value => ask::value(bytes, numbers[0], numbers[1]),
+        Command::Feeding => ask::feeding(bytes, numbers[0]),
+        Command::Member => ask::member(bytes, numbers[0], numbers[1]),
+        _ => examine(command, bytes, numbers, count),
+    }
+}
+
+// Whether a command reads edits from standard input, so that the block cannot stand there.
 fn has_edits(command: Command) -> bool {
     match command {
         Command::Edit => true,
@@ -139,8 +184,8 @@ fn has_edits(command: Command) -> bool {
     }
 }
 
-// A command over a block in so many bytes, with so many numbers. A block that is refused gets its refusal from every command, with the line that
-// the record stands on where it is in words.
+// Obeys a command over the block that the first `length` bytes are, with so many numbers, and prints the refusal where there is one: a block that is refused
+// gets it from every command, with the line that the record stands on where its text has lines.
 fn run_block(
     command: Command,
     block: &[u8; MOST_BLOCK],
@@ -154,18 +199,14 @@ fn run_block(
 {
     let whole: &[u8] = block;
     let bytes = &whole[..length];
-    let file = netlists::read(bytes);
-    let outcome = file.outcome;
-    let netlist = file.netlist;
-    match outcome {
-        QueryOutcome::Refused(refusal) => {
-            say_refused(refusal, files::line_of(refusal, lines, last));
-        }
-        QueryOutcome::Answered => obey(command, bytes, netlist, numbers, count),
+    let outcome = obey(command, bytes, numbers, count);
+    if let QueryOutcome::Refused(refusal) = outcome {
+        say_refused(refusal, files::line_of(refusal, lines, last));
     }
 }
 
-// A command over the file that is named, with so many numbers behind it.
+// Obeys a command over the block of the file that is named, with so many numbers behind it. Where they are no numbers, or where the file has no block, what
+// was expected is printed.
 fn run(command: Command, count: usize) {
     let mut numbers = [0usize; MOST_NUMBERS];
     if !files::take_numbers(&mut numbers, count) {
@@ -181,7 +222,7 @@ fn run(command: Command, count: usize) {
     }
 }
 
-// No command, or none of these.
+// Prints which commands there are, and what stands in their place where there are arguments.
 fn no_command(word: &[u8], words: usize) {
     say(b"expected a command: list, pairs, why, value, feeding, member, edit, picture or help");
     if words > 1 {

@@ -1,5 +1,5 @@
-// A trial of `open` and of `edit` over node records by value, of which the first are lent, as `test_trial` has it for `check`. Touches
-// nothing but what it is given. For the test programs and the benchmark.
+// A trial of `open` and of `edit` over node records by value, of which the first are lent, as `test_trial` has it for
+// `check`. Touches nothing but what it is given. For the test programs and the benchmark.
 ghost use mathlib.Core.Path.{_≡_};
 ghost use mathlib.Core.List.{_++_};
 ghost use Prim.Native.Nat.{min};
@@ -48,8 +48,9 @@ pub fn open_over(
     }
 }
 
-// Edits an open block over the same. Where the lent entries and `work` hold its node records and families, the reply, the state, the lent
-// entries and `work` are then as `edits::edit` gives them, and the entries behind stay as they were.
+// Edits an open block over the same. Where the lent entries and `work` hold its node records and families, the reply,
+// the state, the lent entries and `work` are then as `edits::edit` gives them, and the entries behind stay as they
+// were.
 pub fn edit_over(
     state: State,
     edit: Edit,

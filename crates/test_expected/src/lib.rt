@@ -1,8 +1,10 @@
-// What a check of a block is to give, as the second checker sees it: the refusal or the answer, the node records with their marks, the families
-// in the work bytes, and what a search over pairs finds; and how long the lent slices are, and the limit on pairs. For test programs.
-use rules::Answer;
+// What a check of a block is to give, as the second checker sees it: the refusal or the answer, the node records with
+// their marks, the families in the work bytes, and what a search over pairs finds; and how long the lent slices are, and
+// the limit on pairs. It uses the record types and the refusals' numbers, and no part of the checker. For the test
+// programs `test_random_blocks` and `test_random_edits`.
 use rules::Half;
 use rules::NodeRecord;
+use rules::Reply;
 use std::num::wrapping_add_usize;
 use test_generator::least;
 use test_generator::next;
@@ -17,7 +19,6 @@ use test_second_checker::first_suspect;
 use test_second_checker::length_of;
 use test_second_checker::number_if;
 use test_second_checker::set_at;
-use test_tools::one_if;
 use test_tools::same_record;
 
 pub mod written;
@@ -62,25 +63,30 @@ pub fn lengths_for(seed: u32, nodes: usize) -> Lent {
     }
 }
 
-// What a check of a block is refused with.
-pub fn expected_check(block: SecondBlock, lent: Lent) -> Expected {
-    let needed = block.count % 256 * 256;
-    if block.fault > 0 {
-        return Expected {
-            number: block.fault,
-            place: block.start,
-        };
-    }
-    if lent.entries < block.count {
+// The refusal of slices that are to hold so many nodes, if they are too short.
+pub fn slices(nodes: usize, lent: Lent) -> Expected {
+    let needed = nodes % 256 * 256;
+    if lent.entries < nodes {
         return Expected {
             number: 10,
-            place: block.count,
+            place: nodes,
         };
     }
     Expected {
         number: number_if(lent.work < needed, 11),
         place: needed,
     }
+}
+
+// What a check of a block is refused with.
+pub fn expected_check(block: SecondBlock, lent: Lent) -> Expected {
+    if block.fault > 0 {
+        return Expected {
+            number: block.fault,
+            place: block.start,
+        };
+    }
+    slices(block.count, lent)
 }
 
 // A half as the second checker gives it.
@@ -96,14 +102,48 @@ pub fn half_number(half: Half) -> usize {
     }
 }
 
-// Whether an answer has the block's counts and the second checker's suspects.
-pub fn same_answer(answer: Answer, block: SecondBlock, settled: usize, glitch: usize) -> bool {
-    let settled_half = answer.settled;
-    let glitch_half = answer.glitch;
-    (answer.variables == block.variables)
-        & (answer.nodes == block.count)
-        & (half_number(settled_half) == settled)
-        & (half_number(glitch_half) == glitch)
+// A reply in numbers: a refusal's number and place, or 0 with the counts and halves of the answer.
+pub type Numbers = [usize; 5];
+
+pub fn reply_numbers(reply: Reply) -> Numbers {
+    match reply {
+        Reply::Refused(refusal) => [
+            refusals::number_of(refusal),
+            refusals::place_of(refusal),
+            0,
+            0,
+            0,
+        ],
+        Reply::Answered(answer) => {
+            let settled = answer.settled;
+            let glitch = answer.glitch;
+            [
+                0,
+                answer.variables,
+                answer.nodes,
+                half_number(settled),
+                half_number(glitch),
+            ]
+        }
+    }
+}
+
+// The reply that is to come, where a check of the block is to be refused so, or answered.
+pub fn expected_numbers(expected: Expected, block: SecondBlock, store: &Store) -> Numbers {
+    if expected.number > 0 {
+        return [expected.number, expected.place, 0, 0, 0];
+    }
+    [
+        0,
+        block.variables,
+        block.count,
+        first_suspect(block, store, 0),
+        first_suspect(block, store, 1),
+    ]
+}
+
+pub fn same_numbers(a: Numbers, b: Numbers) -> bool {
+    (a[0] == b[0]) & (a[1] == b[1]) & (a[2] == b[2]) & (a[3] == b[3]) & (a[4] == b[4])
 }
 
 // ---- node records
@@ -119,8 +159,8 @@ pub fn same_entries(a: [NodeRecord; 200], b: [NodeRecord; 200], written: usize) 
     same
 }
 
-// How many nodes are marked for settled signals, for glitching ones, and for these alone; how many have two marks that differ; and how many
-// registers are marked.
+// How many nodes are marked for settled signals, for glitching ones, and for these alone; how many have two marks that
+// differ; and how many registers are marked.
 pub struct Marked {
     pub settled: usize,
     pub glitch: usize,
@@ -135,14 +175,14 @@ fn with_marks(marked: Marked, held: NodeRecord) -> Marked {
     let settled = held.settled != 0;
     let glitch = held.glitch != 0;
     Marked {
-        settled: wrapping_add_usize(marked.settled, one_if(settled)),
-        glitch: wrapping_add_usize(marked.glitch, one_if(glitch)),
-        glitch_alone: wrapping_add_usize(marked.glitch_alone, one_if(glitch & !settled)),
+        settled: wrapping_add_usize(marked.settled, number_if(settled, 1)),
+        glitch: wrapping_add_usize(marked.glitch, number_if(glitch, 1)),
+        glitch_alone: wrapping_add_usize(marked.glitch_alone, number_if(glitch & !settled, 1)),
         unlike: wrapping_add_usize(
             marked.unlike,
-            one_if(glitch & settled & (held.settled != held.glitch)),
+            number_if(glitch & settled & (held.settled != held.glitch), 1),
         ),
-        registers: wrapping_add_usize(marked.registers, one_if(glitch & (node.kind == 7))),
+        registers: wrapping_add_usize(marked.registers, number_if(glitch & (node.kind == 7), 1)),
     }
 }
 
@@ -179,7 +219,8 @@ fn take_out(work: &mut Work, store: &Store, list: usize) {
     }
 }
 
-// Whether the families in the work bytes of an answered block are not the lists: with all sets of the lists taken out, a bit is left.
+// Whether the families in the work bytes of an answered block are not the lists: with all sets of the lists taken out,
+// a bit is left.
 pub fn families_differ(work: &mut Work, store: &Store, count: usize) -> bool {
     let mut list = 0;
     while list < LISTS {
@@ -210,7 +251,8 @@ pub const SPENT: usize = 3;
 
 pub const NOTHING_TO_LOOK_AT: usize = 4;
 
-// A search as the second checker has it: the first suspect node and pair, and what is found and looked at under a limit.
+// A search as the second checker has it: the first suspect node and pair, and what is found and looked at under a
+// limit.
 pub struct Sought {
     pub single: usize,
     pub first: FirstPair,

@@ -1,13 +1,15 @@
-// What an edit of an open block is to come to, by the written-out bytes of the block: a new record is read behind those of the block, by the
-// reader that stops at the first fault; a node is given up by leaving out its record and lowering the operands behind it.
+// What an edit of an open block is to come to, by the written-out bytes of the block: a new record is read behind those
+// of the block, by the reader that stops at the first fault; a node is removed by leaving out its record and lowering
+// the operands behind it.
 ghost use Prim.Native.Nat.{_≤_};
 use crate::Expected;
 use crate::Lent;
+use crate::slices;
 use test_generator::Made;
 use test_generator::least;
-use test_second_checker::BODIES;
 use test_second_checker::NONE;
 use test_second_checker::SecondBlock;
+use test_second_checker::body_of;
 use test_second_checker::number_if;
 use test_second_checker::read;
 
@@ -17,7 +19,7 @@ pub struct Written {
     pub length: usize,
 }
 
-// What is written out of a block that was made; and its bytes.
+// A block that was made, as it is written out.
 pub fn written_of(made: Made) -> Written {
     let bytes = test_generator::bytes_of(made);
     Written {
@@ -26,6 +28,7 @@ pub fn written_of(made: Made) -> Written {
     }
 }
 
+// The bytes of a block that is written out.
 pub fn bytes_of(written: Written) -> [u8; 1024] {
     written.bytes
 }
@@ -34,28 +37,6 @@ pub fn bytes_of(written: Written) -> [u8; 1024] {
 pub struct Changed {
     pub expected: Expected,
     pub written: Written,
-}
-
-// How many bytes a record of this kind has.
-fn size_of(kind: u8) -> usize
-    ensures { λ r. ⌜ r ≤ 8 ⌝ }
-{
-    1 + (BODIES >> ((kind % 8) as usize * 3)) % 8
-}
-
-// The refusal of slices that are to hold so many nodes, if they are too short.
-fn slices(nodes: usize, lent: Lent) -> Expected {
-    let needed = nodes % 256 * 256;
-    if lent.entries < nodes {
-        return Expected {
-            number: 10,
-            place: nodes,
-        };
-    }
-    Expected {
-        number: number_if(lent.work < needed, 11),
-        place: needed,
-    }
 }
 
 // The block with the first `size` bytes of a record in place of its end, and an end behind them if there are so many.
@@ -92,7 +73,7 @@ pub fn added(written: Written, nodes: usize, bytes: &[u8], lent: Lent) -> Change
         expected.number = 1;
         return Changed { expected, written };
     }
-    let size = size_of(kind);
+    let size = 1 + body_of(kind);
     let longer = with_record(written, bytes, size);
     let block = block_of(longer);
     expected.number = block.fault;
@@ -108,12 +89,12 @@ pub fn added(written: Written, nodes: usize, bytes: &[u8], lent: Lent) -> Change
     }
 }
 
-// A walk over the records of a block that leaves out one node: the offset of the next record, the number of the next node, the lowest node
-// so far that names the one to go, and the bytes so far.
+// A walk over the records of a block that leaves out one node: the offset of the next record, the number of the next
+// node, the lowest node so far that uses the one to go, and the bytes so far.
 struct Walk {
     at: usize,
     number: usize,
-    naming: usize,
+    user: usize,
     bytes: [u8; 1024],
     length: usize,
 }
@@ -129,8 +110,8 @@ fn lower(operand: u8, node: usize) -> u8 {
     operand
 }
 
-// Whether a record of this kind with these two bytes behind it names a node.
-fn names(kind: u8, first: u8, second: u8, node: usize) -> bool {
+// Whether a record of this kind with these two bytes behind it uses a node.
+fn uses(kind: u8, first: u8, second: u8, node: usize) -> bool {
     let two = (kind > 3) & (kind < 7);
     (kind > 2) & ((first as usize == node) | (two & (second as usize == node)))
 }
@@ -145,10 +126,10 @@ fn past(walk: Walk, written: Written, node: usize) -> Walk {
     let kind = written.bytes[at];
     let first = written.bytes[at + 1];
     let second = written.bytes[at + 2];
-    let size = size_of(kind);
+    let size = 1 + body_of(kind);
     let gate = kind > 2;
-    if names(kind, first, second, node) & (walk.naming == NONE) {
-        next.naming = walk.number;
+    if uses(kind, first, second, node) & (walk.user == NONE) {
+        next.user = walk.number;
     }
     next.at = at + size;
     next.number = walk.number % 256 + number_if(kind > 1, 1);
@@ -167,12 +148,12 @@ fn past(walk: Walk, written: Written, node: usize) -> Walk {
     next
 }
 
-// A node of a block of so many nodes given up.
+// A node removed from a block of so many nodes.
 pub fn removed(written: Written, nodes: usize, node: usize, lent: Lent) -> Changed {
     let mut walk = Walk {
         at: 0,
         number: 0,
-        naming: NONE,
+        user: NONE,
         bytes: [0; 1024],
         length: 0,
     };
@@ -188,10 +169,10 @@ pub fn removed(written: Written, nodes: usize, node: usize, lent: Lent) -> Chang
             place: node,
         };
     }
-    if (expected.number == 0) & (walk.naming != NONE) {
+    if (expected.number == 0) & (walk.user != NONE) {
         expected = Expected {
             number: 14,
-            place: walk.naming,
+            place: walk.user,
         };
     }
     let bytes = walk.bytes;

@@ -1,42 +1,83 @@
-// Blocks at random, from a fixed generator: valid ones, and ones with a fault. For test programs.
+// Blocks at random, from a fixed generator: valid ones, and ones with a fault. It uses nothing of the product, so that
+// what it makes owes nothing to what is tested. For the test programs `test_random_*`.
 ghost use mathlib.Core.Path.{_≡_};
 ghost use Prim.Native.Nat.{_<_, min};
 
+// The lesser of two numbers.
 pub fn least(a: usize, b: usize) -> usize
     ensures { λ r. ⌜ r ≡ min a b ⌝ }
 {
     if a < b { a } else { b }
 }
 
-// How a block is made: from which state, how many variables it declares and how many its sets may have, its nodes, the mix of their
-// kinds, and how far below a node its operands may be. `open` is how many of its variables, from variable 0 on, are secret and public by
-// turns, with masks behind them; where it is 0, any variable may be of any class.
+// A mix of kinds, of which each node gets one: every kind alike; more registers and XORs, as in masked blocks; no
+// registers; more registers and inputs; mostly registers and XORs; gates of two operands alone; and XORs, with a
+// register and a NOT now and then.
+pub enum Mix {
+    Even,
+    Masked,
+    Dense,
+    Registered,
+    Long,
+    Gates,
+    Xors,
+}
+
+// How a block is made: from which state, how many variables it declares and how many its sets may have, its nodes,
+// the mix of their kinds, and how far below a node its operands may be. `open` is how many of its variables, from
+// variable 0 on, are secret and public by turns, with masks behind them; where it is 0, any variable may be of any
+// class.
 pub struct Shape {
     pub seed: u32,
     pub variables: usize,
     pub labels: usize,
     pub nodes: usize,
-    pub mix: usize,
+    pub mix: Mix,
     pub near: usize,
     pub open: usize,
 }
 
-// The mixes, as twelve octal digits, a kind each: every kind alike, more registers and XORs as in masked blocks, no registers, more
-// registers and inputs, mostly registers and XORs, and gates of two operands alone. In all but the first and the third, inputs are masked.
-pub const EVEN: usize = 0o765432765432;
+// A shape in which sets have any declared variables, operands are any nodes below, and variables of any class.
+pub fn plain(seed: u32, variables: usize, nodes: usize, mix: Mix) -> Shape {
+    Shape {
+        seed,
+        variables,
+        labels: variables,
+        nodes,
+        mix,
+        near: 256,
+        open: 0,
+    }
+}
 
-pub const MASKED: usize = 0o777765444322;
+// The masked mix, but another one once in n times.
+pub fn masked_or(mix: Mix, n: usize, seed: u32) -> Mix {
+    if pick(seed, n) > 0 {
+        return Mix::Masked;
+    }
+    mix
+}
 
-pub const DENSE: usize = 0o665544444322;
+// The kinds of a mix, each as often as a node is to get it in twelve.
+fn kinds_of(mix: Mix) -> [u8; 12] {
+    match mix {
+        Mix::Even => [2, 3, 4, 5, 6, 7, 2, 3, 4, 5, 6, 7],
+        Mix::Masked => [2, 2, 3, 4, 4, 4, 5, 6, 7, 7, 7, 7],
+        Mix::Dense => [2, 2, 3, 4, 4, 4, 4, 4, 5, 5, 6, 6],
+        Mix::Registered => [2, 2, 2, 3, 4, 5, 6, 7, 7, 7, 7, 7],
+        Mix::Long => [2, 3, 4, 4, 4, 4, 7, 7, 7, 7, 7, 7],
+        Mix::Gates => [4, 5, 6, 4, 5, 6, 4, 4, 5, 5, 6, 6],
+        Mix::Xors => [3, 4, 4, 4, 4, 4, 4, 4, 4, 4, 4, 7],
+    }
+}
 
-pub const REGISTERED: usize = 0o777776543222;
-
-pub const LONG: usize = 0o777777444432;
-
-pub const GATES: usize = 0o665544654654;
-
-// Classes of variables, as eight octal digits: mostly masks.
-const CLASSES: usize = 0o11111120;
+// Whether every input of a mix is to have a variable other than variable 0, mostly a mask.
+fn has_masked_inputs(mix: Mix) -> bool {
+    match mix {
+        Mix::Even | Mix::Dense => false,
+        _ => true,
+    }
+}
 
 // A block as far as it is made, and the state after it. There is room for the longest one, with what a fault may add.
 pub struct Made {
@@ -45,6 +86,7 @@ pub struct Made {
     bytes: [u8; 1024],
 }
 
+// The bytes of a block that is made.
 pub fn bytes_of(made: Made) -> [u8; 1024] {
     made.bytes
 }
@@ -54,7 +96,8 @@ pub fn next(seed: u32) -> u32 {
     (((seed as u64) * 1664525 + 1013904223) % 4294967296) as u32
 }
 
-// A number below n that a state stands for, or 0 where n is 0. The upper half of the state serves, whose period is long.
+// A number below n that a state stands for, or 0 where n is 0. The upper half of the state serves, whose period is
+// long.
 pub fn pick(seed: u32, n: usize) -> usize
     ensures { λ r. ⌜ r < 65536 ⌝ }
 {
@@ -64,7 +107,7 @@ pub fn pick(seed: u32, n: usize) -> usize
     ((seed / 65536) as usize) % n
 }
 
-// The class of a variable.
+// The class of a variable; mostly it is a mask.
 fn class_of(open: usize, v: usize, seed: u32) -> u8 {
     if v < open {
         return (v % 2 * 2) as u8;
@@ -72,7 +115,11 @@ fn class_of(open: usize, v: usize, seed: u32) -> u8 {
     if open > 0 {
         return 1;
     }
-    ((CLASSES >> (pick(seed, 8) % 8 * 3)) % 8) as u8
+    match pick(seed, 8) {
+        0 => 0,
+        1 => 2,
+        _ => 1,
+    }
 }
 
 // The variables of a block; variable 0 is secret.
@@ -93,21 +140,24 @@ fn variables(shape: Shape) -> Made {
     made
 }
 
-// The two bytes behind the kind of node i, low first. A masked input has a variable other than variable 0, where there is one, and in an open
-// block one of its masks, which for two inputs side by side are mostly not the same. There a gate takes the two nodes before it.
-fn body_of(shape: Shape, kind: usize, i: usize, seed: u32) -> usize {
-    let other = next(seed);
+// The operands of gate i as two bytes, low first. In an open block they are the two nodes before it.
+fn operands_of(shape: Shape, i: usize, seed: u32) -> usize {
+    let above = i % 256;
+    let low = above - least(shape.near, above);
+    if shape.open > 0 {
+        return low + 256 * (low + 1);
+    }
+    low + pick(seed, above - low) + 256 * (low + pick(next(seed), above - low))
+}
+
+// The set of input i as two bytes, low first. A masked input has a variable other than variable 0, where there is one,
+// and in an open block one of its masks, which for two inputs side by side are mostly not the same.
+fn set_of(shape: Shape, i: usize, seed: u32) -> usize {
     let labels = shape.labels % 16;
     let any = pick(seed, 1usize << labels);
-    if kind != 2 {
-        let above = i % 256;
-        let low = above - least(shape.near, above);
-        if shape.open > 0 {
-            return low + 256 * (low + 1);
-        }
-        return low + pick(seed, above - low) + 256 * (low + pick(other, above - low));
-    }
-    if (shape.mix == EVEN) | (shape.mix == DENSE) {
+    let other = next(seed);
+    let mix = shape.mix;
+    if !has_masked_inputs(mix) {
         return any;
     }
     if labels < 2 {
@@ -127,12 +177,17 @@ fn with_node(made: Made, shape: Shape, i: usize) -> Made {
     let mut next_made = made;
     let seed = next(made.seed);
     let at = made.length % 1000;
-    let mut kind = (shape.mix >> (pick(seed, 12) % 12 * 3)) % 8;
+    let mix = shape.mix;
+    let kinds = kinds_of(mix);
+    let mut kind = kinds[pick(seed, 12) % 12];
+    let mut body = operands_of(shape, i, next(seed));
     if (i < 2) | ((shape.open > 0) & (i % 3 < 2)) {
         kind = 2;
     }
-    let body = body_of(shape, kind, i, next(seed));
-    next_made.bytes[at] = (kind % 8) as u8;
+    if kind == 2 {
+        body = set_of(shape, i, next(seed));
+    }
+    next_made.bytes[at] = kind;
     next_made.bytes[at + 1] = (body % 256) as u8;
     next_made.bytes[at + 2] = (body / 256 % 256) as u8;
     next_made.length = if kind % 4 == 3 { at + 2 } else { at + 3 };
@@ -154,8 +209,8 @@ pub fn block(shape: Shape) -> Made {
     made
 }
 
-// Damages about one block in four: another byte, fewer bytes, a byte behind the end record, a variable before it, or a class above 2.
-// The block may stay valid.
+// Damages about one block in four: another byte, fewer bytes, a byte behind the end record, a variable before it, or a
+// class above 2. The block may stay valid.
 pub fn damaged(made: Made) -> Made {
     let first = next(made.seed);
     let second = next(first);

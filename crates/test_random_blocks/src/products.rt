@@ -1,19 +1,22 @@
-// Makes the products at the gates of an answered block once more, to ask how many pairs are tried, and counts the sets of its families. Numbers and
-// products are compared with those of the second checker: as many pairs are tried as the lengths of its two lists have for their product.
+// Makes the products at the gates of an answered block once more, to ask how many pairs are tried, and counts the sets of
+// its families. Numbers and products are compared with those of the second checker: as many pairs are tried as the
+// lengths of its two lists have for their product.
 ghost use Prim.Native.Nat.{_<_, _≤_};
 use crate::compare::DIFFERENCES;
-use crate::compare::Tally;
-use crate::compare::count;
 use rules::Node;
 use test_expected::Work;
 use test_expected::families_differ;
 use test_second_checker::LISTS;
 use test_second_checker::SecondBlock;
 use test_second_checker::Store;
-use test_tools::one_if;
+use test_second_checker::length_of;
+use test_tools::Tally;
+use test_tools::count;
+use test_tools::count_if;
+use test_tools::raise;
 
-// What is counted, in the order of the names that `compare` prints: for each layer the products, and the pairs tried for them; then the products by
-// how many pairs they have, and the most pairs of one.
+// What is counted, in the order of the names that are printed: for each layer the products, and the pairs tried for them;
+// then the products by how many pairs they have, and the most pairs of one.
 const PRODUCTS: usize = 32;
 
 const PAIRS: usize = 34;
@@ -60,7 +63,8 @@ fn put_product(made: &mut Work, list: usize, parts: Parts, spread: bool) {
     }
 }
 
-// Makes the product at a gate whose family is a list, and puts what the gate makes of it there. Gives how many pairs were tried.
+// Makes the product at a gate whose family is a list, and puts what the gate makes of it there. Gives how many pairs
+// were tried.
 fn make_product(work: &Work, node: Node, list: usize, made: &mut Work) -> usize {
     let base = list / 200 % 2 * 200;
     let mut parts = operands(
@@ -76,8 +80,8 @@ fn make_product(work: &Work, node: Node, list: usize, made: &mut Work) -> usize 
 // How many pairs the lists of its operands have.
 fn pairs_at(store: &Store, node: Node, list: usize) -> usize {
     let base = list / 200 % 2 * 200;
-    let rows = test_second_checker::length_of(store, base + (node.first as usize));
-    let columns = test_second_checker::length_of(store, base + (node.second as usize));
+    let rows = length_of(store, base + (node.first as usize));
+    let columns = length_of(store, base + (node.second as usize));
     (rows % 65536) * (columns % 65536)
 }
 
@@ -98,10 +102,8 @@ fn count_pairs(tally: &mut Tally, layer: usize, tried: usize, pairs: usize) {
     count(tally, PRODUCTS + layer % 2, 1);
     count(tally, PAIRS + layer % 2, tried);
     count(tally, CLASSES + class_of(tried), 1);
-    count(tally, DIFFERENCES, one_if(tried != pairs));
-    if tried > tally[MOST_PAIRS] {
-        tally[MOST_PAIRS] = tried;
-    }
+    count_if(tally, DIFFERENCES, tried != pairs);
+    raise(tally, MOST_PAIRS, tried);
 }
 
 // Compares a family, which is a list, by its size and, at a gate, by the product.
@@ -114,11 +116,7 @@ fn compare_family(
     made: &mut Work,
 ) {
     let size = families::size(work, part_of(list));
-    count(
-        tally,
-        DIFFERENCES,
-        one_if(size != test_second_checker::length_of(store, list)),
-    );
+    count_if(tally, DIFFERENCES, size != length_of(store, list));
     if (node.kind > 3) & (node.kind < 7) {
         let tried = make_product(work, node, list, made);
         count_pairs(tally, list / 200, tried, pairs_at(store, node, list));
@@ -143,5 +141,5 @@ pub(crate) fn compare_products(tally: &mut Tally, block: SecondBlock, store: &St
         list += 1;
     }
     let differ = families_differ(&mut made, store, block.count);
-    count(tally, DIFFERENCES, one_if(differ));
+    count_if(tally, DIFFERENCES, differ);
 }

@@ -1,17 +1,19 @@
-// A second checker, to compare the first with. It shares nothing with it but the record types, and goes about each
-// task another way: a file is read byte by byte, families are lists of set numbers in the order in which the sets arise,
-// all settled families are made before any glitch family, suspects are looked for from the last node down and from the last
-// pair back, every node's marks are worked out by themselves, no product is made of a pair and its position is a formula, settled
-// values are truth tables over all assignments at once, and feeding points are rows of bits.
+// A second checker, to compare the first with. It uses nothing of the product but the record types, and goes about each
+// task another way: a file is read byte by byte, families are lists of set numbers in the order in which the sets
+// arise, all settled families are made before any glitch family, suspects are looked for from the last node down and
+// from the last pair back, every node's marks are worked out by themselves, no product is made of a pair and its
+// position is a formula, settled values are truth tables over all assignments at once, and feeding points are rows of
+// bits.
 //
-// It is tested and not proved right: what is proved of it is that it is safe and ends. For test programs.
+// It is tested and not proved right: what is proved of it is that it is safe and ends. For the test programs
+// `test_random_*`.
 ghost use Prim.Native.Nat.{_<_, _≤_};
 use rules::Node;
 use rules::NodeRecord;
 use test_generator::least;
 
-// All that is worked out of a block is in one array of numbers. First the lists of sets: list i is the settled family of node i, and list
-// 200 + i its glitch family; then their lengths; then for each set the last list that it went to.
+// All that is worked out of a block is in one array of numbers. First the lists of sets: list i is the settled family of
+// node i, and list 200 + i its glitch family; then their lengths; then for each set the last list that it went to.
 const LONGEST: usize = 1024;
 
 pub const LISTS: usize = 400;
@@ -20,7 +22,8 @@ const LENGTHS: usize = 409600;
 
 const SEEN: usize = 410000;
 
-// Then 80 words of 16 bits to a node: bit x is the node's value under assignment x, and bit 1,024 + j says whether node j feeds it.
+// Then 80 words of 16 bits to a node: bit x is the node's value under assignment x, and bit 1,024 + j says whether node
+// j feeds it.
 const BITS: usize = 411024;
 
 const WORDS: usize = 80;
@@ -37,15 +40,9 @@ pub const NONE: usize = 204800;
 // No suspect set: the number behind those of all pairs of a number of variables and a set.
 const NO_SET: usize = 11264;
 
-// How many bytes follow a kind byte: octal digits, from kind 0 on the right.
-pub const BODIES: usize = 0o12221210;
-
-// The first four variables in a word of a truth table, from variable 0 on the right.
-const PATTERNS: usize = 0xFF00F0F0CCCCAAAA;
-
-// A file as far as it is read. `fault` is the number of its refusal, or 0, and `start` then that refusal's place: until the end, where the
-// last record started. Of that record `missing` body bytes are still to come, and `body` is what is there, low byte first, with the next
-// byte's place in `shift`. `classes` has the variables of each class as a set.
+// A file as far as it is read. `fault` is the number of its refusal, or 0, and `start` then that refusal's place: until
+// the end, where the last record started. Of that record `missing` body bytes are still to come, and `body` is what is
+// there, low byte first, with the next byte's place in `shift`. `classes` has the variables of each class as a set.
 pub struct SecondBlock {
     pub fault: usize,
     pub start: usize,
@@ -68,6 +65,17 @@ pub fn number_if(yes: bool, number: usize) -> usize
 }
 
 // ---- reading, byte by byte
+
+// How many bytes follow a kind byte: none behind the end, two with an input's set or two operands, else one.
+pub fn body_of(kind: u8) -> usize
+    ensures { λ r. ⌜ r ≤ 2 ⌝ }
+{
+    match kind {
+        0 => 0,
+        1 | 3 | 7 => 1,
+        _ => 2,
+    }
+}
 
 // The refusal of a kind byte, or 0.
 fn kind_fault(block: SecondBlock, kind: u8) -> usize {
@@ -134,7 +142,7 @@ fn with_byte(block: SecondBlock, at: usize, byte: u8) -> SecondBlock {
         next.fault = kind_fault(block, byte);
         next.start = at;
         next.kind = byte;
-        next.missing = (BODIES >> ((byte % 8) as usize * 3)) % 8;
+        next.missing = body_of(byte);
         next.body = 0;
         next.shift = 0;
         next.ended = byte == 0;
@@ -149,6 +157,7 @@ fn with_byte(block: SecondBlock, at: usize, byte: u8) -> SecondBlock {
     next
 }
 
+// The block that a file holds, as far as it can be read.
 pub fn read(bytes: &[u8]) -> SecondBlock {
     let mut block = SecondBlock {
         fault: 0,
@@ -190,11 +199,12 @@ fn wide(x: u16) -> usize {
     x as usize
 }
 
-// How many sets a list has, and the set at a place of it.
+// How many sets a list has.
 pub fn length_of(store: &Store, list: usize) -> usize {
     wide(store[LENGTHS + list % LISTS])
 }
 
+// The set at a place of a list.
 pub fn set_at(store: &Store, list: usize, k: usize) -> usize {
     wide(store[list % LISTS * LONGEST + k % LONGEST])
 }
@@ -264,29 +274,37 @@ fn add_family(store: &mut Store, node: Node, layer: usize, i: usize) {
 
 // ---- suspects
 
-// What suspect sets some sets hold: of those with fewest variables the lowest as 1,024 × variables + set, or `NO_SET`; the highest of them as
-// 1,024 × variables + 1,023 - set; and the lowest of all.
+// What suspect sets some sets hold: of those with fewest variables the lowest as 1,024 × variables + set, or `NO_SET`;
+// the highest of them as 1,024 × variables + 1,023 - set; and the lowest of all.
 pub struct Choice {
     pub first: usize,
     pub last: usize,
     pub lowest: usize,
 }
 
-// The set to report, one with fewest variables; whether a lower one is suspect; and whether another one has as few variables.
+// The set to report, the lowest of those with fewest variables.
 pub fn reported(choice: Choice) -> usize {
     choice.first % LONGEST
 }
 
+// Whether a set below the reported one is suspect too.
 pub fn is_lower_suspect(choice: Choice) -> bool {
     choice.lowest != choice.first % LONGEST
 }
 
+// Whether another suspect set has as few variables.
 pub fn is_tie(choice: Choice) -> bool {
     choice.last % LONGEST + choice.first % LONGEST != 1023
 }
 
-// The suspect ones, with a secret and no mask, among the symmetric differences of one set with all sets of a list. The variables of a set are
-// counted by spreading its bits, one to a hexadecimal digit, and casting out fifteens.
+// How many variables a set has.
+fn size_of(set: usize) -> usize
+    ensures { λ r. ⌜ r < 16 ⌝ }
+{
+    (u32::count_ones((set % LONGEST) as u32) % 16) as usize
+}
+
+// The suspect ones, with a secret and no mask, among the symmetric differences of one set with all sets of a list.
 pub fn suspect_sets(
     store: &Store,
     list: usize,
@@ -302,7 +320,7 @@ pub fn suspect_sets(
     while k < many {
         let set = (set_at(store, list, k) ^ with) % LONGEST;
         if (set & secrets != 0) & (set & masks == 0) {
-            let variables = ((set * 0x200040008001) & 0x111111111111111) % 15;
+            let variables = size_of(set);
             first = least(variables * LONGEST + set, first);
             last = least(variables * LONGEST + 1023 - set, last);
             lowest = least(set, lowest);
@@ -337,7 +355,8 @@ pub fn first_suspect(block: SecondBlock, store: &Store, layer: usize) -> usize {
     found
 }
 
-// The mark of a node whose family is a list: the set that it reports, or 0 where no set is suspect (`NO_SET` leaves 0) or the node is an input.
+// The mark of a node whose family is a list: the set that it reports, or 0 where no set is suspect (`NO_SET` leaves 0)
+// or the node is an input.
 fn mark_of(store: &Store, node: Node, list: usize, secrets: usize, masks: usize) -> u16 {
     let choice = suspect_sets(store, list, 0, secrets, masks);
     if node.kind == 2 {
@@ -378,8 +397,8 @@ pub fn records_of(block: SecondBlock, store: &Store) -> [NodeRecord; 200] {
 
 // ---- pairs of tested nodes
 
-// How many pairs there are, and the first suspect one, i below j: its position, counted from 1, and its sets. Where no pair is suspect
-// the position is that behind the last pair.
+// How many pairs there are, and the first suspect one, i below j: its position, counted from 1, and its sets. Where no
+// pair is suspect the position is that behind the last pair.
 pub struct FirstPair {
     pub pairs: usize,
     pub position: usize,
@@ -442,7 +461,8 @@ fn pairs_of(nodes: usize) -> usize
     many * (many - least(many, 1)) / 2
 }
 
-// The position of the pair of tested nodes a and b, counted from 0: before it stand all pairs of the tested nodes below b, and a more.
+// The position of the pair of tested nodes a and b, counted from 0: before it stand all pairs of the tested nodes below
+// b, and a more.
 pub fn position_of(a: usize, b: usize) -> usize {
     pairs_of(b) + a % 256 + 1
 }
@@ -514,15 +534,18 @@ fn input_word(set: u16, w: usize) -> u16 {
     word
 }
 
-// Word `w` of the truth table of a variable.
+// Word `w` of the truth table of a variable: the first four change within a word, the others from word to word.
 fn variable_word(v: usize, w: usize) -> u16 {
-    if v < 4 {
-        return ((PATTERNS >> (v * 16)) % 65536) as u16;
-    }
-    if (w >> ((v - 4) % 16)) % 2 == 1 {
-        ALL
-    } else {
-        0
+    match v {
+        0 => 0xAAAA,
+        1 => 0xCCCC,
+        2 => 0xF0F0,
+        3 => 0xFF00,
+        _ => if (w >> ((v - 4) % 16)) % 2 == 1 {
+            ALL
+        } else {
+            0
+        },
     }
 }
 

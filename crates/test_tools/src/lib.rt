@@ -1,22 +1,44 @@
-// What the test programs share: counts, node records compared, and printing.
+// What the test programs share: counts of what was seen, node records compared, and printing. It uses the record types
+// and the refusals' numbers, and no part of the checker. For the test programs.
 ghost use mathlib.Core.Path.{_≡_};
 ghost use mathlib.Core.Bool.{_&&_};
 ghost use Prim.Native.Nat.{min};
 ghost use lib.Dec.{eqb};
-ghost use Rattle.rules.specs.Lists.{digit};
 use libc::STDOUT_FILENO;
 use rules::Answer;
 use rules::Half;
 use rules::NodeRecord;
 use rules::Refusal;
 use rules::Reply;
+use std::num::wrapping_add_usize;
 
-pub fn one_if(yes: bool) -> usize
-    ensures { λ r. ⌜ r ≡ digit yes ⌝ }
-{
-    if yes { 1 } else { 0 }
+// ---- counts
+
+// What was seen: counts, in the order of the names that a program prints.
+pub type Tally = [usize; 64];
+
+// Adds to a count.
+pub fn count(tally: &mut Tally, at: usize, more: usize) {
+    tally[at % 64] = wrapping_add_usize(tally[at % 64], more);
 }
 
+// Adds one to a count where the answer is yes.
+pub fn count_if(tally: &mut Tally, at: usize, yes: bool) {
+    if yes {
+        count(tally, at, 1);
+    }
+}
+
+// Raises a count that is lower to this value.
+pub fn raise(tally: &mut Tally, at: usize, value: usize) {
+    if tally[at % 64] < value {
+        tally[at % 64] = value;
+    }
+}
+
+// ---- numbers and node records
+
+// The lesser of two numbers.
 pub fn least(a: usize, b: usize) -> usize
     ensures { λ r. ⌜ r ≡ min a b ⌝ }
 {
@@ -78,12 +100,12 @@ pub fn print_counts(text: &[u8], counts: &[usize]) {
 fn print_letter(letter: u8, counts: &[usize], k: usize) -> usize {
     if letter == b'#' {
         print_count(counts, k);
-        return std::num::wrapping_add_usize(k, 1);
+        return wrapping_add_usize(k, 1);
     }
     if letter == b'\n' {
         print_count(counts, k);
         print_byte(letter);
-        return std::num::wrapping_add_usize(k, 1);
+        return wrapping_add_usize(k, 1);
     }
     print_byte(letter);
     k

@@ -1,5 +1,5 @@
--- The lowest number from which on a test holds, where the bound is one more: as before if the test holds at the last number, and else the bound.
--- Assumes nothing.
+-- The lowest number from which on a test holds, where the bound is one more: as before if the test holds at the last
+-- number, and else the bound. Assumes nothing.
 use Prim.Native.Nat.{ℕ, _+_}
 use mathlib.Core.Path.{_≡_}
 use mathlib.Core.Bool.{Bool, true, false}

@@ -1,5 +1,5 @@
--- An array of node records that is lent and taken back, for the functions that lend one: an array written whole is its records side by side, and they are the
--- array, or room for it, again. Assumes nothing.
+-- An array of node records that is lent and taken back, for the functions that lend one: an array written whole is its
+-- records side by side, and they are the array, or room for it, again. Assumes nothing.
 use mathlib.Core.Path.{_≡_, refl, sym, subst}
 use Prim.Native.Nat.{ℕ}
 use mathlib.Core.List.{List, [], _∷_, _++_}

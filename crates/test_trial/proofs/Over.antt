@@ -1,6 +1,7 @@
--- The walk of the four functions that lend the first of 200 node records to an entry point, `check`, `check_pairs`, `open` or `edit`, and give its reply
--- beside all records: how many are lent, the front of the array, which is lent for a lifetime made for the call and is taken back at its last
--- list, and the body, over what the entry point says. Assumes nothing.
+-- The walk of the four functions that lend the first of 200 node records to an entry point, `check`, `check_pairs`,
+-- `open` or `edit`, and give its reply beside all records: how many are lent, the front of the array, which is lent for
+-- a lifetime made for the call and is taken back at its last list, and the body, over what the entry point says.
+-- Assumes nothing.
 use mathlib.Core.Path.{_≡_, refl, sym, _∙_, ap, subst}
 use Prim.Native.Nat.{ℕ, _+_, _≤_, _<_, _^_, min}
 use native.Mathlib.Nat.{min-le-right}
@@ -71,7 +72,8 @@ as-field [] (u ∷ us) s = absurd s
 as-field (n ∷ ns) [] s = absurd s
 as-field (n ∷ ns) (u ∷ us) s = (s .0, as-field ns us (s .1))
 
--- ---- what the four functions have in common at entry: the lifetimes and shares of both slices, the slices, how many entries there are, and all 200 records, which v is
+-- ---- what the four functions have in common at entry
+-- the lifetimes and shares of both slices, the slices, how many entries there are, and all 200 records, which v is
 pub record Trial : Type 0 where
   pub κ₀ : Lft
   pub κ₁ : Lft
@@ -137,7 +139,8 @@ module _ (o : Trial) where
   abbrev pub Own₁ : Fml
   Own₁ = MutSlice (named 1) (o .κ₁) u8 .own (o .work) (s₁ ∷ [])
 
-  -- the front, lent for the lifetime α under the name γ, what its `&mut` owns, the lender's part, and the records behind
+  -- the front, lent for the lifetime α under the name γ, what its `&mut` owns, the lender's part, and the records
+  -- behind
   abbrev pub lent : ℕ → GName → RefT (List NodeRecord)
   lent l γ = record { ptr = (l, 0); name = γ; now = front }
 
@@ -154,7 +157,8 @@ module _ (o : Trial) where
   abbrev pub Alive : {M : Type 1} (𝓤 : URA M) → ℕ → Item 𝓤
   Alive 𝓤 α = ‵ (flft (o .κ₀) (o .q₀)) ⊛ ‵ (flft (α ∷ []) fullShare) ⊛ ‵ (flft (o .κ₁) (o .q₁)) ⊛ ‵ ftrue
 
-  -- the tokens and what the last four parameters own; what is had of them at entry; and what is left at exit, where the work slice's last list is ws
+  -- the tokens and what the last four parameters own; what is had of them at entry; and what is left at exit, where the
+  -- work slice's last list is ws
   abbrev pub Tokens : {M : Type 1} (𝓤 : URA M) → Item 𝓤
   Tokens 𝓤 = ‵ (flft (o .κ₀) (o .q₀)) ⊛ ‵ (flft (o .κ₁) (o .q₁)) ⊛ ‵ ftrue
 
@@ -272,7 +276,9 @@ module _ {M : Type 1} {𝓤 : URA M} {H : Heap 𝓤} {A : Atoms 𝓤} {K : Type 
         → Step K W (((‵ (flft κ₀ q₀) ⊛ ‵ (flft κ₁ q₁) ⊛ ‵ ftrue) ⊛ ‵ params ⊛ ‵ result) ∷ Γ) G (‵ params ∷ ‵ result ∷ ‵ (flft κ₀ q₀) ∷ ‵ (flft κ₁ q₁) ∷ Γ) G
     at-exit t = step (λ s. join t $ nothing t $ move t (3 ∷ 0 ∷ []) $ join t $ move t (2 ∷ 0 ∷ []) $ join t $ join t $ s)
 
--- ---- the body: the result and what is asked, the locals E, stand in front of bytes, entries, nodes, work, lent, kept, the reply and the temporaries. f is the entry point, os is what it is called with
+-- ---- the body
+-- The result and what is asked, the locals E, stand in front of bytes, entries, nodes, work, lent, kept, the reply and
+-- the temporaries. f is the entry point, and os is what it is called with.
 abbrev body : List (Ty × ℕ) → Name → List Opd → Body
 body E f os =
     seq (call #test-trial·at-most (copy (place (past E 1) []) ∷ []) (place (past E 4) []))
@@ -286,14 +292,16 @@ body E f os =
     (seq (assign (place 0 []) (aggregate (copy (place (past E 6) []) ∷ copy (place (past E 11) []) ∷ []))) return))))))))
 
 module _ {M : Type 1} (𝓤 : URA M) (H : Heap 𝓤) (A : Atoms 𝓤) (W : Given 𝓤 H A) (C : Calls 𝓤 H) (Λ : Loops 𝓤 H) (o : Trial) where
-  -- a call of the entry point f with the values vs: φ holds of its reply, which has type R, and of the last lists of the front, which lies at l, and of the work slice
+  -- a call of the entry point f with the values vs: φ holds of its reply, which has type R, and of the last lists of
+  -- the front, which lies at l, and of the work slice
   pub record Entry (f : Name) (vs : ℕ → List Val) (R : RattleType) (φ : R .Denot → List NodeRecord → List ℕ → Type 0) : Type 2 where
     pub calls : {K : Type 0} {Γ : List (Item 𝓤)} {En : Env 𝓤 H} {Q : Post 𝓤 H} {os : List Opd} {d : Place} {rest : Body} → K → (l α : ℕ) (γ : GName) → ((i : Item 𝓤) → Opds K W (i ∷ Γ) En os (vs l))
         → ((t : Val) (r : R .Denot) (ns : List NodeRecord) (ws : List ℕ) → φ r ns ws → length ns ≡ few o → length ws ≡ length (o .work .now)
         → Seq K W (‵ (R .own r (t ∷ [])) ∷ Alive o 𝓤 α ∷ ‵ (finally T.the-row γ ns) ∷ ‵ (finally u8 (o .work .name) ws) ∷ Γ) (lands C Λ En d t rest Q))
         → Seq K W (Alive o 𝓤 α ∷ ‵ (Own₀ o) ∷ (‵ (Own o l α γ) ⊛ ‵ (Own₁ o)) ∷ Γ) (runs C Λ En (seq (call f os d) rest) Q)
 
-  -- The reply's type and the result's; what is asked at exit; the entry point, and what it is called with; where the locals lie: the result, X and the others; and what stands behind them.
+  -- The reply's type and the result's; what is asked at exit; the entry point, and what it is called with; where the
+  -- locals lie: the result, X and the others; and what stands behind them.
   module _ (memory : Memory → SProp 𝓤) (run : Routine → Fun 𝓤) (fm : FmC 𝓤 H (W .laws) C) (known-most : Triple 𝓤 (C #test-trial·at-most) (AtMost 𝓤 H A memory run))
       (R : RattleType) (τ σ : Ty) (typed-reply : (r : R .Denot) (t : Val) → Is R r (t ∷ []) → Holds (hasTy τ t) × WT t)
       (typed-seen : (r : R .Denot) (t : Val) (ns : List NodeRecord) (u : Val) → Is R r (t ∷ []) → Is (array 200) ns (u ∷ []) → Holds (hasTy σ (vstruct (ofList (t ∷ u ∷ [])))) × WT (vstruct (ofList (t ∷ u ∷ []))))
@@ -313,7 +321,8 @@ module _ {M : Type 1} (𝓤 : URA M) (H : Heap 𝓤) (A : Atoms 𝓤) (W : Given
         ∷ ‵ (fat fullShare (tyInt w64) l₅ 0 (vint w64 (few o))) ∷ ‵ (fdies (tyInt w64) l₅) ∷ ‵ (fat fullShare slice₁ l₄ 0 (s₁ o)) ∷ ‵ (fdies slice₁ l₄) ∷ ‵ (fat fullShare nodes l₃ 0 (o .v)) ∷ ‵ (fdies nodes l₃)
         ∷ ‵ (fat fullShare (tyInt w64) l₂ 0 (vint w64 (o .entries))) ∷ ‵ (fdies (tyInt w64) l₂) ∷ ‵ (fat fullShare slice₀ l₁ 0 (s₀ o)) ∷ ‵ (fdies slice₀ l₁) ∷ Γ
 
-    -- The operands are read, where those for bytes, the front and work are; and what is had when all but the other locals are freed is what is asked. Then so it is from where X has been stored on.
+    -- The operands are read, where those for bytes, the front and work are; and what is had when all but the other
+    -- locals are freed is what is asked. Then so it is from where X has been stored on.
     pub runs-over : ((α : ℕ) (γ : GName) (i : Item 𝓤) → Reads Go W (i ∷ Calling α γ) (E ++ E′) (copy (place (past E 0) [])) (s₀ o) → Reads Go W (i ∷ Calling α γ) (E ++ E′) (copy (place (past E 8) [])) (s-front o l₆)
         → Reads Go W (i ∷ Calling α γ) (E ++ E′) (copy (place (past E 10) [])) (s₁ o) → Opds Go W (i ∷ Calling α γ) (E ++ E′) os (vs l₆))
         → ((r : R .Denot) (t : Val) (ns : List NodeRecord) (u : Val) (ws : List ℕ) → Is R r (t ∷ []) → Is (array 200) (ns ++ others o) (u ∷ []) → φ r ns ws → length ws ≡ length (o .work .now)
@@ -333,7 +342,8 @@ module _ {M : Type 1} (𝓤 : URA M) (H : Heap 𝓤) (A : Atoms 𝓤) (W : Given
         assigns ! (agg ! (and-then ! (load ! (found ! E E′ 9 (stop !)) (look ! 10 refl)) (and-then ! (load ! (found ! E E′ 3 (fld ! refl (stop !))) (look-in ! 22 (sub ! 1 refl (whole !)))) (no-more !))))
         (found ! E E′ 10 (stop !)) (init ! 8 refl (tt, (tt, (record { fits = o .room₁ .0 }, tt)))) $
         move ! (18 ∷ []) $ lends-front 𝓤 H A W o ! tt l₆ (λ α γ.
-        -- [what the front's &mut owns; the lender's part; its token; those behind; the tokens; what bytes and work own; the locals without `kept`]
+        -- [what the front's &mut owns; the lender's part; its token; those behind; the tokens; what bytes and work own;
+        -- the locals without `kept`]
         nothing ! $ move ! (6 ∷ 0 ∷ []) $ join ! $ move ! (3 ∷ 0 ∷ []) $ join ! $ move ! (4 ∷ 0 ∷ []) $ join ! $ move ! (1 ∷ 5 ∷ []) $ join ! $ move ! (1 ∷ 4 ∷ 0 ∷ []) $
         entry .calls ! l₆ α γ (λ i. args α γ i (load ! (found ! E E′ 0 (stop !)) (look ! 26 refl)) (load ! (found ! E E′ 8 (stop !)) (look ! 11 refl)) (load ! (found ! E E′ 10 (stop !)) (look ! 7 refl))) (λ t r ns ws said same l.
         facts ! R (Is R) (shows 𝓤 H A R) r (t ∷ []) (λ is-t. land ! (found ! E E′ 6 (stop !)) (init ! 17 refl (typed-reply r t is-t)) $

@@ -1,4 +1,5 @@
--- What stands in the slices before a check, and from which number on it still stands there. Cited by the contracts of this crate. Assumes nothing.
+-- What stands in the slices before a check, and from which number on it still stands there. Cited by the contracts of
+-- this crate. Assumes nothing.
 use Prim.Native.Nat.{ℕ, zero, suc, _+_, _%_}
 use mathlib.Core.Bool.{Bool, cond, _&&_}
 use lib.Dec.{eqb}

@@ -1,6 +1,7 @@
-// A trial of `check` and of `check_pairs` over node records by value, of which the first are lent: what stands in both lent slices
-// before, from where on it still stands there after, and one of the records, read through a lent slice. Touches nothing but
-// what it is given. For the test programs, and for the same trial of `open` and `edit` (`test_edit_trial`).
+// A trial of `check` and of `check_pairs` over node records by value, of which the first are lent: what stands in both
+// lent slices before, from where on it still stands there after, and one of the records, read through a lent slice.
+// Touches nothing but what it is given. For the test programs, and for the same trial of `open` and `edit`
+// (`test_edit_trial`).
 ghost use mathlib.Core.Path.{_≡_};
 ghost use mathlib.Core.List.{_++_};
 ghost use Prim.Native.Nat.{_<_, min};
@@ -117,8 +118,8 @@ pub fn at_most(entries: usize) -> usize
     MOST_NODES
 }
 
-// Checks a block over the first `entries` of 200 entries (or over all where there are not so many), which hold `nodes`. Gives
-// the reply and all 200 entries at exit.
+// Checks a block over the first `entries` of 200 entries (or over all where there are not so many), which hold `nodes`.
+// Gives the reply and all 200 entries at exit.
 pub fn check_over(
     bytes: &[u8],
     entries: usize,

@@ -1,5 +1,5 @@
--- The records of a netlist, one after the other: one record more goes behind those of the first i. And the block that is
--- loaded of an open block's state and node records. Assumes nothing.
+-- The records of a netlist, one after the other: one record more goes behind those of the first i.
+-- And the block that is loaded of an open block's state and node records. Assumes nothing.
 use Prim.Native.Nat.{ℕ, _+_, _<_, _≤_}
 use mathlib.Core.Path.{_≡_}
 use mathlib.Core.List.{List, _++_, append-nil}

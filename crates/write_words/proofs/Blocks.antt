@@ -1,4 +1,5 @@
--- Blocks in words, which antt computes: document 01's block A, and a block with a variable of each class and a node of each kind. Assumes nothing.
+-- Blocks in words, which antt computes: document 01's block A, and a block with a variable of each class and a
+-- node of each kind. Assumes nothing.
 use mathlib.Core.Path.{_≡_, refl}
 use mathlib.Core.List.{[], _∷_}
 use Rattle.rules.specs.Records.{secret, mask, public, input, NOT, XOR, AND, OR, register, Netlist, classByte, kindOf, operands, setOf, body, recordBytes, variablesOut, nodesOut, writtenOut}

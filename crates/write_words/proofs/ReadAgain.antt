@@ -1,5 +1,6 @@
--- A netlist that obeys the record rules, written in words, is read again: its text says the bytes that the netlist is written out as. The lines of
--- the text are those of the records, the words of each line are the record's, and these say the record. Assumes nothing.
+-- A netlist that obeys the record rules, written in words, is read again: its text says the bytes that the netlist
+-- is written out as. The lines of the text are those of the records, the words of each line are the record's,
+-- and these say the record. Assumes nothing.
 use Prim.Native.Nat.{ℕ, zero, suc, _+_, _*_, _/_, _%_, _^_, _≤_, _<_}
 use mathlib.Core.Path.{_≡_, refl, sym, ap, _∙_}
 use mathlib.Core.Bool.{Bool, true, false, cond}

@@ -1,5 +1,5 @@
--- What the definitions of blocks in words read where words and lines are written so: a number's digits are that number, a line ends at its line
--- feed, and its words are the fields that were parted by blanks. Assumes nothing.
+-- What the definitions of blocks in words read where words and lines are written so: a number's digits are that number,
+-- a line ends at its line feed, and its words are the fields that were parted by blanks. Assumes nothing.
 use Prim.Native.Nat.{ℕ, _+_, _*_, _-_, _^_, _≤_, _<_}
 use mathlib.Core.Path.{_≡_, refl, sym, ap, _∙_}
 use mathlib.Core.Logic.{_⊎_, inl, inr}

@@ -1,5 +1,5 @@
--- Lines in words, bit by bit: a line is its word, its numbers with a blank before each, and a line feed; one number more, and one line more, goes
--- behind those before it. Assumes nothing.
+-- Lines in words, bit by bit: a line is its word, its numbers with a blank before each, and a line feed;
+-- one number more, and one line more, goes behind those before it. Assumes nothing.
 use Prim.Native.Nat.{ℕ, _+_, _/_, _%_, _^_, _<_}
 use mathlib.Core.Path.{_≡_, refl}
 use mathlib.Core.List.{List, [], _∷_, _++_, map, map-append, append-nil, append-assoc}

@@ -1,4 +1,5 @@
--- A netlist in words: a record to a line, a record's word and its numbers parted by one blank, and a line feed behind each line. Assumes nothing.
+-- A netlist in words: a record to a line, a record's word and its numbers parted by one blank, and a line feed
+-- behind each line. Assumes nothing.
 use Prim.Native.Nat.{ℕ, zero, suc, _+_, _*_, _/_, _^_}
 use mathlib.Core.Bool.{cond}
 use mathlib.Core.List.{List, [], _∷_, _++_, map}
@@ -42,8 +43,8 @@ unfoldable pub fields : List ℕ → List ℕ
 fields [] = []
 fields (x ∷ numbers) = 32 ∷ (decimal x ++ fields numbers)
 
--- the most bytes of a variable's line, `secret` or `public`; of a node's numbers and of its line, `in 0 1 2 3 4 5 6 7 8 9`;
--- and of a netlist in words
+-- the most bytes of a variable's line, `secret` or `public`; of a node's numbers and of its line,
+-- `in 0 1 2 3 4 5 6 7 8 9`; and of a netlist in words
 abbrev pub most-variable-line : ℕ
 most-variable-line = 7
 

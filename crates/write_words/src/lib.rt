@@ -28,8 +28,8 @@ use rules::MOST_VARIABLES;
 use rules::Node;
 use rules::NodeRecord;
 
-// At most 10 lines of variables, the longest of which is `secret` with its line feed, 200 of nodes, the longest of which
-// is an input of ten variables, and `end`.
+// At most 10 lines of variables, the longest of which is `secret` with its line feed, 200 of nodes, the longest of
+// which is an input of ten variables, and `end`.
 pub const MOST_WORDS: usize = 7 * MOST_VARIABLES + 23 * MOST_NODES + 4;
 
 // ---- one line
@@ -133,8 +133,8 @@ fn put_nodes(text: &mut [u8], at: usize, netlist: Netlist) -> usize
 
 // ---- the block
 
-// Writes a netlist in words to the front of `text`, and answers how many bytes they are; beyond them `text` is as it was.
-// Of a value that is no netlist's, the words are left open: the call returns, and answers no more than `text` has.
+// Writes a netlist in words to the front of `text`, and answers how many bytes they are; beyond them `text` is as it
+// was. Of a value that is no netlist's, the words are left open: the call returns, and answers no more than `text` has.
 pub fn word_netlist(netlist: Netlist, text: &mut [u8; MOST_WORDS]) -> usize
     ensures long { λ r. ⌜ ((n : Records.Netlist) → WellFormed n → netlist ≡ flatOf n → r ≡ length (wordedOut n)) ⌝ }
     ensures words { λ r. ⌜ ((n : Records.Netlist) → WellFormed n → netlist ≡ flatOf n →

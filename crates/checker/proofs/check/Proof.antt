@@ -1,6 +1,6 @@
--- `checker::check` meets its contract: the shared walk (`Walk`), with `reply_of` for the last call.
--- All that it knows of `examine`, `store` and `reply_of` is that each meets its contract; each borrow is given up for
--- good (`gave-slice`). Assumes nothing.
+-- `checker::check` meets its contract: the shared walk (`Walk`), with `reply_of` for the last call. All that it knows
+-- of `examine`, `store` and `reply_of` is that each meets its contract; each borrow is given up for good
+-- (`gave-slice`). Assumes nothing.
 use mathlib.Core.Path.{_≡_, sym, _∙_, ap, subst}
 use mathlib.Core.Logic.{_↔_}
 use Prim.Native.Nat.{ℕ}

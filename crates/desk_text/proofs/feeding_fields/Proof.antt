@@ -1,5 +1,5 @@
--- `desk_text::feeding_fields` meets its contract. The loop's invariant: behind the word are the numbers of the marked nodes below i, each in at most four
--- bytes with its blank. The measure is how many nodes are left. Assumes nothing.
+-- `desk_text::feeding_fields` meets its contract. The loop's invariant: behind the word are the numbers of the marked
+-- nodes below i, each in at most four bytes with its blank. The measure is how many nodes are left. Assumes nothing.
 use Prim.Native.Nat.{ℕ, _+_, _*_, _-_, _≤_}
 use mathlib.Core.Path.{_≡_, ap}
 use mathlib.Core.Logic.{⊎-elim}

@@ -1,4 +1,5 @@
--- `desk_text::member_fields` meets its contract: for each family its name, and behind that the membership. Assumes nothing.
+-- `desk_text::member_fields` meets its contract: for each family its name, and behind that the membership.
+-- Assumes nothing.
 use mathlib.Core.List.{append-nil}
 use borrow.Author.Needs.{needs}
 use Rattle.rules.specs.Listing.{word}

@@ -1,5 +1,5 @@
--- `desk_text::put_numbers` meets its contract. The loop's invariant: the first k numbers are behind the front, in at most 21 bytes each. The measure
--- is how many are left. Assumes nothing.
+-- `desk_text::put_numbers` meets its contract. The loop's invariant: the first k numbers are behind the front,
+-- in at most 21 bytes each. The measure is how many are left. Assumes nothing.
 use Prim.Native.Nat.{ℕ, _+_, _*_, _-_, _≤_}
 use mathlib.Core.Path.{ap}
 use mathlib.Core.List.{List, map}

@@ -1,4 +1,5 @@
--- `desk_text::step_fields` meets its contract: a byte has at most three digits, and the others are behind it. Assumes nothing.
+-- `desk_text::step_fields` meets its contract: a byte has at most three digits, and the others are behind it.
+-- Assumes nothing.
 use native.Mathlib.Omega.{arith}
 use borrow.Author.Needs.{needs}
 use Rattle.rules.proofs.Decimal.{decimal-short}

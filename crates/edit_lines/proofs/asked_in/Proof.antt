@@ -1,4 +1,5 @@
--- `edit_lines::asked_in` meets its contract: what the words ask for, unless a comment is stuck to a file's name. Assumes nothing.
+-- `edit_lines::asked_in` meets its contract: what the words ask for, unless a comment is stuck to a file's name.
+-- Assumes nothing.
 use borrow.Author.Needs.{needs}
 use Rattle.edit_lines.specs.Asks.{unlessStuck, asksIn}
 use Rattle.edit_lines.proofs.asked_in.Statement.{statement}

@@ -1,5 +1,6 @@
--- `edit_lines::is_stuck` meets its contract. The loop's invariant: whether a comment is stuck to a word is told by what is left of the line, and
--- whether a word stands right before that. The measure is what is left of the line. Assumes nothing.
+-- `edit_lines::is_stuck` meets its contract. The loop's invariant: whether a comment is stuck to a word is told by
+-- what is left of the line, and whether a word stands right before that. The measure is what is left of the line.
+-- Assumes nothing.
 use Prim.Native.Nat.{_-_, _≤_}
 use mathlib.Core.Bool.{false}
 use mathlib.Core.Path.{_≡_, refl, sym, _∙_}

@@ -1,4 +1,5 @@
--- `edits::open` meets its contract: the walk that it shares with `check`, with `opened_of` for the last call. All that it knows of `examine`, `store` and `opened_of` is that each meets its contract; each borrow is given up for good
+-- `edits::open` meets its contract: the walk that it shares with `check`, with `opened_of` for the last call. All that
+-- it knows of `examine`, `store` and `opened_of` is that each meets its contract; each borrow is given up for good
 -- (`gave-slice`). Assumes nothing.
 use mathlib.Core.Path.{_≡_, sym, _∙_, ap, subst}
 use mathlib.Core.Logic.{_↔_}

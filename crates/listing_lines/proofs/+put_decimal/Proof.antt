@@ -1,5 +1,5 @@
--- The proof of the cycle of calls {put_decimal}. The measure is the number, which falls when its last digit goes. A number below ten is one digit;
--- another is the digits of the rest, and behind them its last digit. Assumes nothing.
+-- The proof of the cycle of calls {put_decimal}. The measure is the number, which falls when its last digit goes.
+-- A number below ten is one digit; another is the digits of the rest, and behind them its last digit. Assumes nothing.
 use Prim.Native.Nat.{ℕ, _+_, _/_, _≤_, _<_}
 use mathlib.Core.Path.{_≡_, sym, ap, _∙_}
 use native.Mathlib.Omega.{arith}

@@ -1,5 +1,5 @@
--- `listing_lines::name_of` meets its contract: each arm has the name of the nodes whose kind has its number, and the last
--- arm that of a register. Assumes nothing.
+-- `listing_lines::name_of` meets its contract: each arm has the name of the nodes whose kind has its number,
+-- and the last arm that of a register. Assumes nothing.
 use Prim.Native.Nat.{ℕ, _≤_}
 use mathlib.Core.Path.{_≡_, refl, sym, ap, _∙_}
 use mathlib.Core.List.{List, [], _∷_}

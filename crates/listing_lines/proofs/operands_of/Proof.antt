@@ -1,4 +1,5 @@
--- `listing_lines::operands_of` meets its contract: the kinds of nodes are 2 to 7, and each has its number of operands. Assumes nothing.
+-- `listing_lines::operands_of` meets its contract: the kinds of nodes are 2 to 7, and each has its number of operands.
+-- Assumes nothing.
 use Prim.Native.Nat.{ℕ}
 use mathlib.Core.Path.{_≡_, refl}
 use mathlib.Core.Logic.{inl, inr, ⊎-elim}

@@ -1,5 +1,5 @@
--- `listing_lines::put_counts` meets its contract: word and number by turns, the number of variables in at most two digits and that of the nodes in at
--- most three. Assumes nothing.
+-- `listing_lines::put_counts` meets its contract: word and number by turns, the number of variables in at most two
+-- digits and that of the nodes in at most three. Assumes nothing.
 use Prim.Native.Nat.{_≤_}
 use native.Mathlib.Omega.{arith}
 use borrow.Author.Needs.{needs}

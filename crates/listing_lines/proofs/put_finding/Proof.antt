@@ -1,4 +1,5 @@
--- `listing_lines::put_finding` meets its contract: a word, or the node in at most three digits and the set in at most four. Assumes nothing.
+-- `listing_lines::put_finding` meets its contract: a word, or the node in at most three digits and the set
+-- in at most four. Assumes nothing.
 use Prim.Native.Nat.{ℕ, _≤_}
 use mathlib.Core.Path.{_≡_}
 use native.Mathlib.Omega.{arith}

@@ -1,4 +1,5 @@
--- `listing_lines::put_halves` meets its contract: for each half its name, and behind that what it says. Assumes nothing.
+-- `listing_lines::put_halves` meets its contract: for each half its name, and behind that what it says.
+-- Assumes nothing.
 use Prim.Native.Nat.{ℕ}
 use mathlib.Core.Path.{_≡_, refl}
 use mathlib.Core.List.{List, _++_}

@@ -1,4 +1,5 @@
--- `listing_lines::put_node` meets its contract: the node's number in at most three digits, the kind's name, and two counts in at most four. Assumes nothing.
+-- `listing_lines::put_node` meets its contract: the node's number in at most three digits, the kind's name,
+-- and two counts in at most four. Assumes nothing.
 use Prim.Native.Nat.{ℕ, _+_, _≤_}
 use native.Mathlib.Omega.{arith}
 use borrow.Author.Needs.{needs}

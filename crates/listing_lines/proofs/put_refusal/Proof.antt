@@ -1,5 +1,5 @@
--- `listing_lines::put_refusal` meets its contract: the refusal's number has at most two digits, and its place, which fits a `usize`, at most twenty.
--- Assumes nothing.
+-- `listing_lines::put_refusal` meets its contract: the refusal's number has at most two digits, and its place,
+-- which fits a `usize`, at most twenty. Assumes nothing.
 use Prim.Native.Nat.{_≤_}
 use native.Mathlib.Omega.{arith}
 use borrow.Author.Needs.{needs}

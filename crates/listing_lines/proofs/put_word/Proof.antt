@@ -1,5 +1,5 @@
--- `listing_lines::put_word` meets its contract. The loop's invariant: the word's first k bytes are behind the front. The measure is what is left of the
--- word. Assumes nothing.
+-- `listing_lines::put_word` meets its contract. The loop's invariant: the word's first k bytes are behind the front.
+-- The measure is what is left of the word. Assumes nothing.
 use Prim.Native.Nat.{_+_, _-_, _≤_}
 use native.Mathlib.Nat.{add-zero, add-assoc}
 use native.Mathlib.Numerals.{add-one}

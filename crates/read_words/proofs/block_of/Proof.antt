@@ -1,5 +1,5 @@
--- `read_words::block_of` meets its contract. The loop's invariant: what the text says is said by the block so far and the lines from here on. The
--- measure is what is left of the text. Assumes nothing.
+-- `read_words::block_of` meets its contract. The loop's invariant: what the text says is said by the block so far and
+-- the lines from here on. The measure is what is left of the text. Assumes nothing.
 use Prim.Native.Nat.{_+_, _-_, _≤_, min}
 use mathlib.Core.Path.{_≡_}
 use mathlib.Core.List.{_∷_}

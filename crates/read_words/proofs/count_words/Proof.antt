@@ -1,5 +1,5 @@
--- `read_words::count_words` meets its contract. The loop's invariant: the words of the line are those counted and those from here on. The measure is
--- what is left of the line. Assumes nothing.
+-- `read_words::count_words` meets its contract. The loop's invariant: the words of the line are those counted and those
+-- from here on. The measure is what is left of the line. Assumes nothing.
 use Prim.Native.Nat.{_+_, _-_, _≤_}
 use mathlib.Core.Path.{_≡_, ap}
 use native.Mathlib.Omega.{arith}

@@ -1,5 +1,5 @@
--- `read_words::form_of` meets its contract. The loop's invariant: the word is none of the forms that were passed, so that it
--- is looked for in the rest. The measure is how many forms are left. Assumes nothing.
+-- `read_words::form_of` meets its contract. The loop's invariant: the word is none of the forms that were passed,
+-- so that it is looked for in the rest. The measure is how many forms are left. Assumes nothing.
 use Prim.Native.Nat.{ℕ, _-_, _≤_}
 use mathlib.Core.Path.{_≡_, refl, _∙_}
 use mathlib.Core.List.{List}

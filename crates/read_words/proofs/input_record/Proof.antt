@@ -1,5 +1,5 @@
--- `read_words::input_record` meets its contract. The loop's invariant: what the line says is said by the set so far and the words from here on. The
--- measure is what is left of the line. Assumes nothing.
+-- `read_words::input_record` meets its contract. The loop's invariant: what the line says is said by the set so far and
+-- the words from here on. The measure is what is left of the line. Assumes nothing.
 use Prim.Native.Nat.{_+_, _-_, _*_, _%_, _^_, _≤_, _<_}
 use mathlib.Core.Path.{_≡_, refl, sym, ap, _∙_}
 use mathlib.Core.List.{_∷_}

@@ -1,5 +1,5 @@
--- `read_words::is_word` meets its contract. The loop's invariant: the bytes passed are the same. The measure is what is left of the word.
--- Assumes nothing.
+-- `read_words::is_word` meets its contract. The loop's invariant: the bytes passed are the same.
+-- The measure is what is left of the word. Assumes nothing.
 use borrow.Author.Count.{below-more}
 use borrow.Author.Needs.{needs}
 use Prim.Native.Nat.{ℕ, _-_, _≤_, _<_}

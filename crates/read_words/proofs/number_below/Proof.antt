@@ -1,4 +1,5 @@
--- `read_words::number_below` meets its contract: the number if it is below the limit, and else the limit. Assumes nothing.
+-- `read_words::number_below` meets its contract: the number if it is below the limit, and else the limit.
+-- Assumes nothing.
 use borrow.Author.Needs.{needs}
 use native.Mathlib.Omega.{arith}
 use mathlib.Core.Path.{_∙_, sym}

@@ -1,5 +1,5 @@
--- `read_words::number_of` meets its contract. The loop's invariant: the word is the number that the digits left say behind the value so far,
--- which fits. The measure is what is left of the word. Assumes nothing.
+-- `read_words::number_of` meets its contract. The loop's invariant: the word is the number that the digits left say
+-- behind the value so far, which fits. The measure is what is left of the word. Assumes nothing.
 use borrow.Author.Needs.{needs}
 use borrow.Author.Tests.{eq-eqb, ne-eqb}
 use Prim.Native.Nat.{_-_, _^_, _≤_, _<_}

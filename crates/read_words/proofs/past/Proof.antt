@@ -1,5 +1,5 @@
--- `read_words::past` meets its contract. The loop's invariant: a scan from here stops where one from the start does. The measure is what is left of
--- the text. Assumes nothing.
+-- `read_words::past` meets its contract. The loop's invariant: a scan from here stops where one from the start does.
+-- The measure is what is left of the text. Assumes nothing.
 use Prim.Native.Nat.{_+_, _-_, _≤_}
 use mathlib.Core.Path.{_≡_, sym, _∙_}
 use borrow.Author.Needs.{needs}

@@ -1,5 +1,5 @@
--- `read_words::put_record` meets its contract. The loop's invariant: the first k bytes are stored. The measure is the number of bytes left.
--- Assumes nothing.
+-- `read_words::put_record` meets its contract. The loop's invariant: the first k bytes are stored.
+-- The measure is the number of bytes left. Assumes nothing.
 use Prim.Native.Nat.{_-_, _≤_}
 use mathlib.Core.Path.{_≡_, refl, _∙_}
 use native.Mathlib.Omega.{arith}

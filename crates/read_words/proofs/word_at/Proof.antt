@@ -1,5 +1,5 @@
--- `read_words::word_at` meets its contract. The loop's invariant: the words from here on are those behind the first i. The measure is the number of
--- words left to pass. Assumes nothing.
+-- `read_words::word_at` meets its contract. The loop's invariant: the words from here on are those behind the first i.
+-- The measure is the number of words left to pass. Assumes nothing.
 use Prim.Native.Nat.{_-_, _≤_}
 use mathlib.Core.Path.{_≡_, refl}
 use native.Mathlib.Omega.{arith}

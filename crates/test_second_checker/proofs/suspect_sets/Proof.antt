@@ -19,8 +19,8 @@ loop-holds c = search needs
 set-at-requires : tie.Need-set-at-requires Inv-loop μ-loop
 set-at-requires c κs = search needs
 
-mul-variables : tie.Need-mul-variables Inv-loop μ-loop
-mul-variables c = search needs
+size-of-requires : tie.Need-size-of-requires Inv-loop μ-loop
+size-of-requires c κs = search needs
 
 mul-least : tie.Need-mul-least Inv-loop μ-loop
 mul-least c = search needs
@@ -67,7 +67,7 @@ suspect-sets-spec =
     length-of-requires
     loop-holds
     set-at-requires
-    mul-variables
+    size-of-requires
     mul-least
     add-least
     least-requires

@@ -1,5 +1,6 @@
--- `test_trial::check_pairs_over` meets its contract: the walk that the four functions share (`Over`), with `check_pairs` for the entry point. All that it knows of both
--- callees is that each meets its contract. Assumes nothing.
+-- `test_trial::check_pairs_over` meets its contract: the walk that the four functions share (`Over`), with
+-- `check_pairs` for the entry point. All that it knows of both callees is that each meets its contract. Assumes
+-- nothing.
 use mathlib.Core.Path.{_≡_, refl, _∙_, ap, subst}
 use mathlib.Core.Logic.{_↔_}
 use Prim.Native.Nat.{ℕ, _<_, _^_, min}

@@ -1,5 +1,5 @@
--- `write_bytes::put_node` meets its contract: the record's bytes are told by the fields of the node, by cases on the node, and each arm of the
--- match stores those of the kinds that it is for. Assumes nothing.
+-- `write_bytes::put_node` meets its contract: the record's bytes are told by the fields of the node, by cases on the
+-- node, and each arm of the match stores those of the kinds that it is for. Assumes nothing.
 use Prim.Native.Nat.{ℕ, _/_, _%_}
 use mathlib.Core.Path.{_≡_, refl}
 use mathlib.Core.Logic.{_⊎_, inl, inr}

@@ -1,5 +1,5 @@
--- `write_bytes::put_nodes` meets its contract. The loop's invariant: the records of the first i nodes are stored behind the variables'. The
--- measure is the number of nodes left. Assumes nothing.
+-- `write_bytes::put_nodes` meets its contract. The loop's invariant: the records of the first i nodes are stored behind
+-- the variables'. The measure is the number of nodes left. Assumes nothing.
 use Prim.Native.Nat.{_+_, _*_, _-_, _≤_, _<_}
 use mathlib.Core.Path.{_≡_, refl, ap}
 use native.Mathlib.Omega.{arith}

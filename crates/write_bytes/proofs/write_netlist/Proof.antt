@@ -1,5 +1,5 @@
--- `write_bytes::write_netlist` meets its contract: a netlist is within the limits, and the records of its variables, those
--- of its nodes and the end are stored one behind the other. Assumes nothing.
+-- `write_bytes::write_netlist` meets its contract: a netlist is within the limits, and the records of its variables,
+-- those of its nodes and the end are stored one behind the other. Assumes nothing.
 use Prim.Native.Nat.{_+_}
 use mathlib.Core.Path.{_≡_}
 use native.Mathlib.Omega.{arith}

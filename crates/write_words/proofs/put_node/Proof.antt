@@ -1,4 +1,5 @@
--- `write_words::put_node` meets its contract: the name of the kind, the numbers behind it, and a line feed. Assumes nothing.
+-- `write_words::put_node` meets its contract: the name of the kind, the numbers behind it, and a line feed.
+-- Assumes nothing.
 use Prim.Native.Nat.{_+_, _≤_}
 use mathlib.Core.Logic.{⊎-elim}
 use native.Mathlib.Omega.{arith}

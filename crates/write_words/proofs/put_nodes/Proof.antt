@@ -1,5 +1,5 @@
--- `write_words::put_nodes` meets its contract. The loop's invariant: the lines of the first i nodes are behind the variables'. The measure is the
--- number of nodes left. Assumes nothing.
+-- `write_words::put_nodes` meets its contract. The loop's invariant: the lines of the first i nodes are behind the
+-- variables'. The measure is the number of nodes left. Assumes nothing.
 use Prim.Native.Nat.{_+_, _*_, _-_, _≤_, _<_}
 use mathlib.Core.Path.{_≡_, refl, ap}
 use mathlib.Core.List.{List, map}

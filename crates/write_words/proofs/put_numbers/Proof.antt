@@ -1,5 +1,5 @@
--- `write_words::put_numbers` meets its contract: an input has the variables of its set, and every other node its one or two
--- operands, each in at most three digits. Assumes nothing.
+-- `write_words::put_numbers` meets its contract: an input has the variables of its set, and every other node its one or
+-- two operands, each in at most three digits. Assumes nothing.
 use Prim.Native.Nat.{ℕ}
 use mathlib.Core.Path.{_≡_, refl, ap, _∙_}
 use mathlib.Core.Logic.{inl, inr}

@@ -1,5 +1,5 @@
--- `write_words::put_set` meets its contract. The loop's invariant: the variables of the set that are below the next one are put, each
--- in two bytes with its blank. The measure is how many variables are left. Assumes nothing.
+-- `write_words::put_set` meets its contract. The loop's invariant: the variables of the set that are below the next one
+-- are put, each in two bytes with its blank. The measure is how many variables are left. Assumes nothing.
 use Prim.Native.Nat.{_+_, _*_, _-_, _≤_}
 use mathlib.Core.Path.{_≡_}
 use mathlib.Core.Logic.{⊎-elim}

@@ -1,5 +1,5 @@
--- `write_words::put_variables` meets its contract. The loop's invariant: the lines of the first i variables are at the front. The measure is the
--- number of variables left. Assumes nothing.
+-- `write_words::put_variables` meets its contract. The loop's invariant: the lines of the first i variables are at the
+-- front. The measure is the number of variables left. Assumes nothing.
 use Prim.Native.Nat.{_*_, _-_, _≤_, _<_}
 use mathlib.Core.Path.{_≡_, refl, ap}
 use mathlib.Core.List.{List, map}

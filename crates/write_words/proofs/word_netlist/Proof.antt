@@ -1,5 +1,5 @@
--- `write_words::word_netlist` meets its contract: a netlist is within the limits, and the lines of its variables, those of
--- its nodes and the end go one behind the other. Assumes nothing.
+-- `write_words::word_netlist` meets its contract: a netlist is within the limits, and the lines of its variables,
+-- those of its nodes and the end go one behind the other. Assumes nothing.
 use mathlib.Core.Path.{_≡_}
 use native.Mathlib.Omega.{arith}
 use borrow.Author.Needs.{needs}

@@ -1,4 +1,5 @@
--- `write_words::write_words` meets its contract: what is loaded of an open block is its netlist by value. Assumes nothing.
+-- `write_words::write_words` meets its contract: what is loaded of an open block is its netlist by value.
+-- Assumes nothing.
 use Prim.Native.Nat.{ℕ}
 use mathlib.Core.Path.{_≡_, ap, _∙_}
 use mathlib.Core.List.{List}

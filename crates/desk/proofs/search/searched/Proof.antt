@@ -1,5 +1,5 @@
--- `desk::search::searched` meets its contract: the loop of `pairs::examine_pairs`. Its invariant: of all netlist bytes what was under way where it began still is.
--- The measure is how many nodes are left. Assumes nothing.
+-- `desk::search::searched` meets its contract: the loop of `pairs::examine_pairs`. Its invariant: of all netlist bytes
+-- what was under way where it began still is. The measure is how many nodes are left. Assumes nothing.
 use Prim.Native.Nat.{ℕ, _-_}
 use mathlib.Core.Path.{sym, _∙_}
 use mathlib.Core.List.{List}

@@ -1,4 +1,5 @@
--- `desk::why::say_steps` is safe and ends. The loop's invariant: after k steps no more wait than k and one. The measure is how many are left. Assumes nothing.
+-- `desk::why::say_steps` is safe and ends. The loop's invariant: after k steps no more wait than k and one.
+-- The measure is how many are left. Assumes nothing.
 use Prim.Native.Nat.{_+_, _-_, _≤_}
 use borrow.Author.Needs.{needs}
 use Rattle.derivation_rules.specs.Derivations.{most-steps}

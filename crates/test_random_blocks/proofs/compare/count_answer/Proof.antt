@@ -5,37 +5,13 @@ use Rattle.test_random_blocks.proofs.compare.count_answer.Statement.{st
 use Rattle.test_random_blocks.proofs.compare.count_answer.Tie as tie
 
 abbrev Inv-loop : tie.InvT-loop
-Inv-loop tally₀ store settled glitch list₀ tally list = list ≤ 400
+Inv-loop tally₀ store list₀ tally list = list ≤ 400
 
 abbrev μ-loop : tie.MeasureT-loop
-μ-loop tally₀ store settled glitch list₀ tally list = 400 - list
-
-first-suspect-requires : tie.Need-first-suspect-requires Inv-loop μ-loop
-first-suspect-requires c κs = search needs
-
-first-suspect-requires-2 : tie.Need-first-suspect-requires-2 Inv-loop μ-loop
-first-suspect-requires-2 c κs = search needs
+μ-loop tally₀ store list₀ tally list = 400 - list
 
 count-requires : tie.Need-count-requires Inv-loop μ-loop
 count-requires c κs = search needs
-
-one-if-requires : tie.Need-one-if-requires Inv-loop μ-loop
-one-if-requires c κs = search needs
-
-count-requires-2 : tie.Need-count-requires-2 Inv-loop μ-loop
-count-requires-2 c κs = search needs
-
-one-if-requires-2 : tie.Need-one-if-requires-2 Inv-loop μ-loop
-one-if-requires-2 c κs = search needs
-
-count-requires-3 : tie.Need-count-requires-3 Inv-loop μ-loop
-count-requires-3 c κs = search needs
-
-one-if-requires-3 : tie.Need-one-if-requires-3 Inv-loop μ-loop
-one-if-requires-3 c κs = search needs
-
-count-requires-4 : tie.Need-count-requires-4 Inv-loop μ-loop
-count-requires-4 c κs = search needs
 
 count-reported-requires : tie.Need-count-reported-requires Inv-loop μ-loop
 count-reported-requires c κs = search needs
@@ -43,26 +19,26 @@ count-reported-requires c κs = search needs
 count-reported-requires-2 : tie.Need-count-reported-requires-2 Inv-loop μ-loop
 count-reported-requires-2 c κs = search needs
 
+first-suspect-requires : tie.Need-first-suspect-requires Inv-loop μ-loop
+first-suspect-requires c κs = search needs
+
+count-if-requires : tie.Need-count-if-requires Inv-loop μ-loop
+count-if-requires c κs = search needs
+
 loop-holds : tie.Need-loop-holds Inv-loop μ-loop
 loop-holds c = search needs
 
 length-of-requires : tie.Need-length-of-requires Inv-loop μ-loop
 length-of-requires c κs = search needs
 
-count-requires-5 : tie.Need-count-requires-5 Inv-loop μ-loop
-count-requires-5 c κs = search needs
+count-requires-2 : tie.Need-count-requires-2 Inv-loop μ-loop
+count-requires-2 c κs = search needs
 
-one-if-requires-4 : tie.Need-one-if-requires-4 Inv-loop μ-loop
-one-if-requires-4 c κs = search needs
+count-if-requires-2 : tie.Need-count-if-requires-2 Inv-loop μ-loop
+count-if-requires-2 c κs = search needs
 
-count-requires-6 : tie.Need-count-requires-6 Inv-loop μ-loop
-count-requires-6 c κs = search needs
-
-element-copy-out-if1 : tie.Need-element-copy-out-if1 Inv-loop μ-loop
-element-copy-out-if1 c = search needs
-
-element-write-tally : tie.Need-element-write-tally Inv-loop μ-loop
-element-write-tally c = search needs
+raise-requires : tie.Need-raise-requires Inv-loop μ-loop
+raise-requires c κs = search needs
 
 add-list : tie.Need-add-list Inv-loop μ-loop
 add-list c = search needs
@@ -82,24 +58,16 @@ count-answer-spec =
     (tie.spec
     Inv-loop
     μ-loop
-    first-suspect-requires
-    first-suspect-requires-2
     count-requires
-    one-if-requires
-    count-requires-2
-    one-if-requires-2
-    count-requires-3
-    one-if-requires-3
-    count-requires-4
     count-reported-requires
     count-reported-requires-2
+    first-suspect-requires
+    count-if-requires
     loop-holds
     length-of-requires
-    count-requires-5
-    one-if-requires-4
-    count-requires-6
-    element-copy-out-if1
-    element-write-tally
+    count-requires-2
+    count-if-requires-2
+    raise-requires
     add-list
     loop-less
     loop-again

@@ -28,11 +28,8 @@ element-copy-out-is-bare c = search needs
 is-bare-requires : tie.Need-is-bare-requires Inv-loop μ-loop
 is-bare-requires c κs = search needs
 
-one-if-requires : tie.Need-one-if-requires Inv-loop μ-loop
-one-if-requires c κs = search needs
-
-count-requires : tie.Need-count-requires Inv-loop μ-loop
-count-requires c κs = search needs
+count-if-requires : tie.Need-count-if-requires Inv-loop μ-loop
+count-if-requires c κs = search needs
 
 add-i : tie.Need-add-i Inv-loop μ-loop
 add-i c = search needs
@@ -58,8 +55,7 @@ count-inputs-spec =
     mul-is-bare
     element-copy-out-is-bare
     is-bare-requires
-    one-if-requires
-    count-requires
+    count-if-requires
     add-i
     loop-less
     loop-again

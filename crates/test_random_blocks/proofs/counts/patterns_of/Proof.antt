@@ -28,8 +28,8 @@ mul-patterns c = search needs
 array-read-patterns : tie.Need-array-read-patterns Inv-loop μ-loop
 array-read-patterns c = search needs
 
-one-if-requires : tie.Need-one-if-requires Inv-loop μ-loop
-one-if-requires c κs = search needs
+number-if-requires : tie.Need-number-if-requires Inv-loop μ-loop
+number-if-requires c κs = search needs
 
 shl-patterns : tie.Need-shl-patterns Inv-loop μ-loop
 shl-patterns c = search needs
@@ -64,7 +64,7 @@ patterns-of-spec =
     settled-value-requires
     mul-patterns
     array-read-patterns
-    one-if-requires
+    number-if-requires
     shl-patterns
     mul-patterns-2
     array-write-patterns

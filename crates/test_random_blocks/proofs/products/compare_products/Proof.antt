@@ -34,11 +34,8 @@ loop-again c = search needs
 families-differ-requires : tie.Need-families-differ-requires Inv-loop μ-loop
 families-differ-requires c κs = search needs
 
-one-if-requires : tie.Need-one-if-requires Inv-loop μ-loop
-one-if-requires c κs = search needs
-
-count-requires : tie.Need-count-requires Inv-loop μ-loop
-count-requires c κs = search needs
+count-if-requires : tie.Need-count-if-requires Inv-loop μ-loop
+count-if-requires c κs = search needs
 
 returns : tie.Need-returns Inv-loop μ-loop
 returns c = search needs
@@ -57,6 +54,5 @@ compare-products-spec =
     loop-less
     loop-again
     families-differ-requires
-    one-if-requires
-    count-requires
+    count-if-requires
     returns)
