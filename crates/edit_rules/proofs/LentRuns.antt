@@ -1,6 +1,7 @@
--- A run of edits of block A, each call in slices of its own lengths, which antt computes from the definitions: the block is opened in one part of two
--- arrays, removals are refused in shorter ones, and the run goes on in longer ones until it is block B; and blocks that are not as a check leaves them, for
--- want of an entry and of the families. Assumes nothing.
+-- A run of edits of block A, each call in slices of its own lengths, which antt computes from the definitions:
+-- the block is opened in one part of two arrays, removals are refused in shorter ones, and the run goes on in
+-- longer ones until it is block B; and blocks that are not as a check leaves them, for want of an entry and
+-- of the families. Assumes nothing.
 use Prim.Native.Nat.{ℕ}
 use mathlib.Core.Path.{_≡_, refl, ap}
 use mathlib.Core.List.{List, [], _∷_, _++_}
@@ -29,8 +30,9 @@ lent entries bytes = record { entries = entries; bytes = bytes }
 abbrev call : Edit → (entries bytes : ℕ) → Call
 call e entries bytes = record { edit = e; lent = lent entries bytes }
 
--- Block A is mended. Its last gate is not removed in slices too short for the five nodes that it has, by an entry or by a byte; then it is, and a
--- register is taken in its place. The gate of the register does not fit the same slices, and fits longer ones.
+-- Block A is mended. Its last gate is not removed in slices too short for the five nodes that it has,
+-- by an entry or by a byte; then it is, and a register is taken in its place. The gate of the register does not fit
+-- the same slices, and fits longer ones.
 abbrev mending : List Call
 mending =
     call (remove 4) 4 1280
@@ -79,7 +81,8 @@ mending-leaves = refl
 
 -- ---- blocks that are not as a check leaves them
 
--- Block A in as many of its entries as the first call of that run was lent: were those behind it lost, nothing of the block could be checked.
+-- Block A in as many of its entries as the first call of that run was lent: were those behind it lost,
+-- nothing of the block could be checked.
 abbrev cut-off : OpenBlock
 cut-off = record {
   netlist = p9;

@@ -1,5 +1,5 @@
--- The search for the lowest node that uses a node, in file order: none of the first j does, so that it is found among the others. Assumes
--- nothing.
+-- The search for the lowest node that uses a node, in file order: none of the first j does, so that it is found
+-- among the others. Assumes nothing.
 use Prim.Native.Nat.{ℕ, suc, _+_, _≤_, _<_}
 use mathlib.Core.Path.{_≡_, sym}
 use mathlib.Core.Bool.{true, false, cond}

@@ -1,5 +1,5 @@
--- A node removed: what is examined where another node still uses the node and where it is removed, and what a removal comes to before that. Assumes
--- nothing.
+-- A node removed: what is examined where another node still uses the node and where it is removed, and what a removal
+-- comes to before that. Assumes nothing.
 use Prim.Native.Nat.{ℕ, _+_, _*_, _≤_, _<_}
 use mathlib.Core.Path.{_≡_, refl, sym, ap, ap₂, _∙_}
 use mathlib.Core.List.{List}

@@ -1,5 +1,5 @@
--- Runs of edits, computed: block A becomes block B by three lines, and with a line more that is at fault it does so too, but the fault is told.
--- Assumes nothing.
+-- Runs of edits, computed: block A becomes block B by three lines, and with a line more that is at fault it does so
+-- too, but the fault is told. Assumes nothing.
 use mathlib.Core.Path.{_≡_, refl, sym}
 use mathlib.Core.Bool.{Bool, true, false, false≢true}
 use mathlib.Core.List.{List, [], _∷_}

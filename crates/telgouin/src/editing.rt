@@ -240,8 +240,8 @@ fn obey(turn: Turn, line: &[u8], work: &mut [u8; MOST_WORK]) -> Taken
     }
 }
 
-// A line of standard input, without its line feed: so many bytes; or more than a line may have; or none, since the input
-// has ended, or cannot be read.
+// A line of standard input, without its line feed: so many bytes; or more than a line may have; or none,
+// since the input has ended, or cannot be read.
 enum Line {
     Of(usize),
     Long,

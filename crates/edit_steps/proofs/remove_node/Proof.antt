@@ -1,5 +1,6 @@
--- `edit_steps::remove_node` meets its contract: each refusal is the one that the rules check first; and where none is, the families and marks that moved
--- down are those of the netlist without the node, and the answer is read from these marks. Assumes nothing.
+-- `edit_steps::remove_node` meets its contract: each refusal is the one that the rules check first; and where none is,
+-- the families and marks that moved down are those of the netlist without the node, and the answer is read
+-- from these marks. Assumes nothing.
 use mathlib.Core.Path.{_∙_}
 use borrow.Author.Needs.{needs}
 use Rattle.checker.proofs.Core.{too-short}

@@ -1,5 +1,5 @@
--- `telgouin::editing::edit_block` meets its contract: a run starts at the block that was opened, and where it was refused
--- there is none. Assumes nothing.
+-- `telgouin::editing::edit_block` meets its contract: a run starts at the block that was opened, and where it was
+-- refused there is none. Assumes nothing.
 use mathlib.Core.Path.{ap, _∙_}
 use borrow.Author.Needs.{needs}
 use Rattle.rules.specs.Paper.{replyOf}

@@ -1,4 +1,5 @@
--- `telgouin::editing::obey` meets its contract: the block after a line is what the line leaves, also where a file could not be written. Assumes nothing.
+-- `telgouin::editing::obey` meets its contract: the block after a line is what the line leaves, also where a file
+-- could not be written. Assumes nothing.
 use mathlib.Core.Path.{sym}
 use mathlib.Core.Bool.{true}
 use native.Mathlib.Omega.{arith}
