@@ -37,7 +37,8 @@ pub record ReadsMarks (value : Value.Netlist) (marks : Marks) (examined : Examin
   pub stands : (k p : ℕ) → replyOf (examined .reply) ≡ refused k p → ⊥
   pub finds : (n : Netlist) → value ≡ flatOf n → marks ≡ marksOf n → replyOf (examined .reply) ≡ answered (findings n)
 
--- what is told of slices of so many entries and so many work bytes, of every netlist with so many nodes: they are refused as the rules refuse them, or hold the nodes
+-- what is told of slices of so many entries and so many work bytes, of every netlist with so many nodes:
+-- they are refused as the rules refuse them, or hold the nodes
 pub record JudgesSlices (count entries work : ℕ) (told : QueryOutcome) : Type 0 where
   pub says : (n : Netlist) → count ≡ length (n .nodes) → queryOf told ≡ andThen (slicesFit entries work n) (λ m. answered tt)
   pub room : told ≡ Query.Answered → (count ≤ entries) × (256 * count ≤ work)

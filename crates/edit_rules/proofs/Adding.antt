@@ -1,5 +1,5 @@
--- A new node at the end of a netlist: where its record is offered, the node has room and can stand there, and the netlist
--- with it obeys the record rules. And the nodes before it report what they did. Assumes nothing.
+-- A new node at the end of a netlist: where its record is offered, the node has room and can stand there, and the
+-- netlist with it obeys the record rules. And the nodes before it report what they did. Assumes nothing.
 use Prim.Native.Nat.{ℕ, _+_, _^_, _<_, _≤_}
 use mathlib.Core.Path.{_≡_, refl, sym, ap, _∙_}
 use mathlib.Core.Bool.{false}

@@ -1,6 +1,7 @@
--- Edits of two blocks with what each comes to, which antt computes from the definitions: every refusal, and two that meet in their order; one whose
--- counts differ after it, so that what is said of one probe after an edit is not empty; a node that is named, whose removal would change another's
--- value; and marks after an edit, with a block that is not as a check leaves it for one mark. Assumes nothing.
+-- Edits of two blocks with what each comes to, which antt computes from the definitions: every refusal, and two that
+-- meet in their order; one whose counts differ after it, so that what is said of one probe after an edit is not empty;
+-- a node that is named, whose removal would change another's value; and marks after an edit, with a block that is not
+-- as a check leaves it for one mark. Assumes nothing.
 use Prim.Native.Nat.{ℕ}
 use mathlib.Core.Path.{_≡_, refl, ap}
 use mathlib.Core.Bool.{false, true, xor}
@@ -69,8 +70,8 @@ shared cells = record { variables = secret ∷ mask ∷ []; nodes = cells }
 abbrev inputs : ℕ → Netlist
 inputs count = shared (replicate count (input 3))
 
--- Additions: each refusal of a record, in their order, and then those of the slices; each place is the number that the node would have. No record
--- offers a variable, so refusal 3 is that of the 201st node.
+-- Additions: each refusal of a record, in their order, and then those of the slices; each place is the number that the
+-- node would have. No record offers a variable, so refusal 3 is that of the 201st node.
 abbrev pub additions : List Case
 additions =
     roomy before-a (add (4 ∷ 3 ∷ 1 ∷ [])) (answered p9)
@@ -93,8 +94,8 @@ additions =
     ∷ short before-a (add (4 ∷ 3 ∷ 1 ∷ [])) 5 1280 (answered p9)
     ∷ []
 
--- Removals: 12, then the slices for the nodes that the block has, then 14. Of the gates, node 4 is named by none; operands above it are lowered,
--- and those below it are not.
+-- Removals: 12, then the slices for the nodes that the block has, then 14. Of the gates, node 4 is named by none;
+-- operands above it are lowered, and those below it are not.
 abbrev pub removals : List Case
 removals =
     roomy p9 (remove 4) (answered before-a)
@@ -138,7 +139,8 @@ pub a-read : read (writtenOut p9) ≡ answered p9
 unfolding replyTo variablesOut nodesOut writtenOut recordBytes body kindOf classByte
 a-read = refl
 
--- On the feeding points of node 4, beside secret 0 one mask setting gives the pattern of zeros, and beside secret 1 none does.
+-- On the feeding points of node 4, beside secret 0 one mask setting gives the pattern of zeros,
+-- and beside secret 1 none does.
 pub counts-differ : (giving p9 (feeding p9 4) all-zero [] (false ∷ []) ≡ 1) × (giving p9 (feeding p9 4) all-zero [] (true ∷ []) ≡ 0)
 unfolding member insert union count table xor exclusiveOr valueRule values feedingRule feedings feeding same howMany settings next others make matches giving
 counts-differ = (refl, refl)
@@ -161,12 +163,13 @@ used-changes = (refl, refl)
 
 -- ---- marks after an edit
 
--- input 0 is the bare secret and has no mark; NOT 0 is marked in both layers and XOR 0 1 for glitches alone; NOT 1, which none names, in neither
+-- input 0 is the bare secret and has no mark; NOT 0 is marked in both layers and XOR 0 1 for glitches alone;
+-- NOT 1, which none names, in neither
 abbrev two-marked : Netlist
 two-marked = shared (input 1 ∷ input 3 ∷ NOT 1 ∷ NOT 0 ∷ XOR 0 1 ∷ [])
 
--- Without NOT 1 the marks of the two nodes behind it move down with them, and the freed last entry keeps what it held; the last gate of block A is
--- marked where it is added, and nothing else is written.
+-- Without NOT 1 the marks of the two nodes behind it move down with them, and the freed last entry keeps what it held;
+-- the last gate of block A is marked where it is added, and nothing else is written.
 pub marks-after : (recordsAfter two-marked (remove 2) (nodeRecords two-marked) 1280
     ≡ fields 2 0 0 1 0 0 ∷ fields 2 0 0 3 0 0 ∷ fields 3 0 0 0 1 1 ∷ fields 4 0 1 0 0 1 ∷ fields 4 0 1 0 0 1 ∷ [])
     × (recordsAfter before-a (add (4 ∷ 3 ∷ 1 ∷ [])) (replicate 5 (fields 9 9 9 9 9 9)) 1280
@@ -174,7 +177,7 @@ pub marks-after : (recordsAfter two-marked (remove 2) (nodeRecords two-marked) 1
 unfolding replyTo editedTo entry markNumber nodeRecord nodeRecords tabulate filled recordsAfter
 marks-after = (refl, refl)
 
--- OpenBlock A with its node records, but for the mark of its last gate, which is not there: it is not as a check leaves it.
+-- Block A with its node records, but for the mark of its last gate, which is not there: it is not as a check leaves it.
 abbrev unmarked-a : OpenBlock
 unmarked-a = record {
   netlist = p9;

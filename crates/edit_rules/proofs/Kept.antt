@@ -1,5 +1,6 @@
--- What an edit keeps: the netlist that it makes obeys the record rules, and both slices have room for it. So the netlist, written out, is read
--- and checked afresh in the same slices with the same reply and the same contents. Assumes nothing.
+-- What an edit keeps: the netlist that it makes obeys the record rules, and both slices have room for it.
+-- So the netlist, written out, is read and checked afresh in the same slices with the same reply and the same contents.
+-- Assumes nothing.
 use Prim.Native.Nat.{ℕ, _*_, _≤_}
 use mathlib.Core.Path.{_≡_, refl, sym, subst, _∙_}
 use mathlib.Core.List.{List, [], _∷_}
@@ -115,7 +116,8 @@ pub afresh-work : (entries : ℕ) (before : List ℕ) (m : Netlist) → Made ent
 unfolding workAfter
 afresh-work entries before m is = rw (afresh-admitted entries (length before) m is)
 
--- The netlist after an edit that is made, written out and checked afresh in the same slices, gives the same reply, node records and families.
+-- The netlist after an edit that is made, written out and checked afresh in the same slices, gives the same
+-- reply, node records and families.
 pub checked-afresh : (n m : Netlist) (e : Edit) (nodes : List NodeRecord) (work : List ℕ) → WellFormed n → edited n e (length nodes) (length work) ≡ answered m
     → (replyAfter n e (length nodes) (length work) ≡ reply (writtenOut m) (length nodes) (length work))
     × (recordsAfter n e nodes (length work) ≡ nodesAfter (writtenOut m) nodes (length work))

@@ -1,6 +1,7 @@
--- A run of edits of block A, each call in slices of its own lengths, which antt computes from the definitions: the block is opened in one part of two
--- arrays, removals are refused in shorter ones, and the run goes on in longer ones until it is block B; and blocks that are not as a check leaves them, for
--- want of an entry and of the families. Assumes nothing.
+-- A run of edits of block A, each call in slices of its own lengths, which antt computes from the definitions:
+-- the block is opened in one part of two arrays, removals are refused in shorter ones, and the run goes on in
+-- longer ones until it is block B; and blocks that are not as a check leaves them, for want of an entry and
+-- of the families. Assumes nothing.
 use Prim.Native.Nat.{ℕ}
 use mathlib.Core.Path.{_≡_, refl, ap}
 use mathlib.Core.List.{List, [], _∷_, _++_}
@@ -29,8 +30,9 @@ lent entries bytes = record { entries = entries; bytes = bytes }
 abbrev call : Edit → (entries bytes : ℕ) → Call
 call e entries bytes = record { edit = e; lent = lent entries bytes }
 
--- OpenBlock A is mended. Its last gate is not given up in slices too short for the five nodes that it has, by an entry or by a byte; then it is, and a
--- register is taken in its place. The gate of the register does not fit the same slices, and fits longer ones.
+-- Block A is mended. Its last gate is not removed in slices too short for the five nodes that it has,
+-- by an entry or by a byte; then it is, and a register is taken in its place. The gate of the register does not fit
+-- the same slices, and fits longer ones.
 abbrev mending : List Call
 mending =
     call (remove 4) 4 1280
@@ -63,7 +65,7 @@ mending-outcomes = refl
 abbrev family : (first : ℕ) → List ℕ
 family first = first ∷ replicate 127 0
 
--- OpenBlock B is left in both arrays, and behind it stands what the caller left there.
+-- Block B is left in both arrays, and behind it stands what the caller left there.
 abbrev mended : OpenBlock
 mended = record {
   netlist = p10;
@@ -79,7 +81,8 @@ mending-leaves = refl
 
 -- ---- blocks that are not as a check leaves them
 
--- OpenBlock A in as many of its entries as the first call of that run was lent: were those behind it lost, nothing of the block could be checked.
+-- Block A in as many of its entries as the first call of that run was lent: were those behind it lost,
+-- nothing of the block could be checked.
 abbrev cut-off : OpenBlock
 cut-off = record {
   netlist = p9;
@@ -95,7 +98,7 @@ pub cut-off-not : ¬ AsChecked cut-off
 unfolding replyTo variablesOut nodesOut writtenOut
 cut-off-not checked = let no : _≡_ {A = ℕ} 0 1 = ap isAnswered (checked .answers) in omega (arith, no)
 
--- OpenBlock A with its node records, and with no set in any family.
+-- Block A with its node records, and with no set in any family.
 abbrev no-families : OpenBlock
 no-families = record {
   netlist = p9;

@@ -1,7 +1,8 @@
--- Taking out a node that no node names leaves every other entry, renumbered. The law is said once, of any table (`Tables`): over the step, the
--- entries' type, and a relation between an entry before and the entry after. It is by recursion over the nodes: those before the one that is removed,
--- that one, those behind it. Families and settled values follow at equality, feeding points at "each point renumbered"; and with the families what
--- each node reports. Assumes nothing.
+-- Taking out a node that no node names leaves every other entry, renumbered. The law is said once, of any table
+-- (`Tables`): over the step, the entries' type, and a relation between an entry before and the entry after.
+-- It is by recursion over the nodes: those before the one that is removed, that one, those behind it.
+-- Families and settled values follow at equality, feeding points at "each point renumbered"; and with the families
+-- what each node reports. Assumes nothing.
 use Prim.Native.Nat.{ℕ, zero, suc, _+_, _-_, _≤_, _<_, _^_}
 use mathlib.Core.Path.{_≡_, refl, sym, ap, ap₂, _∙_, subst}
 use mathlib.Core.Bool.{Bool, true, false, cond, _||_}
@@ -105,7 +106,7 @@ lowered-suc removed a = go (decLe a removed)
 
 -- ---- a node that is not named
 
--- no node of the list names node `removed`
+-- no node of the list uses node `removed`
 abbrev pub Unused : ℕ → List Cell → Type 0
 Unused removed cells = length cells ≤ lowestUser removed cells
 
@@ -136,7 +137,8 @@ module _ (removed : ℕ) where
 -- ---- two lists, before and after
 
 module _ {A : Type 0} (d : A) (R : A → A → Type 0) (removed : ℕ) where
-  -- the new list has as many entries but for the one that is removed, and each of the others stands in R to the one that it became
+  -- the new list has as many entries but for the one that is removed, and each of the others stands
+  -- in R to the one that it became
   pub record Moved (old new : List A) : Type 0 where
     pub many : length new ≡ lowered removed (length old)
     pub each : (a : ℕ) → Other removed a → R (getD old a d) (getD new (lowered removed a) d)
@@ -179,7 +181,8 @@ module _ {A : Type 0} (d : A) (R : A → A → Type 0) (removed : ℕ) where
 
   -- ---- the law
 
-  -- the step gives entries in R, from lists that are so moved and for a node, not the one that is removed, that does not name that one
+  -- the step gives entries in R, from lists that are so moved and for a node, not the one that is removed,
+  -- that does not name that one
   abbrev pub Follows : (List A → Cell → A) → Type 0
   Follows step =
       (old new : List A) → Moved old new → Other removed (length old) → (cell : Cell) → All (Other removed) (operands cell)

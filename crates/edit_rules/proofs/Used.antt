@@ -1,5 +1,5 @@
--- The search for the lowest node that names a node, in file order: none of the first j does, so that it is found among the others. Assumes
--- nothing.
+-- The search for the lowest node that uses a node, in file order: none of the first j does, so that it is found
+-- among the others. Assumes nothing.
 use Prim.Native.Nat.{ℕ, suc, _+_, _≤_, _<_}
 use mathlib.Core.Path.{_≡_, sym}
 use mathlib.Core.Bool.{true, false, cond}
@@ -13,7 +13,7 @@ use Rattle.rules.specs.Records.{Cell, input}
 use Rattle.edit_rules.specs.Edits.{uses, lowestUser}
 
 module _ (i : ℕ) (nodes : List Cell) where
-  -- none of the first j nodes names node i
+  -- none of the first j nodes uses node i
   abbrev pub Passed : (j : ℕ) → Type 0
   Passed j = lowestUser i nodes ≡ j + lowestUser i (drop j nodes)
 

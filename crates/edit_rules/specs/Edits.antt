@@ -1,6 +1,7 @@
--- Change request A3, "Cells come and go": an open block takes a new node at the end, or gives up a node that no other names. Its sentences in
--- their order: the two edits, the refusals with number and place, and what an edit leaves. `tested`, families, findings and what both slices
--- hold are document 01's. Assumes nothing.
+-- Change request A3, "Cells come and go": an open block takes a new node at the end, or loses a node that no other uses
+-- (the request: gives up a node that no other names). Its sentences in their order: the two edits, the refusals with
+-- number and place, and what an edit leaves. `tested`, families, findings and what both slices hold are document 01's.
+-- Assumes nothing.
 use Prim.Native.Nat.{ℕ, suc, _*_, _-_}
 use mathlib.Core.Path.{_≡_}
 use mathlib.Core.Bool.{Bool, cond, _||_}
@@ -15,7 +16,7 @@ use Rattle.rules.specs.Checks.{Outcome, answered, refused, andThen, check, judg
 use Rattle.rules.specs.Slices.{nodeRecords, workBytes, filled, reply, nodesAfter, workAfter}
 use Rattle.rules.specs.Demands.{NoSuspect}
 
--- a new node, offered as one record's bytes; or a node to give up
+-- a new node, offered as one record's bytes; or a node to remove
 pub data Edit : Type 0 where
   add : (bytes : List ℕ) → Edit
   remove : (node : ℕ) → Edit
@@ -28,8 +29,8 @@ cellOf end = input 0
 cellOf (variable c) = input 0
 cellOf (node cell) = cell
 
--- The record of kind k with the body b, c, of `total` bytes, is judged as the next of a file, after v variables and n nodes: none get 8,
--- kind 0 or 1 gets 1, surplus bytes get 9. The place of each is the number that the node would have.
+-- The record of kind k with the body b, c, of `total` bytes, is judged as the next of a file, after v variables and n
+-- nodes: none get 8, kind 0 or 1 gets 1, surplus bytes get 9. The place of each is the number that the node would have.
 unfoldable pub judgedNode : (total v n k b c : ℕ) → Outcome Cell
 judgedNode total v n k b c =
     let r = said k b c in
@@ -49,7 +50,7 @@ abbrev pub offered : Netlist → (bytes : List ℕ) → Outcome Cell
 offered n bytes =
     judgedNode (length bytes) (length (n .variables)) (length (n .nodes)) (getD bytes 0 0) (getD bytes 1 0) (getD bytes 2 0)
 
--- ---- a node is given up
+-- ---- a node is removed
 
 -- higher nodes move down by one, and operands follow
 unfoldable pub lowered : (removed a : ℕ) → ℕ
@@ -66,23 +67,25 @@ renumbered removed (register a) = register (lowered removed a)
 unfoldable pub withoutNode : Netlist → (removed : ℕ) → Netlist
 withoutNode n removed = record { variables = n .variables; nodes = map (renumbered removed) (without removed (n .nodes)) }
 
--- whether a node names node i
+-- whether a node uses node i
 unfoldable pub uses : (i : ℕ) → Cell → Bool
 uses i cell = member i (operands cell)
 
--- the lowest node that names node i, or the number of nodes where none does
+-- the lowest node that uses node i, or the number of nodes where none does
 unfoldable pub lowestUser : (i : ℕ) → List Cell → ℕ
 lowestUser i [] = 0
 lowestUser i (cell ∷ cells) = cond (uses i cell) 0 (suc (lowestUser i cells))
 
--- the netlist without node i; refusal 14 if another node names it (in a netlist that obeys the record rules no node names itself)
+-- the netlist without node i; refusal 14 if another node uses it (in a netlist that obeys the record
+-- rules no node uses itself)
 unfoldable pub removedIfUnused : (i : ℕ) → Netlist → Outcome Netlist
 removedIfUnused i n = judged (check 14 (ltb (lowestUser i (n .nodes)) (length (n .nodes))) (lowestUser i (n .nodes)) ∷ []) (withoutNode n i)
 
 -- ---- the refusals, in their order
 
--- Refusals that go by the state and the lengths of both slices alone. An addition: those of its record, then 10 and 11 for the nodes with the
--- new one. A removal: 12, then 10 and 11 for the nodes that the block has. The netlist is the one that the slices are to hold.
+-- Refusals that go by the state and the lengths of both slices alone. An addition: those of its record,
+-- then 10 and 11 for the nodes with the new one. A removal: 12, then 10 and 11 for the nodes that the block has.
+-- The netlist is the one that the slices are to hold.
 unfoldable pub fits : Netlist → Edit → (entries work : ℕ) → Outcome Netlist
 fits n (add bytes) entries work = andThen (offered n bytes) (λ cell. slicesFit entries work (withNode n cell))
 fits n (remove i) entries work = andThen (judged (nodeCheck i n ∷ []) n) (slicesFit entries work)
@@ -106,7 +109,8 @@ netlistAfter n e entries work = otherwise n (edited n e entries work)
 unfoldable pub replyAfter : Netlist → Edit → (entries work : ℕ) → Outcome Findings
 replyAfter n e entries work = andThen (edited n e entries work) (λ m. answered (findings m))
 
--- both slices at exit: the node records, marks included, and the families of the block as it now is, and beyond them what stood there
+-- both slices at exit: the node records, marks included, and the families of the block as it now is,
+-- and beyond them what stood there
 unfoldable pub recordsAfter : Netlist → Edit → (before : List NodeRecord) → (work : ℕ) → List NodeRecord
 recordsAfter n e before work = filled nodeRecords (edited n e (length before) work) before
 
@@ -178,8 +182,8 @@ unfoldable pub afterCalls : OpenBlock → List Call → OpenBlock
 afterCalls b [] = b
 afterCalls b (c ∷ calls) = afterCalls (afterCall b c) calls
 
--- A block is as a check of its written-out netlist leaves it: the netlist obeys the record rules, the check refuses nothing where it is lent all
--- of both arrays and answers for that netlist, and they hold what it would write.
+-- A block is as a check of its written-out netlist leaves it: the netlist obeys the record rules, the check refuses
+-- nothing where it is lent all of both arrays and answers for that netlist, and they hold what it would write.
 pub record AsChecked (b : OpenBlock) : Type 0 where
   pub obeys : WellFormed (b .netlist)
   pub answers : reply (writtenOut (b .netlist)) (length (b .nodes)) (length (b .work)) ≡ answered (findings (b .netlist))

@@ -16,7 +16,8 @@ abbrev pub editOf : Code.Edit → (bytes : List ℕ) → Edit
 editOf Add bytes = add bytes
 editOf (Remove i) bytes = remove i
 
--- the state of an open block: its variables and their classes, of which those beyond the count are 0, and the number of its nodes
+-- the state of an open block: its variables and their classes, of which those beyond the count are 0,
+-- and the number of its nodes
 unfoldable pub stateOf : Netlist → State
 stateOf n = record {
   variables = length (n .variables);
@@ -24,8 +25,8 @@ stateOf n = record {
   count = length (n .nodes);
 }
 
--- An open block: its netlist obeys the record rules, the state is the netlist's, and both slices hold its node records and families at
--- their front.
+-- An open block: its netlist obeys the record rules, the state is the netlist's, and both slices hold its node
+-- records and families at their front.
 pub record IsOpen (n : Netlist) (state : State) (nodes : List NodeRecord) (work : List ℕ) : Type 0 where
   pub obeys : WellFormed n
   pub itsState : state ≡ stateOf n

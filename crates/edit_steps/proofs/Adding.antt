@@ -1,5 +1,6 @@
--- What the functions that take a node share: its families, worked out from work bytes that hold those of the other nodes, make them hold all; with its
--- marks, found over these, the marks of the others are those of all; and an addition is what the offer and the slices make of it. Assumes nothing.
+-- What the functions that take a node share: its families, worked out from work bytes that hold those of the
+-- other nodes, make them hold all; with its marks, found over these, the marks of the others are those of all;
+-- and an addition is what the offer and the slices make of it. Assumes nothing.
 use Prim.Native.Nat.{ℕ, _+_, _*_, _-_, _<_, _≤_}
 use mathlib.Core.Path.{_≡_, refl, sym, ap, ap₂, _∙_}
 use mathlib.Core.List.{List, [], _∷_, _++_}

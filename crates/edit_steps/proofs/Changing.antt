@@ -1,5 +1,6 @@
--- What any edit of a block by value shares: the state of a netlist by value is the netlist's; a refusal keeps nothing and changes nothing, whatever the
--- block is, and one that goes by the state and the lengths is that of every netlist with this state. Assumes nothing.
+-- What any edit of a block by value shares: the state of a netlist by value is the netlist's; a refusal keeps nothing
+-- and changes nothing, whatever the block is, and one that goes by the state and the lengths is that of every
+-- netlist with this state. Assumes nothing.
 use Prim.Native.Nat.{ℕ, _≤_}
 use mathlib.Core.Path.{_≡_, refl, ap, _∙_}
 use mathlib.Core.List.{List}

@@ -1,5 +1,6 @@
--- What the functions that give a node up share: the node records of a netlist and the bytes of its families, whose entries behind the node's move
--- down over its own, and which are then those of the netlist without the node. Assumes nothing.
+-- What the functions that give a node up share: the node records of a netlist and the bytes of its families,
+-- whose entries behind the node's move down over its own, and which are then those of the netlist without the node.
+-- Assumes nothing.
 use Prim.Native.Nat.{ℕ, zero, suc, _+_, _*_, _-_, _≤_, _<_}
 use mathlib.Core.Path.{_≡_, refl, sym, ap, ap₂, _∙_}
 use mathlib.Core.List.{List, [], _∷_, _++_, map, map-append, append-assoc, append-nil}

@@ -1,5 +1,5 @@
--- A node given up: what is examined where another node still names the node and where it is given up, and what a removal comes to before that. Assumes
--- nothing.
+-- A node removed: what is examined where another node still uses the node and where it is removed, and what a removal
+-- comes to before that. Assumes nothing.
 use Prim.Native.Nat.{ℕ, _+_, _*_, _≤_, _<_}
 use mathlib.Core.Path.{_≡_, refl, sym, ap, ap₂, _∙_}
 use mathlib.Core.List.{List}
@@ -31,15 +31,15 @@ use Rattle.edit_steps.proofs.Changing.{state-count, contained-refused, 
 use Rattle.edit_rules.proofs.Removal.{Unused, marks-removed}
 
 -- a node less, in slices that have room
-pub record GivesUp (block : Value.Netlist) (marks : Marks) (removed : ℕ) (examined : Examined) (before after : List ℕ) : Type 0 where
+pub record RemovesUnused (block : Value.Netlist) (marks : Marks) (removed : ℕ) (examined : Examined) (before after : List ℕ) : Type 0 where
   pub contained : Contained (block .count) examined before after
   pub made : (n : Netlist) → WellFormed n → block ≡ flatOf n → marks ≡ marksOf n → HoldsFamilies n before
       → Examines (removedIfUnused removed n) examined before after
 
--- a node is given up, where `by` is the lowest node that names it
+-- a node is removed, where `by` is the lowest node that uses it
 module _ (block : Value.Netlist) (marks : Marks) (removed by : ℕ) (lowest : (n : Netlist) → block ≡ flatOf n → by ≡ lowestUser removed (n .nodes)) where
   pub still-used : (examined : Examined) (before : List ℕ) → by < block .count → examined .reply ≡ Refused (StillNamed by)
-      → NothingKept examined → GivesUp block marks removed examined before before
+      → NothingKept examined → RemovesUnused block marks removed examined before before
   unfolding removedIfUnused judged
   still-used examined before named r none = record {
     contained = contained-refused (block .count) examined before none;
@@ -47,19 +47,19 @@ module _ (block : Value.Netlist) (marks : Marks) (removed by : ℕ) (lowest : (n
         rw (← (lowest n is), ← (value-count n is), lt-ltb by (block .count) named) (refusal (StillNamed by) 14 by examined before refl refl r none);
   }
 
-  pub gave-up : (value : Value.Netlist) (fewer : Marks) (examined : Examined) (before after : List ℕ) → block .count ≤ by → removed < block .count
+  pub removed-unused : (value : Value.Netlist) (fewer : Marks) (examined : Examined) (before after : List ℕ) → block .count ≤ by → removed < block .count
       → block .count ≤ most-nodes → 256 * block .count ≤ length before
       → value .count + 1 ≡ block .count → ((n : Netlist) → WellFormed n → block ≡ flatOf n → value ≡ flatOf (withoutNode n removed))
       → ((settled glitch : List (Option ℕ)) → length settled ≡ block .count → length glitch ≡ block .count → marks ≡ marksIn settled glitch
       → fewer ≡ marksIn (without removed settled) (without removed glitch))
-      → after ≡ movedDown removed (block .count) before → ReadsMarks value fewer examined → GivesUp block marks removed examined before after
+      → after ≡ movedDown removed (block .count) before → ReadsMarks value fewer examined → RemovesUnused block marks removed examined before after
   unfolding removedIfUnused judged
-  gave-up value fewer examined before after unused there small room one-less is-without are-without moved l = record {
+  removed-unused value fewer examined before after unused there small room one-less is-without are-without moved l = record {
     contained = contained-looks (block .count) value fewer examined before after (omega arith) (omega arith) l;
     made = λ n formed is known holds. rw (← (lowest n is), ← (value-count n is), le-ltb by (block .count) unused) (made n formed is known holds);
   }
     where
-      -- so are the marks, where no node names it
+      -- so are the marks, where no node uses it
       own : (n : Netlist) → block ≡ flatOf n → marks ≡ marksOf n → Unused removed (n .nodes) → fewer ≡ marksOf (withoutNode n removed)
       own n is known none = unfold marksOf in
           (are-without _ _ (layer-marks-length _ n ∙ sym (value-count n is)) (layer-marks-length _ n ∙ sym (value-count n is)) known
@@ -85,9 +85,9 @@ module _ (count removed entries work : ℕ) (n : Netlist) (same : count ≡ leng
   unfolding fits nodeCheck judged andThen
   by-slices there = rw (← same, lt-leb _ _ there)
 
--- both slices hold the nodes, and the node is given up or still named
+-- both slices hold the nodes, and the node is removed or still used
 pub removes : (block : Value.Netlist) (marks : Marks) (removed entries : ℕ) (examined : Examined) (before after : List ℕ) {told : QueryOutcome} → removed < block .count
-    → JudgesSlices (block .count) entries (length before) told → told ≡ Query.Answered → GivesUp block marks removed examined before after
+    → JudgesSlices (block .count) entries (length before) told → told ≡ Query.Answered → RemovesUnused block marks removed examined before after
     → Changes block marks (remove removed) entries examined before after
 unfolding edited andThen
 removes block marks removed entries examined before after there slices holds-them given = record {

@@ -1,5 +1,6 @@
--- What an edit of a block by value with its marks comes to, in slices of so many entries and so many work bytes: whatever the block is, and where it is a
--- netlist's. Cited by the contracts of this crate and by the proofs of `edits`. Assumes nothing.
+-- What an edit of a block by value with its marks comes to, in slices of so many entries and so many work bytes:
+-- whatever the block is, and where it is a netlist's. Cited by the contracts of this crate and by the
+-- proofs of `edits`. Assumes nothing.
 use Prim.Native.Nat.{ℕ, _≤_}
 use mathlib.Core.Path.{_≡_}
 use mathlib.Core.List.{List}
@@ -24,8 +25,8 @@ pub record Limited (block : Value.Netlist) : Type 0 where
   pub variables : block .variables ≤ most-variables
   pub nodes : block .count ≤ most-nodes
 
--- Whatever the block is: there is room for the node records that are to be stored, in so many entries, and a refusal keeps none and leaves
--- the work bytes, which were `before` and are then `after`, as they were.
+-- Whatever the block is: there is room for the node records that are to be stored, in so many entries, and a refusal
+-- keeps none and leaves the work bytes, which were `before` and are then `after`, as they were.
 pub record Contained (entries : ℕ) (examined : Examined) (before after : List ℕ) : Type 0 where
   pub few-entries : examined .netlist .count ≤ entries
   pub few-nodes : examined .netlist .count ≤ most-nodes

@@ -1,4 +1,5 @@
--- What is offered to a block, what moves where a node is given up, and the state of a block by value. Cited by the contracts of this crate, of `edit_steps` and of `edits`, below the entry points. Assumes nothing.
+-- What is offered to a block, what moves where a node is removed, and the state of a block by value.
+-- Cited by the contracts of this crate, of `edit_steps` and of `edits`, below the entry points. Assumes nothing.
 use Prim.Native.Nat.{ℕ, _+_, _*_, _-_}
 use mathlib.Core.Path.{_≡_}
 use mathlib.Core.List.{List}
@@ -25,7 +26,8 @@ offeredOf (Offer.Refused r) = refused (numberOf r) (placeOf r)
 abbrev pub renumberedEntry : (removed : ℕ) → Node → Node
 renumberedEntry removed e = record { kind = e .kind; first = lowered removed (e .first); second = lowered removed (e .second); set = e .set }
 
--- the work bytes once the families of node `removed`, of so many nodes, are given up: those behind it move down, and the last 256 bytes stay
+-- the work bytes once the families of node `removed`, of so many nodes, are removed: those behind it move down,
+-- and the last 256 bytes stay
 unfoldable pub movedDown : (removed count : ℕ) → List ℕ → List ℕ
 movedDown removed count work = paste work (256 * removed) (drop (256 * (removed + 1)) work) (256 * (count - 1 - removed))
 

@@ -1,5 +1,5 @@
--- A run of edits: it is told event by event, what was at fault stays told, and a clear answer at its end says what it should of the block as it is
--- now. Assumes nothing.
+-- A run of edits: it is told event by event, what was at fault stays told, and a clear answer at its end says what it
+-- should of the block as it is now. Assumes nothing.
 use Prim.Native.Nat.{ℕ, _*_}
 use native.Mathlib.Nat.{le-refl}
 use mathlib.Core.Path.{_≡_, refl, sym, ap, subst, _∙_}

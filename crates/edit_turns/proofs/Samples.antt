@@ -1,5 +1,5 @@
--- Runs of edits, computed: block A becomes block B by three lines, and with a line more that is at fault it does so too, but the fault is told.
--- Assumes nothing.
+-- Runs of edits, computed: block A becomes block B by three lines, and with a line more that is at fault it does so
+-- too, but the fault is told. Assumes nothing.
 use mathlib.Core.Path.{_≡_, refl, sym}
 use mathlib.Core.Bool.{Bool, true, false, false≢true}
 use mathlib.Core.List.{List, [], _∷_}
@@ -24,7 +24,7 @@ ran s events = afterEvents s events
 abbrev block-b : Bool → Standing
 block-b faulty = record { netlist = p10; faulty = faulty; made = 3 }
 
--- block A's last gate is given up, and added again behind a register
+-- block A's last gate is removed, and added again behind a register
 abbrev lines : List Event
 lines = line (word "remove 4") true ∷ line (word "add reg 3") true ∷ line (word "add xor 4 1") true ∷ []
 

@@ -29,9 +29,9 @@ pub record Answers (s : Standing) (asks : Asks) (told : Told) (work : List ℕ) 
   pub stands : Stands (afterAsks s asks) (told .turn) work
   pub replies : replyOf (told .reply) ≡ replyTo (s .netlist) asks
 
--- What a run has earned where nothing was at fault and the answer at hand is clear for glitching signals: no tested
--- node's glitch family of the block as it is now holds a suspect set, and one probe learns nothing of it. The block obeys
--- the record rules, so its bytes are read as it is.
+-- What a run has earned where nothing was at fault and the answer at hand is clear for glitching signals:
+-- no tested node's glitch family of the block as it is now holds a suspect set, and one probe learns nothing of it.
+-- The block obeys the record rules, so its bytes are read as it is.
 pub record Earned (s : Standing) : Type 0 where
   pub noFault : s .faulty ≡ false
   pub obeys : WellFormed (s .netlist)

@@ -1,5 +1,5 @@
--- A run of edits of an open block, line by line: the block after a line is the one before it with just that line's edit. Every slice holds every
--- netlist. Assumes nothing.
+-- A run of edits of an open block, line by line: the block after a line is the one before it with just that line's
+-- edit. Every slice holds every netlist. Assumes nothing.
 use Prim.Native.Nat.{ℕ, suc, _-_, _^_, min}
 use mathlib.Core.Path.{_≡_}
 use mathlib.Core.Bool.{Bool, true, false, cond, _||_}
@@ -65,8 +65,8 @@ replyTo n noEdit = answered (findings n)
 
 -- ---- a run
 
--- What a turn of the run meets: a line, and whether the file that it asks for could be written; a line that is too long, or input that cannot be
--- read; or the end of the input.
+-- What a turn of the run meets: a line, and whether the file that it asks for could be written; a line that is too
+-- long, or input that cannot be read; or the end of the input.
 pub data Event : Type 0 where
   line : (text : List ℕ) (isWritten : Bool) → Event
   unread : Event

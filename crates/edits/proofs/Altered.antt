@@ -1,5 +1,5 @@
--- Calls of which `Kept` is false, so that what it says of each part is not empty: a refusal that alters the work bytes, a node record or the state, and
--- slices whose length a call alters, whatever it replies. Assumes nothing.
+-- Calls of which `Kept` is false, so that what it says of each part is not empty: a refusal that alters the work bytes,
+-- a node record or the state, and slices whose length a call alters, whatever it replies. Assumes nothing.
 use Prim.Native.Nat.{ℕ}
 use mathlib.Core.Path.{_≡_, refl, ap}
 use mathlib.Core.List.{List, _∷_}

@@ -1,6 +1,7 @@
--- A block that is loaded by value with its marks: its fields one node record after the other, and of records that are copied from a slice, once all are, the block that the contracts
--- speak of. Its state is the one that was handed in, and of an open block it is the netlist by value, with the netlist's marks. By laws of lists of
--- any length, so that no array is unfolded. Assumes nothing.
+-- A block that is loaded by value with its marks: its fields one node record after the other,
+-- and of records that are copied from a slice, once all are, the block that the contracts speak of.
+-- Its state is the one that was handed in, and of an open block it is the netlist by value, with the netlist's marks.
+-- By laws of lists of any length, so that no array is unfolded. Assumes nothing.
 use Prim.Native.Nat.{ℕ, zero, suc, _+_, _≤_, _<_, min}
 use mathlib.Core.Path.{_≡_, refl, sym, _∙_}
 use mathlib.Core.List.{List}

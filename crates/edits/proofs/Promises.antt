@@ -1,5 +1,5 @@
--- What an edit promises, clause by clause, from what its parts promise: the block is loaded, an edit of it by value is made over the work bytes,
--- the node records are stored, and reply and state are given. Assumes nothing.
+-- What an edit promises, clause by clause, from what its parts promise: the block is loaded, an edit of it by value is
+-- made over the work bytes, the node records are stored, and reply and state are given. Assumes nothing.
 use Prim.Native.Nat.{ℕ, _≤_, zero-le}
 use mathlib.Core.Path.{_≡_, refl, sym, ap, subst, _∙_}
 use mathlib.Core.Logic.{_↔_}

@@ -1,6 +1,7 @@
--- Any run of edits, each in slices of its own lengths. A block whose slices hold its node records and families is as a check of its written-out netlist
--- leaves it, and so it is in any longer slices, and in shorter ones that have room. Opening gives such a block, and every edit, made or refused, in slices that
--- have room or not, keeps it such. So after any run of edits what both arrays hold is what checking the written-out block gives. Assumes nothing.
+-- Any run of edits, each in slices of its own lengths. A block whose slices hold its node records and families is as a
+-- check of its written-out netlist leaves it, and so it is in any longer slices, and in shorter ones that have room.
+-- Opening gives such a block, and every edit, made or refused, in slices that have room or not, keeps it such.
+-- So after any run of edits what both arrays hold is what checking the written-out block gives. Assumes nothing.
 use Prim.Native.Nat.{ℕ, _+_, _*_, _≤_}
 use mathlib.Core.Path.{_≡_, refl, sym, ap, subst, _∙_}
 use mathlib.Core.List.{List, [], _∷_, _++_, append-nil}
@@ -48,7 +49,8 @@ module _ {ℓ} {A : Type ℓ} where
   front-same : (xs before : List A) → take (length xs) before ≡ xs → xs ++ drop (length xs) before ≡ before
   front-same xs before e = ap (λ (ys : List A). ys ++ drop (length xs) before) (sym e) ∙ take-append-drop (length xs) before
 
--- both slices that hold a netlist's node records and families have room for them, and keep their contents where these are written once more
+-- both slices that hold a netlist's node records and families have room for them, and keep their contents
+-- where these are written once more
 module _ (n : Netlist) (nodes : List NodeRecord) (work : List ℕ) (holds : Holds n nodes work) where
   pub holds-room : Room (length nodes) (length work) n
   holds-room =
@@ -157,8 +159,8 @@ pub record Keeps (b after : OpenBlock) : Type 0 where
   pub entries : length (after .nodes) ≡ length (b .nodes)
   pub bytes : length (after .work) ≡ length (b .work)
 
--- So it is of every call that comes to a netlist which obeys the record rules and fits the slices, and then writes it over their front; or to a refusal, and then
--- writes nothing.
+-- So it is of every call that comes to a netlist which obeys the record rules and fits the slices, and then writes it
+-- over their front; or to a refusal, and then writes nothing.
 comes-to : (b : OpenBlock) (lent : Lent) (before : Netlist) (o : Outcome Netlist) → AsChecked (record { netlist = before; nodes = b .nodes; work = b .work })
     → ((m : Netlist) → o ≡ answered m → Made (length (lentOf b lent .nodes)) (length (lentOf b lent .work)) m)
     → Keeps b
@@ -200,8 +202,8 @@ calls-keep b (c ∷ calls) checked =
     let then = calls-keep (afterCall b c) calls (once .checked) in
     record { checked = then .checked; entries = then .entries ∙ once .entries; bytes = then .bytes ∙ once .bytes }
 
--- Any run of edits, from any bytes, refused calls among them, each in slices of its own lengths: the netlist obeys the record rules, and both arrays hold
--- what checking its written-out bytes gives.
+-- Any run of edits, from any bytes, refused calls among them, each in slices of its own lengths: the netlist obeys the
+-- record rules, and both arrays hold what checking its written-out bytes gives.
 pub any-run : (b : OpenBlock) (bytes : List ℕ) (lent : Lent) (calls : List Call) → AsChecked (afterCalls (afterOpening b bytes lent) calls)
 any-run b bytes lent calls = calls-keep _ calls (opened b bytes lent .checked) .checked
 
@@ -214,11 +216,13 @@ run-lengths b bytes lent calls =
     let run = calls-keep (afterOpening b bytes lent) calls (first .checked) in
     (run .entries ∙ first .entries, run .bytes ∙ first .bytes)
 
--- Each half of what checking them answers is the lowest marked node of its layer with its mark: the answer after an edit is read from the marks.
+-- Each half of what checking them answers is the lowest marked node of its layer with its mark: the answer
+-- after an edit is read from the marks.
 pub marks-answer : (b : OpenBlock) → AsChecked b → FromMarks (findings (b .netlist)) (b .nodes)
 marks-answer b checked = from-marks (b .netlist) (b .nodes) (checked-holds b checked .records)
 
--- And the reply of the last edit, where it is made, is that of checking them; in the slices that were lent too (`checked-afresh`).
+-- And the reply of the last edit, where it is made, is that of checking them; in the slices that were
+-- lent too (`checked-afresh`).
 pub last-reply : (b : OpenBlock) (c : Call) (f : Findings) → AsChecked b
     → replyAfter (b .netlist) (c .edit) (length (lentOf b (c .lent) .nodes)) (length (lentOf b (c .lent) .work)) ≡ answered f
     → let after = afterCall b c in
@@ -232,7 +236,8 @@ last-reply b c f checked says = call-keeps b c checked .checked .answers ∙ go 
 
 -- ---- in the words of the contracts
 
--- An open block, with its netlist's state: in the slices that are lent of its arrays, where these have room, it is open,
+-- An open block, with its netlist's state: in the slices that are lent of its arrays,
+-- where these have room, it is open,
 module _ {n : Netlist} {state : State} {nodes : List NodeRecord} {work : List ℕ} (is : IsOpen n state nodes work) where
   pub lent-open : (entries bytes : ℕ) → Room entries bytes n → IsOpen n state (take entries nodes) (take bytes work)
   lent-open entries bytes room = record { obeys = is .obeys; itsState = is .itsState; holds = holds-lent (is .holds) entries bytes room }
@@ -252,8 +257,9 @@ module _ {n : Netlist} {state : State} {nodes : List NodeRecord} {work : List �
       rw (take-length nodes, drop-length nodes, take-length work, drop-length work, append-nil (recordsAfter n e nodes _), append-nil) at
       (call-stays-open (record { edit = e; lent = record { entries = length nodes; bytes = length work } }))
 
--- And what the contract of an edit says of a call is what the definitions do: reply, state and what both arrays then hold. In slices too short for the
--- block too, of which the contract says that the edit is refused and changes nothing (`early`, `kept`).
+-- And what the contract of an edit says of a call is what the definitions do: reply, state and what both arrays
+-- then hold. In slices too short for the block too, of which the contract says that the edit is refused and
+-- changes nothing (`early`, `kept`).
 module _ {n : Netlist} {state : State} {nodes : List NodeRecord} {work : List ℕ} (is : IsOpen n state nodes work) (c : Call) where
   -- the block, and the slices
   abbrev whole : OpenBlock
@@ -293,7 +299,8 @@ module _ {n : Netlist} {state : State} {nodes : List NodeRecord} {work : List �
           let (same-state, same-nodes, same-work) = promised .kept .refused k p says in
           (says ∙ rw none, rw (none, same-state, is .itsState), rw (none, same-nodes, same-work))
 
--- Calls one after another to these in the end, each as the contract promises it, of the state and in the arrays that the one before left.
+-- Calls one after another to these in the end, each as the contract promises it, of the state and in the
+-- arrays that the one before left.
 pub data Ran (state′ : State) (nodes′ : List NodeRecord) (work′ : List ℕ) : List Call → State → List NodeRecord → List ℕ → Type 0 where
   ended : Ran state′ nodes′ work′ [] state′ nodes′ work′
   called : {calls : List Call} {state : State} {nodes : List NodeRecord} {work : List ℕ} (c : Call) (given : Edited) (ns : List NodeRecord) (ws : List ℕ)

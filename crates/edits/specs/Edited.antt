@@ -1,4 +1,5 @@
--- A block as it is loaded from a lent slice of node records; what a call gives beside both slices; and what holds of a call whatever it was handed. Cited by the contracts of this crate. Assumes nothing.
+-- A block as it is loaded from a lent slice of node records; what a call gives beside both slices; and what holds of a
+-- call whatever it was handed. Cited by the contracts of this crate. Assumes nothing.
 use Prim.Native.Nat.{ℕ, min}
 use mathlib.Core.Path.{_≡_}
 use mathlib.Core.List.{List, map}
@@ -20,7 +21,8 @@ use Rattle.edits.specs.declared.Edited.{Edited}
 unfoldable pub column : {A : Type 0} → (rest : A) → (NodeRecord → A) → (k : ℕ) → List NodeRecord → List A
 column rest field k records = padded most-nodes rest (map field (take k records))
 
--- a block by value with its marks, of a state and the first k of some node records; and of a slice of them, of which no more are taken than the state says and than there may be nodes
+-- a block by value with its marks, of a state and the first k of some node records; and of a slice of them,
+-- of which no more are taken than the state says and than there may be nodes
 unfoldable pub loadedFrom : State → (k : ℕ) → List NodeRecord → Loaded
 loadedFrom state k records = record {
   block = record {
@@ -47,8 +49,8 @@ editedOf state examined = record { reply = examined .reply; state = nextState (e
 abbrev pub openedOf : Examined → Edited
 openedOf examined = record { reply = examined .reply; state = stateIn (examined .netlist) }
 
--- Whatever state and slices an edit is handed: both slices keep their lengths, and a refusal gives the state that was handed in and leaves
--- both slices as they were.
+-- Whatever state and slices an edit is handed: both slices keep their lengths, and a refusal gives the state that was
+-- handed in and leaves both slices as they were.
 pub record Kept (state : State) (given : Edited) (nodes nodes′ : List NodeRecord) (work work′ : List ℕ) : Type 0 where
   pub entries : length nodes′ ≡ length nodes
   pub bytes : length work′ ≡ length work

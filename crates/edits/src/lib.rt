@@ -1,5 +1,6 @@
-// Open blocks: `open` checks a block and gives the state of it, `edit` takes a new node at the end or gives one up. The state goes in and
-// comes back by value; node records with their marks, and families, stay in the two lent slices. Request A3 is in `edit_rules/specs/`.
+// Open blocks: `open` checks a block and gives the state of it, `edit` takes a new node at the end or gives one up.
+// The state goes in and comes back by value; node records with their marks, and families, stay in the two lent slices.
+// Request A3 is in `edit_rules/specs/`.
 ghost use mathlib.Core.Path.{_≡_};
 ghost use mathlib.Core.Logic.{_↔_};
 ghost use Prim.Native.Nat.{ℕ, _≤_, min};
@@ -112,8 +113,8 @@ fn edited_of(state: State, examined: Examined) -> Edited
 
 // ---- the entry points, over the lent slice of node records
 
-// Checks netlist bytes as `check` does, with the same reply and both slices at exit the same, and gives the state of the open block beside
-// the reply. On a refusal that is the state of no variables and no nodes.
+// Checks netlist bytes as `check` does, with the same reply and both slices at exit the same, and gives the state of
+// the open block beside the reply. On a refusal that is the state of no variables and no nodes.
 pub fn open(bytes: &[u8], nodes: &mut [NodeRecord], work: &mut [u8]) -> Edited
     ensures reply { λ r. ⌜ replyOf (r .reply) ≡ reply (now (bytes .entry)) (length (now (nodes .entry))) (length (now (work .entry))) ⌝ }
     ensures state { λ r. ⌜ r .state ≡
@@ -130,16 +131,17 @@ pub fn open(bytes: &[u8], nodes: &mut [NodeRecord], work: &mut [u8]) -> Edited
     opened_of(examined)
 }
 
-// Edits an open block: a new node at the end, which is one record's bytes, or a node given up, for which those bytes are not looked at.
-// The state is the last one returned for these slices, and the slices are as that call left them: then reply, state, node records
-// with their marks and families are those of the block as it now is, and its glitch half is clear exactly when no tested node's glitch family there holds a
-// suspect set; and then one probe on any gate or register of it sees each pattern of settled values as often for one setting of the
-// secrets as for another. A refusal gives the state that was handed in.
+// Edits an open block: a new node at the end, which is one record's bytes, or a node removed, for which those bytes
+// are not looked at. The state is the last one returned for these slices, and the slices are as that call left them:
+// then reply, state, node records with their marks and families are those of the block as it now is, and its glitch
+// half is clear exactly when no tested node's glitch family there holds a suspect set; and then one probe on any
+// gate or register of it sees each pattern of settled values as often for one setting of the secrets as for another.
+// A refusal gives the state that was handed in.
 //
-// Left open, with slices altered between calls or a state that is not the last one returned for them: the reply, the state, what both
-// slices hold, and the counting of mask settings with them. What still holds then: the call returns and does nothing undefined, both
-// slices keep their lengths, and a refusal leaves both as they were (`kept`); and the refusals that go by the state and the lengths alone
-// are those of any netlist that has this state (`early`).
+// Left open, with slices altered between calls or a state that is not the last one returned for them: the reply,
+// the state, what both slices hold, and the counting of mask settings with them. What still holds then: the call
+// returns and does nothing undefined, both slices keep their lengths, and a refusal leaves both as they were (`kept`);
+// and the refusals that go by the state and the lengths alone are those of any netlist that has this state (`early`).
 pub fn edit(
     state: State,
     edit: Edit,

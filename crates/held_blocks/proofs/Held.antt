@@ -1,5 +1,5 @@
--- What opening or an edit gives is held: the netlist that it comes to obeys the record rules, and the work bytes hold its
--- families; and a refused edit changes nothing. Assumes nothing.
+-- What opening or an edit gives is held: the netlist that it comes to obeys the record rules, and the work bytes hold
+-- its families; and a refused edit changes nothing. Assumes nothing.
 use Prim.Native.Nat.{ℕ}
 use mathlib.Core.Path.{_≡_, refl, ap}
 use mathlib.Core.List.{List}

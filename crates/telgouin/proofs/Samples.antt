@@ -1,4 +1,5 @@
--- Samples of what the contracts of this program cite: computed, so that a definition that says something else is refused. Assumes nothing.
+-- Samples of what the contracts of this program cite: computed, so that a definition that says something
+-- else is refused. Assumes nothing.
 use mathlib.Core.Path.{_≡_, refl}
 use mathlib.Core.Bool.{true, false}
 use mathlib.Core.List.{[], _∷_}
@@ -16,8 +17,8 @@ names
 unfolding hasWords same word
 names = (refl, refl, refl, refl, refl)
 
--- a block of bytes has no line; refusal 8, that there is no end record, has the last one; another has that of its place, and the last one behind them;
--- refusal 12, of a query, has none
+-- a block of bytes has no line; refusal 8, that there is no end record, has the last one; another has that of its
+-- place, and the last one behind them; refusal 12, of a query, has none
 lines-told
     : (lineIn 7 1 (3 ∷ 5 ∷ []) 0 ≡ 0)
     × (lineIn 8 1 (3 ∷ 5 ∷ []) 9 ≡ 9)

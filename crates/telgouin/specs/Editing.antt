@@ -1,5 +1,6 @@
--- A run of edits, as the contracts of this program tell it: of every standing that a turn has, the turn after a line has the standing after it. What is read
--- and whether a file could be written no contract can say, so each of these says: there is such a thing. Assumes nothing.
+-- A run of edits, as the contracts of this program tell it: of every standing that a turn has, the turn after a line
+-- has the standing after it. What is read and whether a file could be written no contract can say, so each of these
+-- says: there is such a thing. Assumes nothing.
 use Prim.Native.Nat.{ℕ, _+_, _≤_}
 use mathlib.Core.Path.{_≡_}
 use mathlib.Core.Bool.{Bool, cond}

@@ -30,7 +30,8 @@ pub record InWords (count last : ℕ) (bytes-before lines-before bytes lines : L
   pub text : List ℕ
   pub tells : TellsBlock (BlockWords.Bytes count last) text bytes-before lines-before bytes lines
 
--- A block has at most 1,024 bytes. Where its text has lines, the bytes and the line of each record are what that text says.
+-- A block has at most 1,024 bytes. Where its text has lines, the bytes and the line of each
+-- record are what that text says.
 abbrev pub FromFile : ReadBlock → (bytes-before lines-before bytes lines : List ℕ) → Type 0
 FromFile (ReadBlock.Bytes count last) bytes-before lines-before bytes lines =
     (count ≤ most-input) × (0 < last → InWords count last bytes-before lines-before bytes lines)
@@ -45,7 +46,7 @@ AsBytes ReadBlock.None = Unit {0}
 unfoldable pub hasWords : (name : List ℕ) → Bool
 hasWords name = same (drop (length name - 4) name) (word ".txt")
 
--- The line that a refused record stands on: none of a block that is given as bytes, and none of a refusal that is of no record; the last one where there
--- is no end record, and else that of the record at the place.
+-- The line that a refused record stands on: none of a block that is given as bytes, and none of a refusal that is of no
+-- record; the last one where there is no end record, and else that of the record at the place.
 unfoldable pub lineIn : (number place : ℕ) (lines : List ℕ) (last : ℕ) → ℕ
 lineIn number place lines last = cond (eqb last 0 || ltb 9 number) 0 (cond (eqb number 8) last (getD lines place last))

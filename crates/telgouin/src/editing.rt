@@ -1,20 +1,23 @@
-// `edit`: edits of an open block, a line each.
+// `edit`: edits of a block that is held by value, a line each. It reads standard input, prints to standard output, and
+// writes the files that lines name.
 ghost use mathlib.Core.Path.{_≡_};
 ghost use mathlib.Core.Bool.{true};
 ghost use mathlib.Core.List.{List};
 ghost use Prim.Native.Nat.{ℕ, _+_, _≤_, _<_};
 ghost use lib.ListN.{length, take};
 ghost use Rattle.rules.specs.Records as Records;
-ghost use Rattle.rules.specs.Records.{most-nodes, most-bytes};
-ghost use Rattle.rules.specs.Checks.{answered, admitted, most-work};
-ghost use Rattle.rules.specs.Slices.{reply};
+ghost use Rattle.rules.specs.Records.{most-bytes};
+ghost use Rattle.rules.specs.Families.{findings};
+ghost use Rattle.rules.specs.Checks.{answered};
 ghost use Rattle.rules.specs.Paper.{replyOf};
 ghost use Rattle.write_words.specs.Worded.{most-words};
+ghost use Rattle.held_blocks.specs.Held.{IsHeld};
 ghost use Rattle.edit_turns.specs.Turns.{Standing, failed};
 ghost use Rattle.edit_turns.specs.Meaning.{Stands};
 ghost use Rattle.telgouin.specs.Editing.{Fits, Wrote, Obeyed, Stepped, Ran, Edited};
 use crate::files::has_words;
-use desk::ask::list;
+use checker::Examined;
+use desk::ask::list_held;
 use desk::say::say;
 use desk::say::say_answer;
 use desk::say::say_closing;
@@ -27,6 +30,7 @@ use edit_lines::Asked;
 use edit_turns::Told;
 use edit_turns::Turn;
 use libc::STDIN_FILENO;
+use netlists::Netlist;
 use read_words::Fault;
 use rules::MOST_VARIABLES;
 use rules::MOST_WORK;
@@ -98,7 +102,8 @@ fn starts_comment(line: &[u8], at: usize) -> bool {
     false
 }
 
-// Where what is shown of a line ends: with its last word, and with the line where a comment is stuck to that, since its `#` may be meant for the word.
+// Where what is shown of a line ends: with its last word, and with the line where a comment is stuck to that, since its
+// `#` may be meant for the word.
 fn shown_end(line: &[u8]) -> usize
     ensures { λ r. ⌜ r ≤ length (now (line .entry)) ⌝ }
 {
@@ -150,24 +155,6 @@ fn say_told(asked: Asked, line: &[u8], reply: Reply, classes: [u8; MOST_VARIABLE
 
 // ---- the block as it is now
 
-// The listing of the block that the first so many bytes are.
-fn list_first(bytes: &[u8; MOST_WRITTEN], count: usize)
-    requires { ⌜ count ≤ most-bytes ⌝ }
-{
-    let whole: &[u8] = bytes;
-    list(&whole[..count]);
-}
-
-// The listing of the block.
-fn list_block(turn: Turn) {
-    let mut bytes = [0u8; MOST_WRITTEN];
-    let held = turn.held;
-    let state = held.state;
-    let nodes = held.nodes;
-    let count = write_bytes::write_out(state, nodes, &mut bytes);
-    list_first(&bytes, count);
-}
-
 // Writes the first so many bytes to a file: whether it could.
 fn write_first(name: &[u8], bytes: &[u8; MOST_WRITTEN], count: usize) -> bool
     requires { ⌜ count ≤ most-bytes ⌝ }
@@ -185,25 +172,23 @@ fn write_text(name: &[u8], text: &[u8; MOST_WORDS], count: usize) -> bool
 }
 
 // Writes the block to a file, in words where the file's name says so: whether it could.
-fn write_block(name: &[u8], turn: Turn) -> bool {
-    let held = turn.held;
-    let state = held.state;
-    let nodes = held.nodes;
+fn write_block(name: &[u8], netlist: Netlist) -> bool {
     if has_words(name) {
         let mut text = [0u8; MOST_WORDS];
-        let count = write_words::write_words(state, nodes, &mut text);
+        let count = write_words::word_netlist(netlist, &mut text);
         return write_text(name, &text, count);
     }
     let mut bytes = [0u8; MOST_WRITTEN];
-    let count = write_bytes::write_out(state, nodes, &mut bytes);
+    let count = write_bytes::write_netlist(netlist, &mut bytes);
     write_first(name, &bytes, count)
 }
 
-// The same; one that could not is at fault.
+// Writes the block to a file; where it could not, the turn is at fault.
 fn write(turn: Turn, name: &[u8]) -> Turn
     ensures { λ r. ⌜ Wrote turn r ⌝ }
 {
-    if write_block(name, turn) {
+    let netlist = turn.netlist;
+    if write_block(name, netlist) {
         return turn;
     }
     say(b"expected a file that can be written, found: ");
@@ -231,7 +216,9 @@ fn obey(turn: Turn, line: &[u8], work: &mut [u8; MOST_WORK]) -> Taken
             }
         }
         Asked::List => {
-            list_block(next);
+            let answer = next.answer;
+            let netlist = next.netlist;
+            list_held(answer, netlist, work);
             Taken {
                 turn: next,
                 more: true,
@@ -242,9 +229,8 @@ fn obey(turn: Turn, line: &[u8], work: &mut [u8; MOST_WORK]) -> Taken
             more: false,
         },
         _ => {
-            let held = next.held;
-            let state = held.state;
-            let classes = state.classes;
+            let netlist = next.netlist;
+            let classes = netlist.classes;
             say_told(asked, line, reply, classes);
             Taken {
                 turn: next,
@@ -254,7 +240,8 @@ fn obey(turn: Turn, line: &[u8], work: &mut [u8; MOST_WORK]) -> Taken
     }
 }
 
-// A line of standard input, without its line feed: so many bytes; or more than a line may have; or none, since the input has ended, or cannot be read.
+// A line of standard input, without its line feed: so many bytes; or more than a line may have; or none,
+// since the input has ended, or cannot be read.
 enum Line {
     Of(usize),
     Long,
@@ -411,22 +398,22 @@ fn run_lines(run: Run, work: &mut [u8; MOST_WORK]) -> Run
 
 // ---- the whole
 
-// All edits of the block that these bytes are: the reply to opening it, and the block in the end.
-fn edit_block(bytes: &[u8], work: &mut [u8; MOST_WORK]) -> Told
-    ensures reply { λ r. ⌜ replyOf (r .reply) ≡ reply (now (bytes .entry)) most-nodes most-work ⌝ }
-    ensures edited { λ r. ⌜ ((n : Records.Netlist) → admitted (now (bytes .entry)) most-nodes most-work ≡ answered n →
-        Edited n (r .turn) (now (work .exit))) ⌝ }
+// All edits of a block that was opened: the reply to that, and the block in the end.
+fn edit_block(opened: Examined, work: &mut [u8; MOST_WORK]) -> Told
+    ensures reply { λ r. ⌜ r .reply ≡ opened .reply ⌝ }
+    ensures edited { λ r. ⌜ ((n : Records.Netlist) → IsHeld n (opened .netlist) (opened .marks) (now (work .entry)) →
+        replyOf (opened .reply) ≡ answered (findings n) → Edited n (r .turn) (now (work .exit))) ⌝ }
 {
-    let opened = edit_turns::begin(bytes, work);
-    let reply = opened.reply;
-    let turn = opened.turn;
+    let begun = edit_turns::begin_with(opened);
+    let reply = begun.reply;
+    let turn = begun.turn;
     let run = Run {
         turn,
         left: MOST_TURNS,
         more: true,
     };
     match reply {
-        Reply::Refused(_) => opened,
+        Reply::Refused(_) => begun,
         Reply::Answered(_) => {
             let last = run_lines(run, work);
             let turn = last.turn;
@@ -435,18 +422,16 @@ fn edit_block(bytes: &[u8], work: &mut [u8; MOST_WORK]) -> Told
     }
 }
 
-// Edits of the block that these bytes are; the last line says how they ended.
-pub fn edit(bytes: &[u8]) {
-    let mut work = [0u8; MOST_WORK];
-    let told = edit_block(bytes, &mut work);
+// Edits of a block that was opened over these work bytes; the last line says how they ended.
+pub fn edit(opened: Examined, work: &mut [u8; MOST_WORK]) {
+    let told = edit_block(opened, work);
     let reply = told.reply;
     let turn = told.turn;
     match reply {
         Reply::Refused(refusal) => say_refused(refusal, 0),
         Reply::Answered(_) => {
-            let held = turn.held;
-            let state = held.state;
-            let classes = state.classes;
+            let netlist = turn.netlist;
+            let classes = netlist.classes;
             let answer = turn.answer;
             say_closing(turn.faulty, answer, turn.made, classes);
         }

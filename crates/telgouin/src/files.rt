@@ -46,8 +46,8 @@ fn take_number(i: usize, into: &mut [usize; MOST_NUMBERS], k: usize) -> bool
     }
 }
 
-// So many numbers, at most three, from left to right: whether they are numbers; says what was expected at the first that is none. Which numbers the
-// arguments are no contract can say; those behind them stay as they were.
+// So many numbers, at most three, from left to right: whether they are numbers; says what was expected at the first
+// that is none. Which numbers the arguments are no contract can say; those behind them stay as they were.
 pub fn take_numbers(into: &mut [usize; MOST_NUMBERS], count: usize) -> bool
     ensures { λ _. ⌜ SameBehind count (now (into .entry)) (now (into .exit)) ⌝ }
 {
@@ -96,8 +96,8 @@ fn read_from(fd: i32, into: &mut [u8]) -> Read
     }
 }
 
-// A block: so many bytes of it, and how many lines its text in words has, or 0 for one that is given as bytes; or none, and what was expected
-// has been said.
+// A block: so many bytes of it, and how many lines its text in words has, or 0 for one that is given as bytes;
+// or none, and what was expected has been said.
 pub enum ReadBlock {
     Bytes(usize, usize),
     None,
@@ -220,8 +220,8 @@ pub fn read_block(
     read_bytes(STDIN_FILENO, &path[..length], bytes)
 }
 
-// The line of a text in words that a refused record stands on, where the text has so many lines: with no end record it is the last line. 0 for a block
-// that is given as bytes, and for a refusal that is of no record, from 10 on.
+// The line of a text in words that a refused record stands on, where the text has so many lines: with no end record it
+// is the last line. 0 for a block that is given as bytes, and for a refusal that is of no record, from 10 on.
 pub fn line_of(refusal: Refusal, lines: &[usize; MOST_BLOCK], last: usize) -> usize
     ensures { λ r. ⌜ r ≡ lineIn (numberOf refusal) (placeOf refusal) (now (lines .entry)) last ⌝ }
 {

@@ -1,6 +1,7 @@
-// The designer's desk: one program for what the library can do. `telgouin help` tells what it takes and prints. This file reads the command, `files` the
-// numbers and the block, `editing` runs edits, and the crate `desk` prints. A block is examined once, and what was found of it is handed on. Reads
-// the file that is named and standard input, and writes to standard output, to standard error and to the files that edits name.
+// The designer's desk: one program for what the library can do. `telgouin help` tells what it takes and prints.
+// This file reads the command, `files` the numbers and the block, `editing` runs edits, and the crate `desk` prints.
+// A block is examined once, and what was found of it is handed on. Reads the file that is named and standard input,
+// and writes to standard output, to standard error and to the files that edits name.
 mod editing;
 mod files;
 
@@ -106,7 +107,8 @@ fn say_usage(command: Command) {
     }
 }
 
-// Obeys a command over a whole block that was examined and got this answer, with so many numbers. The work bytes hold the block's families.
+// Obeys a command over a whole block that was examined and got this answer, with so many numbers.
+// The work bytes hold the block's families.
 fn obey_examined(
     command: Command,
     examined: Examined,
@@ -141,7 +143,8 @@ fn obey_examined(
     }
 }
 
-// Examines the block that these bytes are, and obeys a command over it, with so many numbers. A block that is refused is left to the caller to print.
+// Examines the block that these bytes are, and obeys a command over it, with so many numbers.
+// A block that is refused is left to the caller to print.
 fn examine(
     command: Command,
     bytes: &[u8],
@@ -160,8 +163,8 @@ fn examine(
     }
 }
 
-// Obeys a command over the block that these bytes are, with so many numbers: the queries read it for themselves, and for all others it is examined. Where
-// the block is refused, or a query of it, nothing is printed.
+// Obeys a command over the block that these bytes are, with so many numbers: the queries read it for themselves,
+// and for all others it is examined. Where the block is refused, or a query of it, nothing is printed.
 fn obey(
     command: Command,
     bytes: &[u8],
@@ -184,8 +187,9 @@ fn has_edits(command: Command) -> bool {
     }
 }
 
-// Obeys a command over the block that the first `length` bytes are, with so many numbers, and prints the refusal where there is one: a block that is refused
-// gets it from every command, with the line that the record stands on where its text has lines.
+// Obeys a command over the block that the first `length` bytes are, with so many numbers, and prints the
+// refusal where there is one: a block that is refused gets it from every command, with the line that the record
+// stands on where its text has lines.
 fn run_block(
     command: Command,
     block: &[u8; MOST_BLOCK],
@@ -205,8 +209,8 @@ fn run_block(
     }
 }
 
-// Obeys a command over the block of the file that is named, with so many numbers behind it. Where they are no numbers, or where the file has no block, what
-// was expected is printed.
+// Obeys a command over the block of the file that is named, with so many numbers behind it. Where they are no numbers,
+// or where the file has no block, what was expected is printed.
 fn run(command: Command, count: usize) {
     let mut numbers = [0usize; MOST_NUMBERS];
     if !files::take_numbers(&mut numbers, count) {

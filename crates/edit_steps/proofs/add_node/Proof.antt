@@ -1,5 +1,6 @@
--- `edit_steps::add_node` meets its contract: a node that is offered has room and can stand at its number, since its record passed the rows on these;
--- and the addition of it, or the refusal of its record, is the edit (`Adding`). Assumes nothing.
+-- `edit_steps::add_node` meets its contract: a node that is offered has room and can stand at its number,
+-- since its record passed the rows on these; and the addition of it, or the refusal of its record,
+-- is the edit (`Adding`). Assumes nothing.
 use mathlib.Core.Path.{sym, ap, _∙_}
 use borrow.Author.Needs.{needs}
 use Rattle.edit_steps.specs.Work.{offeredOf}

@@ -1,5 +1,6 @@
--- `edit_steps::add_offered` meets its contract: the refusal of slices that are too short for one node more, or the answer, which is read from
--- the marks with those of the new node, found over the work bytes with its families (`Adding`). Assumes nothing.
+-- `edit_steps::add_offered` meets its contract: the refusal of slices that are too short for one node more,
+-- or the answer, which is read from the marks with those of the new node, found over the work bytes with its
+-- families (`Adding`). Assumes nothing.
 use borrow.Author.Needs.{needs}
 use Rattle.edit_steps.proofs.Adding.{no-room, looked}
 use Rattle.edit_steps.proofs.add_offered.Statement.{statement}

@@ -1,4 +1,5 @@
--- `edit_steps::change` meets its contract: a state beyond the limits is nobody's, and else the edit is the addition or the removal. Assumes nothing.
+-- `edit_steps::change` meets its contract: a state beyond the limits is nobody's, and else the edit is the addition
+-- or the removal. Assumes nothing.
 use native.Mathlib.Omega.{arith}
 use borrow.Author.Needs.{needs}
 use Rattle.edit_steps.proofs.Changing.{state-count, state-variables, refused-early}

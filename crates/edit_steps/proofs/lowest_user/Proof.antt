@@ -1,5 +1,5 @@
--- `edit_steps::lowest_user` meets its contract. The invariant: of the netlist's nodes none of the first j names node i (`Used`). The measure is the
--- number of nodes left. Assumes nothing.
+-- `edit_steps::lowest_user` meets its contract. The invariant: of the netlist's nodes none of the first j uses node i
+-- (`Used`). The measure is the number of nodes left. Assumes nothing.
 use Prim.Native.Nat.{_-_, _≤_}
 use mathlib.Core.Path.{_≡_, sym, _∙_}
 use native.Mathlib.Omega.{arith}

@@ -1,6 +1,6 @@
--- `edit_steps::move_down` meets its contract. The loop's invariant: of the bytes behind the node that is removed the first `at - 256 * removed` have
--- moved down by 256, and all others stand. So what is read 256 further on is still the byte that stood there. The measure is what is left of
--- the bytes. Assumes nothing.
+-- `edit_steps::move_down` meets its contract. The loop's invariant: of the bytes behind the node that is removed the
+-- first `at - 256 * removed` have moved down by 256, and all others stand. So what is read 256 further on is still the
+-- byte that stood there. The measure is what is left of the bytes. Assumes nothing.
 use Prim.Native.Nat.{ℕ, suc, _+_, _*_, _-_, _≤_, _<_}
 use mathlib.Core.Path.{_≡_, refl, subst}
 use mathlib.Core.List.{List}

@@ -1,5 +1,6 @@
--- `edit_steps::offered` meets its contract: a kind of 0 or 1 is refused first, and then the record is judged as the next of a file (`Offers`), which
--- finds a refusal, or a node's record that has bytes left over or not. Assumes nothing.
+-- `edit_steps::offered` meets its contract: a kind of 0 or 1 is refused first, and then the record is judged
+-- as the next of a file (`Offers`), which finds a refusal, or a node's record that has bytes left over or not.
+-- Assumes nothing.
 use Prim.Native.Nat.{ℕ, _≤_}
 use mathlib.Core.Path.{_≡_, sym, ap, _∙_}
 use mathlib.Core.Logic.{_⊎_, inl, inr, ⊎-elim}

@@ -1,10 +1,11 @@
--- `edit_steps::remove_node` meets its contract: each refusal is the one that the rules check first; and where none is, the families and marks that moved
--- down are those of the netlist without the node, and the answer is read from these marks. Assumes nothing.
+-- `edit_steps::remove_node` meets its contract: each refusal is the one that the rules check first; and where none is,
+-- the families and marks that moved down are those of the netlist without the node, and the answer is read
+-- from these marks. Assumes nothing.
 use mathlib.Core.Path.{_∙_}
 use borrow.Author.Needs.{needs}
 use Rattle.checker.proofs.Core.{too-short}
 use Rattle.edit_steps.proofs.Changing.{state-count, refused-early}
-use Rattle.edit_steps.proofs.Removing.{still-used, gave-up, no-such-node, by-slices, removes}
+use Rattle.edit_steps.proofs.Removing.{still-used, removed-unused, no-such-node, by-slices, removes}
 use Rattle.edit_steps.proofs.remove_node.Statement.{statement}
 use Rattle.edit_steps.proofs.remove_node.Tie as tie
 
@@ -77,7 +78,7 @@ returns-4 c =
     let there = told .before .if1 .left in
     let named = told .before .before in
     removes _ _ _ _ _ _ _ there (told .slices-fit .ensures) (taken .enum-told .given .1)
-    (gave-up _ _ _ _ (named .lowest-user .ensures) _ _ _ _ _ (unused .if2 .left) there (named .before .before .pre .nodes)
+    (removed-unused _ _ _ _ (named .lowest-user .ensures) _ _ _ _ _ (unused .if2 .left) there (named .before .before .pre .nodes)
     (told .slices-fit .ensures .room (taken .enum-told .given .1) .1)
     (without .without-node .ensures .0 .1) (without .without-node .ensures .1) (marks .without-marks .ensures) (moved .move-down .ensures) (c .read-marks .ensures))
 

@@ -1,5 +1,6 @@
--- `edit_steps::without_node` meets its contract. The loop's invariant: of the node records behind the one that is removed those up to `i` have
--- moved down by one, renumbered, and all others stand. The measure is what is left of the records. Assumes nothing.
+-- `edit_steps::without_node` meets its contract. The loop's invariant: of the node records behind
+-- the one that is removed those up to `i` have moved down by one, renumbered, and all others stand.
+-- The measure is what is left of the records. Assumes nothing.
 use Prim.Native.Nat.{_-_, _≤_}
 use mathlib.Core.Path.{ap}
 use native.Mathlib.Omega.{arith}

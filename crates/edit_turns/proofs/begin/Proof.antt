@@ -1,4 +1,5 @@
--- `edit_turns::begin` meets its contract: a block that is admitted is held, and the reply is its answer. Assumes nothing.
+-- `edit_turns::begin` meets its contract: a block that is admitted is held, and the reply is its answer.
+-- Assumes nothing.
 use mathlib.Core.Path.{_≡_, ap, _∙_}
 use lib.ListN.{length}
 use denote.Ref.{now}

@@ -1,5 +1,5 @@
--- `edits::edited_of` meets its contract: of a refusal the state is the one handed in, and of an answer `opened_of` ensures it.
--- Assumes nothing.
+-- `edits::edited_of` meets its contract: of a refusal the state is the one handed in, and of an answer
+-- `opened_of` ensures it. Assumes nothing.
 use borrow.Author.Needs.{needs}
 use Rattle.edits.proofs.edited_of.Statement.{statement}
 use Rattle.edits.proofs.edited_of.Tie as tie

@@ -1,6 +1,7 @@
--- `edits::load` meets its contract: a walk of its MIR, by hand. The local array is laid out as a row before the loop and taken up after it (`Laid.antt` of `checker`); after i turns it has i records of the slice at its front, which is the loop's
--- invariant. The slice is shared, so each turn passes a copy of what it owns to `node_at` and keeps one. All that is known of `to_load`, `no_entries`, `node_at` and `loaded_of` is that each meets its contract.
--- Assumes nothing.
+-- `edits::load` meets its contract: a walk of its MIR, by hand. The local array is laid out as a row before the loop
+-- and taken up after it (`Laid.antt` of `checker`); after i turns it has i records of the slice at its front, which is
+-- the loop's invariant. The slice is shared, so each turn passes a copy of what it owns to `node_at` and keeps one. All
+-- that is known of `to_load`, `no_entries`, `node_at` and `loaded_of` is that each meets its contract. Assumes nothing.
 use mathlib.Core.Path.{_≡_, refl, sym, _∙_, ap, subst}
 use Prim.Native.Nat.{ℕ, _+_, _*_, _-_, _<_, _≤_, _^_, min, zero-le}
 use native.Mathlib.Nat.{le-antisymm}

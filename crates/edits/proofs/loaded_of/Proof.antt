@@ -1,4 +1,5 @@
--- `edits::loaded_of` meets its contract. The loop's invariant: each array has the field of so many of the records, and zeros beyond them. The measure is what is left of the records. Assumes nothing.
+-- `edits::loaded_of` meets its contract. The loop's invariant: each array has the field of so many of the records,
+-- and zeros beyond them. The measure is what is left of the records. Assumes nothing.
 use Prim.Native.Nat.{_-_, _≤_}
 use mathlib.Core.Path.{_≡_, sym}
 use native.Mathlib.Omega.{arith}

@@ -1,4 +1,5 @@
--- `telgouin::editing::obey` meets its contract: the block after a line is what the line leaves, also where a file could not be written. Assumes nothing.
+-- `telgouin::editing::obey` meets its contract: the block after a line is what the line leaves, also where a file
+-- could not be written. Assumes nothing.
 use mathlib.Core.Path.{sym}
 use mathlib.Core.Bool.{true}
 use native.Mathlib.Omega.{arith}
@@ -29,8 +30,8 @@ write-requires c κs = search needs
 enum-told : tie.Need-enum-told
 enum-told c = search needs
 
-list-block-requires : tie.Need-list-block-requires
-list-block-requires c κs = search needs
+list-held-requires : tie.Need-list-held-requires
+list-held-requires c κs = search needs
 
 enum-told-2 : tie.Need-enum-told-2
 enum-told-2 c = search needs
@@ -50,15 +51,21 @@ returns c =
 
 returns-2 : tie.Need-returns-2
 unfolding afterEvent afterLine
-returns-2 c = record { isWritten = true; stands = λ s stands. rw all-written (c .before .before .before .before .before .obey .ensures .1 .1 s stands .stands) }
+returns-2 c =
+    let obeyed = c .before .before .before .before .before .before .before .before .obey .ensures in
+    record { isWritten = true; stands = λ s stands. rw all-written (obeyed .1 .1 s stands .stands) }
 
 returns-3 : tie.Need-returns-3
 unfolding afterEvent afterLine
-returns-3 c = record { isWritten = true; stands = λ s stands. rw all-written (c .before .before .before .before .obey .ensures .1 .1 s stands .stands) }
+returns-3 c =
+    let obeyed = c .before .before .before .before .obey .ensures in
+    record { isWritten = true; stands = λ s stands. rw all-written (obeyed .1 .1 s stands .stands) }
 
 returns-4 : tie.Need-returns-4
 unfolding afterEvent afterLine
-returns-4 c = record { isWritten = true; stands = λ s stands. rw all-written (c .before .before .before .before .before .before .before .obey .ensures .1 .1 s stands .stands) }
+returns-4 c =
+    let obeyed = c .before .before .before .before .before .before .obey .ensures in
+    record { isWritten = true; stands = λ s stands. rw all-written (obeyed .1 .1 s stands .stands) }
 
 pub obey-spec : {M : Type 1} → statement M
 obey-spec =
@@ -71,7 +78,7 @@ obey-spec =
     part-write-end
     write-requires
     enum-told
-    list-block-requires
+    list-held-requires
     enum-told-2
     say-told-requires
     returns

@@ -1,4 +1,5 @@
--- `telgouin::editing::read_line` meets its contract, and ends: a line that was read is within its bytes. Assumes nothing.
+-- `telgouin::editing::read_line` meets its contract, and ends: a line that was read is within its bytes.
+-- Assumes nothing.
 use Prim.Native.Nat.{_-_, _≤_}
 use borrow.Author.Needs.{needs}
 use Rattle.telgouin.proofs.editing.read_line.Statement.{statement}

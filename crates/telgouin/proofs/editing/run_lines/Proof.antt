@@ -1,5 +1,5 @@
--- `telgouin::editing::run_lines` meets its contract: a turn adds one event to the run so far and uses up one of the turns that are left, so it ends.
--- Assumes nothing.
+-- `telgouin::editing::run_lines` meets its contract: a turn adds one event to the run so far and uses up one of the
+-- turns that are left, so it ends. Assumes nothing.
 use Prim.Native.Nat.{ℕ, _+_, _<_}
 use mathlib.Core.Path.{_≡_}
 use mathlib.Core.Bool.{true}

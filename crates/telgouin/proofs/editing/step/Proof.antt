@@ -1,4 +1,5 @@
--- `telgouin::editing::step` meets its contract: a turn takes one line, and the last one leaves the input unread. Assumes nothing.
+-- `telgouin::editing::step` meets its contract: a turn takes one line, and the last one leaves the input unread.
+-- Assumes nothing.
 use mathlib.Core.Bool.{false≢true}
 use native.Mathlib.Omega.{arith}
 use borrow.Author.Needs.{needs}

@@ -1,5 +1,5 @@
--- `telgouin::editing::take_line` meets its contract: a line that was read is obeyed, one that is too long or cannot be read is at fault, and the end
--- of the input leaves the block as it is. Assumes nothing.
+-- `telgouin::editing::take_line` meets its contract: a line that was read is obeyed, one that is too long or cannot be
+-- read is at fault, and the end of the input leaves the block as it is. Assumes nothing.
 use borrow.Author.Needs.{needs}
 use Rattle.edit_turns.specs.Turns.{line, unread, ended, afterEvent}
 use Rattle.telgouin.proofs.editing.take_line.Statement.{statement}

@@ -1,4 +1,5 @@
--- `telgouin::editing::write` meets its contract: the turn stays, and is at fault where the file could not be written. Assumes nothing.
+-- `telgouin::editing::write` meets its contract: the turn stays, and is at fault where the file could not be written.
+-- Assumes nothing.
 use mathlib.Core.Bool.{true, false}
 use borrow.Author.Needs.{needs}
 use Rattle.telgouin.proofs.editing.write.Statement.{statement}

@@ -1,4 +1,5 @@
--- `telgouin::files::has_words` meets its contract: what is compared is the name from its fourth letter from the end on. Assumes nothing.
+-- `telgouin::files::has_words` meets its contract: what is compared is the name from its fourth letter from the end on.
+-- Assumes nothing.
 use Prim.Native.Nat.{ℕ, _-_}
 use native.Mathlib.Omega.{arith}
 use mathlib.Core.Path.{_≡_, _∙_}

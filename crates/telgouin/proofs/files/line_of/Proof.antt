@@ -1,4 +1,5 @@
--- `telgouin::files::line_of` meets its contract: past both tests the line is that at the place, or the last one where there is none. Assumes nothing.
+-- `telgouin::files::line_of` meets its contract: past both tests the line is that at the place, or the last one
+-- where there is none. Assumes nothing.
 use Prim.Native.Nat.{ℕ, _<_}
 use mathlib.Core.Path.{_≡_, _∙_, sym, ap}
 use mathlib.Core.List.{List}

@@ -1,4 +1,5 @@
--- `telgouin::files::read_block` meets its contract: the block is that of the named file, or is given as bytes. Assumes nothing.
+-- `telgouin::files::read_block` meets its contract: the block is that of the named file, or is given as bytes.
+-- Assumes nothing.
 use borrow.Author.Needs.{needs}
 use Rattle.telgouin.proofs.Blocks.{as-bytes}
 use Rattle.telgouin.proofs.files.read_block.Statement.{statement}

@@ -1,4 +1,5 @@
--- `telgouin::files::read_from` meets its contract: what it counts is what the input's reading put at the front. Assumes nothing.
+-- `telgouin::files::read_from` meets its contract: what it counts is what the input's reading put at the front.
+-- Assumes nothing.
 use borrow.Author.Needs.{needs}
 use Rattle.io.specs.Counts.{Counts}
 use Rattle.telgouin.proofs.files.read_from.Statement.{statement}

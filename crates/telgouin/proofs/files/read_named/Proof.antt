@@ -1,4 +1,5 @@
--- `telgouin::files::read_named` meets its contract: the block is what the reading in words or that of bytes gives. Assumes nothing.
+-- `telgouin::files::read_named` meets its contract: the block is what the reading in words or that of bytes gives.
+-- Assumes nothing.
 use borrow.Author.Needs.{needs}
 use Rattle.telgouin.proofs.Blocks.{as-bytes}
 use Rattle.telgouin.proofs.files.read_named.Statement.{statement}

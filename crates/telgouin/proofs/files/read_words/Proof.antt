@@ -1,5 +1,5 @@
--- `telgouin::files::read_words` meets its contract: the bytes that were read are at the front of the text, and where none are taken there is no block.
--- Assumes nothing.
+-- `telgouin::files::read_words` meets its contract: the bytes that were read are at the front of the text, and where
+-- none are taken there is no block. Assumes nothing.
 use borrow.Author.Needs.{needs}
 use Rattle.io.specs.Counts.{Counts}
 use Rattle.telgouin.proofs.files.read_words.Statement.{statement}

@@ -1,5 +1,5 @@
--- `telgouin::files::take_numbers` meets its contract. The loop's invariant: `k` is at most `count`, and from `k` on the numbers are as they were.
--- Assumes nothing.
+-- `telgouin::files::take_numbers` meets its contract. The loop's invariant: `k` is at most `count`, and from `k` on the
+-- numbers are as they were. Assumes nothing.
 use Prim.Native.Nat.{ℕ, _+_, _-_, _≤_}
 use native.Mathlib.Omega.{arith}
 use mathlib.Core.Path.{_≡_, _∙_, sym, ap}
