@@ -34,7 +34,7 @@ pub extern "C" fn telgouin_edits(bytes: &[u8], added: &[u8], node: usize, times:
 {
     let turns = least(times, MOST_TURNS);
     let mut work = [0u8; MOST_WORK];
-    let opened = test_edit_trial::open_over(
+    let opened = test_trial::open_over(
         bytes,
         MOST_NODES,
         [test_trial::entry_before(); MOST_NODES],
@@ -46,7 +46,7 @@ pub extern "C" fn telgouin_edits(bytes: &[u8], added: &[u8], node: usize, times:
     let mut answered = 0;
     let mut turn = 0;
     while turn < turns {
-        let less = test_edit_trial::edit_over(
+        let less = test_trial::edit_over(
             state,
             Edit::Remove(node),
             added,
@@ -58,14 +58,7 @@ pub extern "C" fn telgouin_edits(bytes: &[u8], added: &[u8], node: usize, times:
         let shorter = less.nodes;
         let reply = removed.reply;
         let between = removed.state;
-        let more = test_edit_trial::edit_over(
-            between,
-            Edit::Add,
-            added,
-            MOST_NODES,
-            shorter,
-            &mut work,
-        );
+        let more = test_trial::edit_over(between, Edit::Add, added, MOST_NODES, shorter, &mut work);
         let longer = more.edited;
         let last = longer.reply;
         state = longer.state;
@@ -97,7 +90,7 @@ pub extern "C" fn telgouin_edit_again(bytes: &[u8], added: &[u8], times: usize) 
 {
     let turns = least(times, MOST_TURNS);
     let mut work = [0u8; MOST_WORK];
-    let opened = test_edit_trial::open_over(
+    let opened = test_trial::open_over(
         bytes,
         MOST_NODES,
         [test_trial::entry_before(); MOST_NODES],
@@ -110,7 +103,7 @@ pub extern "C" fn telgouin_edit_again(bytes: &[u8], added: &[u8], times: usize) 
     let mut answered = 0;
     let mut turn = 0;
     while turn < turns {
-        let seen = test_edit_trial::edit_over(state, edit, added, MOST_NODES, nodes, &mut work);
+        let seen = test_trial::edit_over(state, edit, added, MOST_NODES, nodes, &mut work);
         let edited = seen.edited;
         let reply = edited.reply;
         answered += one_if_answered(reply);

@@ -49,7 +49,6 @@ use rules::MOST_WORK;
 use rules::NodeRecord;
 use rules::QueryOutcome;
 use std::num::wrapping_add_u16;
-use test_edit_trial::SeenEdit;
 use test_tools::least;
 use test_tools::print;
 use test_tools::print_answer;
@@ -59,6 +58,7 @@ use test_tools::print_number;
 use test_tools::print_refusal;
 use test_tools::print_reply;
 use test_tools::same_record;
+use test_trial::SeenEdit;
 
 // The most bytes of standard input, and of a block.
 const MOST_INPUT: usize = 65536;
@@ -619,7 +619,7 @@ fn open_desk(bytes: [u8; MOST_BLOCK], digits: usize) -> Desk {
         work,
     };
     let length = least(digits / 2, MOST_BLOCK);
-    let seen = test_edit_trial::open_over(&bytes[0..length], MOST_NODES, nodes, &mut work);
+    let seen = test_trial::open_over(&bytes[0..length], MOST_NODES, nodes, &mut work);
     print_edited(before, seen, work)
 }
 
@@ -638,7 +638,7 @@ fn one_edit(
     let nodes = desk.nodes;
     let mut work = desk.work;
     let length = least(digits / 2, MOST_BLOCK);
-    let seen = test_edit_trial::edit_over(
+    let seen = test_trial::edit_over(
         state,
         edit,
         &bytes[0..length],

@@ -9,7 +9,6 @@ use edit_rules::State;
 use rules::NodeRecord;
 use rules::Reply;
 use std::num::wrapping_add_usize;
-use test_edit_trial::SeenEdit;
 use test_expected::Expected;
 use test_expected::Lent;
 use test_expected::Work;
@@ -32,6 +31,7 @@ use test_second_checker::Store;
 use test_second_checker::number_if;
 use test_tools::one_if;
 use test_tools::print_counts;
+use test_trial::SeenEdit;
 
 const BLOCKS: usize = 400;
 
@@ -264,12 +264,7 @@ fn is_fresh(seen: SeenEdit, work: Work, before: Open, written: Written, lent: Le
     let nodes_before = before.nodes;
     let all = bytes_of(written);
     let n = written.length % 1025;
-    let fresh = test_edit_trial::open_over(
-        &all[..n],
-        lent.entries,
-        nodes_before,
-        &mut fresh_work[..m],
-    );
+    let fresh = test_trial::open_over(&all[..n], lent.entries, nodes_before, &mut fresh_work[..m]);
     let edited = fresh.edited;
     let nodes = fresh.nodes;
     let reply = edited.reply;
@@ -425,7 +420,7 @@ fn try_edit(tally: &mut Tally, open: Open, asked: Asked, with_families: bool) ->
     let bytes = record_of(asked);
     let length = asked.length % 6;
     let m = lent.work % 51201;
-    let seen = test_edit_trial::edit_over(
+    let seen = test_trial::edit_over(
         state,
         edit_of(asked),
         &bytes[..length],
@@ -508,7 +503,7 @@ fn opened(made: test_generator::Made) -> Open {
     let mut work = [0u8; 51200];
     test_trial::fill(&mut work);
     let before = [test_trial::entry_before(); 200];
-    let seen = test_edit_trial::open_over(&all[..n], 200, before, &mut work);
+    let seen = test_trial::open_over(&all[..n], 200, before, &mut work);
     let edited = seen.edited;
     let state = edited.state;
     let nodes = seen.nodes;

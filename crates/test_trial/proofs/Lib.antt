@@ -4,3 +4,5 @@ pub mod Kept
 -- its front.
 pub mod Lent
 pub mod Over
+-- What opening or an edit leaves.
+pub mod AfterEdit

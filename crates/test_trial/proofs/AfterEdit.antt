@@ -6,12 +6,12 @@ use package.mir.Val.{Val, vstruct, ofList}
 use denote.Laws.{Is}
 use Rattle.rules.specs.declared.NodeRecord.{NodeRecord}
 use Rattle.edits.specs.declared.Edited.{Edited}
-use Rattle.test_edit_trial.specs.declared.SeenEdit.{SeenEdit}
+use Rattle.test_trial.specs.declared.SeenEdit.{SeenEdit}
 use Rattle.rules.proofs.NodeRecord as T
 use Rattle.edits.proofs.Edited as R
 use Rattle.test_trial.proofs.Lent.{array}
-use Rattle.test_edit_trial.proofs.SeenEdit as S
+use Rattle.test_trial.proofs.SeenEdit as S
 use Rattle.test_trial.proofs.Over.{as-field}
 
 -- the result over an open block's records
 abbrev pub seen : Edited → List NodeRecord → SeenEdit

@@ -1,2 +1,0 @@
--- What opening or an edit over records by value leaves.
-pub mod Seen
