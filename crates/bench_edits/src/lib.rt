@@ -24,7 +24,8 @@ fn one_if_answered(reply: Reply) -> usize
     }
 }
 
-// Opens a block, and then, so many times, gives up one of its nodes and takes a new one at the end. No times: it is a fresh check alone.
+// Opens a block, and then, so many times, gives up one of its nodes and takes a new one at the end. No times: it is a
+// fresh check alone.
 #[no_mangle]
 pub extern "C" fn telgouin_edits(bytes: &[u8], added: &[u8], node: usize, times: usize) -> usize
     ensures { λ r. ⌜ r ≤ 131072 ⌝ }
@@ -84,8 +85,9 @@ fn edit_at_the_end(added: usize, count: usize) -> Edit {
     Edit::Remove(count - 1)
 }
 
-// Opens a block, and then, so many times, makes one edit of it as it was opened: takes a new node at the end or, where there are no bytes of one, gives
-// up the last node. Neither changes the families of the block's own nodes, so that the next edit finds them. No times: it is a fresh check alone.
+// Opens a block, and then, so many times, makes one edit of it as it was opened: takes a new node at the end or, where
+// there are no bytes of one, gives up the last node. Neither changes the families of the block's own nodes, so that the
+// next edit finds them. No times: it is a fresh check alone.
 #[no_mangle]
 pub extern "C" fn telgouin_edit_again(bytes: &[u8], added: &[u8], times: usize) -> usize
     ensures { λ r. ⌜ r ≤ 65536 ⌝ }

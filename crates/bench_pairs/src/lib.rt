@@ -17,8 +17,8 @@ fn packed(looked: usize, case: usize, first: usize, second: usize, third: usize)
         + third % 4096
 }
 
-// Checks a block with two probes. Case 0 is a refusal, with number and place; 1 a single suspect, with node and set; 2 no pair; 3
-// a pair, with both nodes and the set; 4 a limit that is spent.
+// Checks a block with two probes. Case 0 is a refusal, with number and place; 1 a single suspect, with node and set; 2
+// no pair; 3 a pair, with both nodes and the set; 4 a limit that is spent.
 #[no_mangle]
 pub extern "C" fn telgouin_pairs(bytes: &[u8], limit: usize) -> usize
     ensures { λ r. ⌜ r ≡ packedReply (pairsReply (now (bytes .entry)) most-nodes most-work limit) ⌝ }
