@@ -1,30 +1,43 @@
-// The cases and edges of document 01 that are not in its table: what a check, a query or the listing answers, and what the lent
-// slices hold after it; and products of families. Where two conditions meet, the case shows which is checked first.
+// The cases and edges of document 01 that are not in its table: what a check, a query or the listing answers, and what
+// the lent slices hold after it; and products of families. Where two conditions meet, the case shows which is checked
+// first. It uses the functions that it tests, over slices that `test_trial` and `test_trial` lend.
 //
-// Standard input has one case a line: a command with its numbers, a block and the case's name, with colons between them.
+// Standard input has one case a line: a command with its numbers, a block and the case's name, with colons between
+// them.
 //
-//     check ENTRIES BYTES : BLOCK : NAME    the reply, from where on the node entries and the work bytes are as they were, and each marked
-//                                           node with its settled and its glitch mark, 0 for none
-//     pairs LIMIT ENTRIES BYTES : BLOCK : NAME    the same with two probes, where at most so many pairs are looked at
-//     ask NODE NUMBER : BLOCK : NAME        all three queries, with the number as assignment and as set
-//     value NODE NUMBER : BLOCK             the settled value alone
-//     points NODE : BLOCK                   the points that feed a node alone
-//     list BYTES : BLOCK : NAME             the listing, its length, and from where on the text is as it was
-//     node NODE : BLOCK : NAME              the reply, the node's record with its two marks, and its two families, set by set
-//     derive NODE LAYER SET BYTES : BLOCK : NAME    the reply, the first steps of the derivation, each as node, layer, rule and set, and from
-//                                           where on the slice is as it was
-//     edits ENTRIES BYTES : BLOCK : EDITS : NAME    the block is opened in slices that hold every block, then each edit is made in slices
-//                                           of these lengths; of the opening and of each edit the reply, how many variables and nodes the
-//                                           state then has, from where to where entries and work bytes change, and each marked node as above
-//     product FIRST SECOND INTO : SETS : SETS : NAME    families of these sets are put into two parts of the work bytes, or both into one; in a part
-//                                           above them their product is made, and apart from that the empty set with both families and their
-//                                           product: how many pairs were tried, of each of the four families how many sets it has, how many
-//                                           are listed and the list, and from where to where work bytes change each time
+//     check ENTRIES BYTES : BLOCK : NAME
+//         the reply, from where on the node entries and the work bytes are as they were, and each marked node with its
+//         settled and its glitch mark, 0 for none
+//     pairs LIMIT ENTRIES BYTES : BLOCK : NAME
+//         the same with two probes, where at most so many pairs are looked at
+//     ask NODE NUMBER : BLOCK : NAME
+//         all three queries, with the number as assignment and as set
+//     value NODE NUMBER : BLOCK
+//         the settled value alone
+//     points NODE : BLOCK
+//         the points that feed a node alone
+//     list BYTES : BLOCK : NAME
+//         the listing, its length, and from where on the text is as it was
+//     node NODE : BLOCK : NAME
+//         the reply, the node's record with its two marks, and its two families, set by set
+//     derive NODE LAYER SET BYTES : BLOCK : NAME
+//         the reply, the first steps of the derivation, each as node, layer, rule and set, and from where on the slice
+//         is as it was
+//     edits ENTRIES BYTES : BLOCK : EDITS : NAME
+//         the block is opened in slices that hold every block, then each edit is made in slices of these lengths; of the
+//         opening and of each edit the reply, how many variables and nodes the state then has, from where to where
+//         entries and work bytes change, and each marked node as above
+//     product FIRST SECOND INTO : SETS : SETS : NAME
+//         families of these sets are put into two parts of the work bytes, or both into one; in a part above them their
+//         product is made, and apart from that the empty set with both families and their product: how many pairs were
+//         tried, of each of the four families how many sets it has, how many are listed and the list, and from where to
+//         where work bytes change each time
 //
-// A block is written in hexadecimal digits, with a blank before each record; `200*020000` is a record 200 times. A number is
-// decimal: at most 200 ENTRIES, 51200 BYTES of work, 3654 of text and 2565 of steps, parts below 400, and any usize
-// elsewhere. SETS are numbers below 1024, and `8-15` is all of them from 8 to 15; a list is printed so too. A line that starts with `=` is
-// printed without that sign and the blank behind it. An edit is `+` and a record in hexadecimal digits, or `-` and a node. Empty lines, and lines that start with `#`, are for the reader. What the
+// A block is written in hexadecimal digits, with a blank before each record; `200*020000` is a record 200 times. A
+// number is decimal: at most 200 ENTRIES, 51200 BYTES of work, 3654 of text and 2565 of steps, parts below 400, and any
+// usize elsewhere. SETS are numbers below 1024, and `8-15` is all of them from 8 to 15; a list is printed so too. A
+// line that starts with `=` is printed without that sign and the blank behind it. An edit is `+` and a record in
+// hexadecimal digits, or `-` and a node. Empty lines, and lines that start with `#`, are for the reader. What the
 // program does not understand it prints, as `not understood: ` and the line or the word.
 ghost use Prim.Native.Nat.{_+_, _*_, _≤_, _<_};
 ghost use lib.ListN.{length};
@@ -49,7 +62,7 @@ use rules::MOST_WORK;
 use rules::NodeRecord;
 use rules::QueryOutcome;
 use std::num::wrapping_add_u16;
-use test_tools::least;
+use test_generator::least;
 use test_tools::print;
 use test_tools::print_answer;
 use test_tools::print_byte;
@@ -311,6 +324,17 @@ fn reply_to(bytes: &[u8], entries: usize, work: &mut [u8]) -> [NodeRecord; MOST_
     nodes
 }
 
+// From where on entries and work bytes are as they were before a check, and the marked nodes.
+fn print_left(nodes: [NodeRecord; MOST_NODES], work: &[u8]) {
+    let from = test_trial::entries_kept_from(nodes);
+    print_counts(
+        b", kept from# and#",
+        &[from, test_trial::work_kept_from(work)],
+    );
+    print_marked(nodes, from);
+}
+
+// A check with one probe, over so many entries and work bytes.
 fn check(bytes: &[u8], entries: usize, room: usize)
     requires { ⌜ room ≤ 256 * most-nodes ⌝ }
 {
@@ -318,12 +342,7 @@ fn check(bytes: &[u8], entries: usize, room: usize)
     let work = &mut most[0..room];
     test_trial::fill(work);
     let nodes = reply_to(bytes, entries, work);
-    let from = test_trial::entries_kept_from(nodes);
-    print_counts(
-        b", kept from# and#",
-        &[from, test_trial::work_kept_from(work)],
-    );
-    print_marked(nodes, from);
+    print_left(nodes, work);
 }
 
 // What a search over pairs found, and how many it looked at.
@@ -363,12 +382,7 @@ fn check_pairs(bytes: &[u8], limit: usize, entries: usize, room: usize)
     let reply = seen.reply;
     let nodes = seen.nodes;
     print_pairs(reply);
-    let from = test_trial::entries_kept_from(nodes);
-    print_counts(
-        b", kept from# and#",
-        &[from, test_trial::work_kept_from(work)],
-    );
-    print_marked(nodes, from);
+    print_left(nodes, work);
 }
 
 fn value(bytes: &[u8], node: usize, assignment: usize) {
@@ -750,7 +764,8 @@ fn print_set(set: u16, joined: bool, more: bool) {
     }
 }
 
-// The entries of a list that are written; of those that follow each other the first and the last, with a dash between them.
+// The entries of a list that are written; of those that follow each other the first and the last, with a dash between
+// them.
 fn print_listed(sets: [u16; MOST_LIST]) {
     let mut k = 0;
     while k < MOST_LIST {
@@ -894,19 +909,10 @@ fn run_command(command: &[u8], numbers: Numbers, bytes: [u8; MOST_BLOCK], digits
     }
 }
 
-// Runs a case of edits, whose command ends at a colon; answers whether it is understood.
-fn run_edits(line: &[u8], numbers: Numbers, colon: usize) -> bool
-    requires { ⌜ colon < length (now line) ⌝ }
-{
-    let from = colon + 1;
-    let next = find(line, from, b':');
-    if next == line.len() {
-        return false;
-    }
-    let words = next + 1;
-    let last = find(line, words, b':');
+// Runs edits of a block, whose records are the words.
+fn run_edits(numbers: Numbers, words: &[u8], edited: &[u8]) -> bool {
     let mut bytes = [0u8; MOST_BLOCK];
-    let digits = put_block(&mut bytes, &line[from..next]);
+    let digits = put_block(&mut bytes, words);
     if digits > MOST_DIGITS {
         return false;
     }
@@ -916,28 +922,12 @@ fn run_edits(line: &[u8], numbers: Numbers, colon: usize) -> bool
     if numbers.last > MOST_WORK {
         return false;
     }
-    print_behind(line, last);
-    edits(
-        bytes,
-        digits,
-        &line[words..last],
-        numbers.first,
-        numbers.last,
-    );
+    edits(bytes, digits, edited, numbers.first, numbers.last);
     true
 }
 
-// Runs a case of two families likewise.
-fn run_product(line: &[u8], numbers: Numbers, colon: usize) -> bool
-    requires { ⌜ colon < length (now line) ⌝ }
-{
-    let from = colon + 1;
-    let next = find(line, from, b':');
-    if next == line.len() {
-        return false;
-    }
-    let words = next + 1;
-    let last = find(line, words, b':');
+// Runs a product of families of two lists of sets.
+fn run_product(numbers: Numbers, rows: &[u8], columns: &[u8]) -> bool {
     let first = numbers.limit;
     let second = numbers.first;
     let into = numbers.last;
@@ -953,33 +943,53 @@ fn run_product(line: &[u8], numbers: Numbers, colon: usize) -> bool
     let mut work = [170u8; MOST_WORK];
     clear_part(&mut work, first);
     clear_part(&mut work, second);
-    put_family(&mut work, first, &line[from..next]);
-    put_family(&mut work, second, &line[words..last]);
-    print_behind(line, last);
+    put_family(&mut work, first, rows);
+    put_family(&mut work, second, columns);
     product(work, first, second, into);
     true
 }
 
-// Runs a case; answers whether it is understood.
-fn run_case(line: &[u8]) -> bool {
+// Runs a case of edits, or else of a product, on two fields, of which the first ends at a colon.
+fn run_fields(of_edits: bool, numbers: Numbers, fields: &[u8], colon: usize) -> bool
+    requires { ⌜ colon ≤ length (now fields) ⌝ }
+{
+    if colon == fields.len() {
+        return false;
+    }
+    let from = colon + 1;
+    let to = find(fields, from, b':');
+    print_behind(fields, to);
+    if of_edits {
+        return run_edits(numbers, &fields[0..colon], &fields[from..to]);
+    }
+    run_product(numbers, &fields[0..colon], &fields[from..to])
+}
+
+// Runs a case by its command, its numbers and what stands behind the colon: one field or two, and the case's name.
+fn run_case(command: &[u8], numbers: Numbers, fields: &[u8]) -> bool {
+    let colon = find(fields, 0, b':');
+    if same(command, b"edits") {
+        return run_fields(true, numbers, fields, colon);
+    }
+    if same(command, b"product") {
+        return run_fields(false, numbers, fields, colon);
+    }
+    let mut bytes = [0u8; MOST_BLOCK];
+    let digits = put_block(&mut bytes, &fields[0..colon]);
+    print_behind(fields, colon);
+    run_command(command, numbers, bytes, digits)
+}
+
+// Runs the case of a line; answers whether it is understood.
+fn is_understood(line: &[u8]) -> bool {
     let end = find(line, 0, b' ');
     let colon = find(line, end, b':');
     if colon == line.len() {
         return false;
     }
     let from = colon + 1;
-    let next = find(line, from, b':');
-    let mut bytes = [0u8; MOST_BLOCK];
     let numbers = numbers_of(&line[end..colon]);
-    if same(&line[0..end], b"edits") {
-        return run_edits(line, numbers, colon);
-    }
-    if same(&line[0..end], b"product") {
-        return run_product(line, numbers, colon);
-    }
-    let digits = put_block(&mut bytes, &line[from..next]);
-    print_behind(line, next);
-    run_command(&line[0..end], numbers, bytes, digits)
+    run_case(&line[0..end], numbers, &line[from..])
 }
 
 fn run_line(line: &[u8]) {
@@ -993,7 +1003,7 @@ fn run_line(line: &[u8]) {
             print_byte(b'\n');
         }
         _ => {
-            if run_case(line) {
+            if is_understood(line) {
                 print_byte(b'\n');
             } else {
                 complain(line);

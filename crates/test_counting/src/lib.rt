@@ -1,6 +1,6 @@
-// Mask settings counted by force, over blocks of few variables and nodes: whether the number of those that give a pattern
-// on some nodes differs between settings of the secrets. It uses the second checker's values and feeding points, and
-// nothing of the product. For the test programs `test_random_blocks` and `test_random_edits`.
+// Mask settings counted by force, over blocks of few variables and nodes: whether the number of those that give a
+// pattern on some nodes differs between settings of the secrets. It uses the second checker's values and feeding
+// points, and nothing of the product. For the test programs `test_random_blocks` and `test_random_edits`.
 use std::num::wrapping_add_usize;
 use test_generator::least;
 use test_second_checker::SecondBlock;
@@ -51,9 +51,9 @@ fn settings(patterns: &[usize; 32], pattern: usize, masks: usize, fixed: usize) 
     count
 }
 
-// Whether there are a pattern, a setting of the publics and two settings of the secrets for which the counts differ: one
-// of the secrets is that all are 0. Any assignment gives a pattern and a setting; what the counts of all patterns come to
-// is the same for any setting, so where no such count differs, no pattern is left that only the secrets 0 give.
+// Whether there are a pattern, a setting of the publics and two settings of the secrets for which the counts differ:
+// one of the secrets is that all are 0. Any assignment gives a pattern and a setting; what the counts of all patterns
+// come to is the same for any setting, so where no such count differs, no pattern is left that only the secrets 0 give.
 pub fn counts_differ(patterns: &[usize; 32], secrets: usize, masks: usize) -> bool {
     let mut differs = false;
     let mut x = 0;
@@ -73,8 +73,8 @@ pub fn differ(store: &Store, nodes: usize, secrets: usize, masks: usize) -> bool
     counts_differ(&patterns, secrets, masks)
 }
 
-// How many pairs of tested nodes there are, those of a node with itself among them; and the lowest position of one whose
-// counts differ, or `NONE`. Of a node with itself it is 0.
+// How many pairs of tested nodes there are, those of a node with itself among them; and the lowest position of one
+// whose counts differ, or `NONE`. Of a node with itself it is 0.
 pub struct Counted {
     pub pairs: usize,
     pub lowest: usize,

@@ -1,6 +1,6 @@
 // What a check of a block is to give, as the second checker sees it: the refusal or the answer, the node records with
-// their marks, the families in the work bytes, and what a search over pairs finds; and how long the lent slices are, and
-// the limit on pairs. It uses the record types and the refusals' numbers, and no part of the checker. For the test
+// their marks, the families in the work bytes, and what a search over pairs finds; and how long the lent slices are,
+// and the limit on pairs. It uses the record types and the refusals' numbers, and no part of the checker. For the test
 // programs `test_random_blocks` and `test_random_edits`.
 use rules::Half;
 use rules::NodeRecord;

@@ -99,53 +99,86 @@ struct Walk {
     length: usize,
 }
 
-// An operand behind a node that is removed.
-fn lower(operand: u8, node: usize) -> u8 {
+// A record as far as it has bytes: its kind, and the two bytes behind it, whatever they belong to.
+struct Record {
+    kind: u8,
+    first: u8,
+    second: u8,
+}
+
+fn record_at(written: Written, at: usize) -> Record {
+    let from = at % 1020;
+    Record {
+        kind: written.bytes[from],
+        first: written.bytes[from + 1],
+        second: written.bytes[from + 2],
+    }
+}
+
+// Whether a record uses a node.
+fn uses(record: Record, node: usize) -> bool {
+    let kind = record.kind;
+    let two = (kind > 3) & (kind < 7);
+    (kind > 2) & ((record.first as usize == node) | (two & (record.second as usize == node)))
+}
+
+// The byte behind a kind where a node is removed: the operand of a gate behind that node is lowered.
+fn lower(kind: u8, operand: u8, node: usize) -> u8 {
     if operand == 0 {
         return 0;
     }
-    if node < operand as usize {
+    if (kind > 2) & (node < operand as usize) {
         return operand - 1;
     }
     operand
 }
 
-// Whether a record of this kind with these two bytes behind it uses a node.
-fn uses(kind: u8, first: u8, second: u8, node: usize) -> bool {
-    let two = (kind > 3) & (kind < 7);
-    (kind > 2) & ((first as usize == node) | (two & (second as usize == node)))
+// The walk with a record behind those that are kept.
+fn with_kept(walk: Walk, record: Record, node: usize) -> Walk {
+    let mut next = walk;
+    let to = walk.length % 1020;
+    let kind = record.kind;
+    next.bytes[to] = kind;
+    next.bytes[to + 1] = lower(kind, record.first, node);
+    next.bytes[to + 2] = lower(kind, record.second, node);
+    next.length = to + 1 + body_of(kind);
+    next
 }
 
 // The walk past one record; past the last one it stays.
 fn past(walk: Walk, written: Written, node: usize) -> Walk {
-    let mut next = walk;
-    let at = walk.at % 1020;
     if walk.at >= written.length {
-        return next;
+        return walk;
     }
-    let kind = written.bytes[at];
-    let first = written.bytes[at + 1];
-    let second = written.bytes[at + 2];
-    let size = 1 + body_of(kind);
-    let gate = kind > 2;
-    if uses(kind, first, second, node) & (walk.user == NONE) {
+    let record = record_at(written, walk.at);
+    let mut next = walk;
+    next.at = walk.at % 1020 + 1 + body_of(record.kind);
+    next.number = walk.number % 256 + number_if(record.kind > 1, 1);
+    if uses(record, node) & (walk.user == NONE) {
         next.user = walk.number;
     }
-    next.at = at + size;
-    next.number = walk.number % 256 + number_if(kind > 1, 1);
-    if (kind > 1) & (walk.number == node) {
+    if (record.kind > 1) & (walk.number == node) {
         return next;
     }
-    let to = walk.length % 1020;
-    next.bytes[to] = kind;
-    next.bytes[to + 1] = first;
-    next.bytes[to + 2] = second;
-    if gate {
-        next.bytes[to + 1] = lower(first, node);
-        next.bytes[to + 2] = lower(second, node);
+    with_kept(next, record, node)
+}
+
+// The refusal of the removal of a node of so many, where this one is the lowest that uses it, or `NONE`.
+fn removal(nodes: usize, node: usize, user: usize, lent: Lent) -> Expected {
+    let short = slices(nodes, lent);
+    if nodes <= node {
+        return Expected {
+            number: 12,
+            place: node,
+        };
     }
-    next.length = to + size;
-    next
+    if (short.number == 0) & (user != NONE) {
+        return Expected {
+            number: 14,
+            place: user,
+        };
+    }
+    short
 }
 
 // A node removed from a block of so many nodes.
@@ -162,26 +195,13 @@ pub fn removed(written: Written, nodes: usize, node: usize, lent: Lent) -> Chang
         walk = past(walk, written, node);
         records += 1;
     }
-    let mut expected = slices(nodes, lent);
-    if nodes <= node {
-        expected = Expected {
-            number: 12,
-            place: node,
-        };
-    }
-    if (expected.number == 0) & (walk.user != NONE) {
-        expected = Expected {
-            number: 14,
-            place: walk.user,
-        };
-    }
     let bytes = walk.bytes;
     let shorter = Written {
         bytes,
         length: walk.length,
     };
     Changed {
-        expected,
+        expected: removal(nodes, node, walk.user, lent),
         written: shorter,
     }
 }

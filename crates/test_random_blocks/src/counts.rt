@@ -1,7 +1,7 @@
 // Counts mask settings by force over small random blocks. The number of those that give a pattern on some nodes must be
-// the same for all settings of the secrets: over what feeds a tested node, where the checker's glitch half is clear, and
-// over what feeds two of them together, where it finds no pair; where it names a node, or finds a pair, at every one
-// before that one.
+// the same for all settings of the secrets: over what feeds a tested node, where the checker's glitch half is clear,
+// and over what feeds two of them together, where it finds no pair; where it names a node, or finds a pair, at every
+// one before that one.
 use pair_search::Found;
 use pairs::PairsReply;
 use rules::Half;
@@ -16,7 +16,8 @@ use test_tools::Tally;
 use test_tools::count;
 use test_tools::count_if;
 
-// ---- nodes. Values and feeding points are those of the queries, classes and kinds those that the second checker reads.
+// ---- nodes. Values and feeding points are those of the queries, classes and kinds those that the second checker
+// reads.
 
 // The pattern of a node's feeding points under each assignment: bit j is the value of node j, where that is a feeding
 // point. An assignment that the block does not have is refused, and gives 0.

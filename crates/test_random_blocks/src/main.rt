@@ -60,8 +60,8 @@ fn run(trial: Trial, blocks: usize) -> Tally {
     tally
 }
 
-// The last block of each count is a false alarm, which the families cannot know: a register that is always 0, the AND of
-// a mask and its opposite, holds back a secret, or the first of its three shares.
+// The last block of each count is a false alarm, which the families cannot know: a register that is always 0, the AND
+// of a mask and its opposite, holds back a secret, or the first of its three shares.
 fn main() {
     print(b"against the second checker\n");
     printed::one_probe(run(Trial::OneProbe, 4000));

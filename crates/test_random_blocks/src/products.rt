@@ -1,5 +1,5 @@
-// Makes the products at the gates of an answered block once more, to ask how many pairs are tried, and counts the sets of
-// its families. Numbers and products are compared with those of the second checker: as many pairs are tried as the
+// Makes the products at the gates of an answered block once more, to ask how many pairs are tried, and counts the sets
+// of its families. Numbers and products are compared with those of the second checker: as many pairs are tried as the
 // lengths of its two lists have for their product.
 ghost use Prim.Native.Nat.{_<_, _≤_};
 use crate::compare::DIFFERENCES;
@@ -15,8 +15,8 @@ use test_tools::count;
 use test_tools::count_if;
 use test_tools::raise;
 
-// What is counted, in the order of the names that are printed: for each layer the products, and the pairs tried for them;
-// then the products by how many pairs they have, and the most pairs of one.
+// What is counted, in the order of the names that are printed: for each layer the products, and the pairs tried for
+// them; then the products by how many pairs they have, and the most pairs of one.
 const PRODUCTS: usize = 32;
 
 const PAIRS: usize = 34;

@@ -67,8 +67,8 @@ fn one_probe(seed: u32, turn: usize) -> Shape {
 }
 
 // For two probes mostly two to six variables and up to 40 nodes with many registers; some with ten variables, some with
-// one variable or one node more than there may be, some long ones, in which hardly a node is an input, and some of gates
-// over inputs with two or three masks among them, whose pairs hold several suspect sets.
+// one variable or one node more than there may be, some long ones, in which hardly a node is an input, and some of
+// gates over inputs with two or three masks among them, whose pairs hold several suspect sets.
 fn two_probes(seed: u32, turn: usize) -> Shape {
     let second = next(seed);
     let third = next(second);

@@ -1,11 +1,15 @@
-// Derivations over random blocks. At every node, in both layers, each set is asked for: one of the family in a slice with room to spare, in one
-// that just takes its steps and in one a byte shorter; any other set in a slice of some length. A derivation is judged, step by step, by the
-// rules alone and with no family at hand; and it is compared with one that is made another way, from the families of the second checker. Prints
-// counts of what was seen: every one is above 0 but `judged wrong` and `differences`, which must be 0.
+// Derivations over random blocks. At every node, in both layers, each set is asked for: one of the family in a slice
+// with room to spare, in one that just takes its steps and in one a byte shorter; any other set in a slice of some
+// length. A derivation is judged, step by step, by the rules alone and with no family at hand; and it is compared with
+// one that is made another way, from the families of the second checker. Prints counts of what was seen: every one is
+// above 0 but `judged wrong` and `differences`, which must be 0.
+//
+// It uses `derive`, and what the test crates expect of it.
 ghost use Prim.Native.Nat.{_<_};
 use derivations::Derived;
 use rules::Node;
 use std::num::wrapping_add_usize;
+use test_generator::Mix;
 use test_generator::Shape;
 use test_generator::least;
 use test_generator::next;
@@ -13,16 +17,16 @@ use test_generator::pick;
 use test_second_checker::SecondBlock;
 use test_second_checker::Store;
 use test_second_checker::number_if;
-use test_tools::one_if;
+use test_tools::Tally;
+use test_tools::count;
+use test_tools::count_if;
 use test_tools::print_counts;
+use test_tools::raise;
 
 const BLOCKS: usize = 200;
 
-// A mix of kinds for the generator: XORs, with a register and a NOT now and then.
-const XORS: usize = 0o744444444443;
-
-// A claim is that a set is in the family of a node in a layer. It is one number, 1,024 × (16 × layer + node) + set: a block has fewer than 16
-// nodes.
+// A claim is that a set is in the family of a node in a layer. It is one number, 1,024 × (16 × layer + node) + set: a
+// block has fewer than 16 nodes.
 const CLAIMS: usize = 32768;
 
 const LAYER: usize = 16384;
@@ -39,16 +43,13 @@ type Slice = [u8; ROOM];
 
 const BEFORE: u8 = 170;
 
-// At most so many steps.
+// The most steps of a derivation.
 const MOST: usize = 512;
 
 // A stack of claims: there are never so many.
 const HEIGHT: usize = 1024;
 
 type Stack = [usize; HEIGHT];
-
-// What was seen: counts, in the order of the names that are printed.
-type Tally = [usize; 17];
 
 // Sets that are derived, and behind them steps of rules 1 to 6.
 const DERIVED: usize = 1;
@@ -68,14 +69,12 @@ const WRONG: usize = 15;
 
 const DIFFERENCES: usize = 16;
 
-fn count(tally: &mut Tally, at: usize, more: usize) {
-    tally[at % 17] = wrapping_add_usize(tally[at % 17], more);
-}
-
+// The greater of two numbers.
 fn most(a: usize, b: usize) -> usize {
     if a < b { b } else { a }
 }
 
+// The claim of a set at a node in a layer.
 fn claim_of(node: usize, layer: usize, set: usize) -> usize
     ensures { λ r. ⌜ r < 32768 ⌝ }
 {
@@ -84,6 +83,7 @@ fn claim_of(node: usize, layer: usize, set: usize) -> usize
 
 // ---- steps
 
+// A step: by which rule a set is in the family of a node in a layer.
 struct Step {
     node: usize,
     layer: usize,
@@ -121,13 +121,14 @@ fn needs_of(rule: u8) -> usize
 
 // ---- the judge
 
-// Claims that are established are on a stack, each with 32,768 × the longest chain of steps that leads to it. Gives the one below the upper k
-// of so many.
+// Claims that are established are on a stack, each with 32,768 × the longest chain of steps that leads to it. Gives the
+// one below the upper k of so many.
 fn from_top(stack: &Stack, high: usize, k: usize) -> usize {
     stack[(high % HEIGHT + 1023 - k % HEIGHT) % HEIGHT]
 }
 
-// Whether a step at a node of this record follows by its rule, where the steps behind it establish claim `first`, and those behind them `test_second_checker`.
+// Whether a step at a node of this record follows by its rule, where the steps behind it establish claim `first`, and
+// those behind them `second`.
 fn follows(node: Node, step: Step, first: usize, second: usize) -> bool {
     let kind = node.kind;
     let layer = step.layer;
@@ -177,8 +178,8 @@ fn establish(stack: &mut Stack, high: usize, step: Step) -> usize {
     low + 1
 }
 
-// Judges so many steps, from the last one back: in the end one claim is established, which was asked for. Gives the longest chain of steps, or 0
-// where anything is wrong.
+// Judges so many steps, from the last one back: in the end one claim is established, which was asked for. Gives the
+// longest chain of steps, or 0 where anything is wrong.
 fn judge(tally: &mut Tally, block: SecondBlock, steps: &Slice, many: usize, asked: usize) -> usize {
     let mut stack = [0usize; HEIGHT];
     let mut high = 0;
@@ -189,7 +190,7 @@ fn judge(tally: &mut Tally, block: SecondBlock, steps: &Slice, many: usize, aske
         let step = step_at(steps, at);
         right = right & is_right(block, step, &stack, high);
         high = establish(&mut stack, high, step);
-        count(tally, DERIVED + wide(step.rule) % 8, one_if(right));
+        count_if(tally, DERIVED + wide(step.rule) % 8, right);
     }
     right = right & (high == 1) & (stack[0] % CLAIMS == asked);
     number_if(right, stack[0] / CLAIMS)
@@ -197,7 +198,8 @@ fn judge(tally: &mut Tally, block: SecondBlock, steps: &Slice, many: usize, aske
 
 // ---- a second derivation
 
-// Which rules work for a true claim, bit k for rule k; and of rule 6 how many sets of the first operand do, and the lowest of them.
+// Which rules work for a true claim, bit k for rule k; and of rule 6 how many sets of the first operand do, and the
+// lowest of them.
 struct Ways {
     rules: u32,
     sets: usize,
@@ -227,6 +229,7 @@ fn ways_of_both(families: &Families, node: Node, layer: usize, set: usize, all: 
     ways
 }
 
+// Bit k where the answer is yes.
 fn bit_if(yes: bool, k: u32) -> u32 {
     if yes { 1u32 << (k % 8) } else { 0 }
 }
@@ -288,8 +291,8 @@ fn put_needs(
     at + needs_of(rule)
 }
 
-// Writes the derivation of a true claim, by the lowest rule that works at each step; the claim on top of the stack is next. Gives the number of
-// steps, or 513 where they are more than 512.
+// Writes the derivation of a true claim, by the lowest rule that works at each step; the claim on top of the stack is
+// next. Gives the number of steps, or 513 where they are more than 512.
 fn expected_steps(
     block: SecondBlock,
     families: &Families,
@@ -320,12 +323,8 @@ fn count_ways(tally: &mut Tally, block: SecondBlock, families: &Families, claim:
     let node = block.nodes[claim / SETS % 16];
     let all = 1usize << (block.variables % 16);
     let ways = ways_of(families, node, claim / LAYER, claim % SETS, all);
-    count(tally, SEVERAL, one_if(u32::count_ones(ways.rules) > 1));
-    count(
-        tally,
-        SEVERAL + 1,
-        one_if((ways.rules == 64) & (ways.sets > 1)),
-    );
+    count_if(tally, SEVERAL, u32::count_ones(ways.rules) > 1);
+    count_if(tally, SEVERAL + 1, (ways.rules == 64) & (ways.sets > 1));
 }
 
 // ---- every set of every node
@@ -336,6 +335,7 @@ struct Reply {
     value: usize,
 }
 
+// Asks for the derivation of a claim in a slice.
 fn ask(bytes: &[u8], claim: usize, slice: &mut [u8]) -> Reply {
     let reply = derivations::derive(bytes, claim / SETS % 16, claim / LAYER, claim % SETS, slice);
     match reply {
@@ -378,13 +378,13 @@ fn expected_reply(claim: usize, many: usize, bytes: usize) -> Reply {
 fn judge_answer(tally: &mut Tally, block: SecondBlock, slice: &Slice, many: usize, claim: usize) {
     let depth = judge(tally, block, slice, many, claim);
     count(tally, DERIVED, 1);
-    count(tally, WRONG, one_if(depth == 0));
-    tally[DEEPEST] = most(tally[DEEPEST], depth);
-    tally[LONGEST] = most(tally[LONGEST], many);
+    count_if(tally, WRONG, depth == 0);
+    raise(tally, DEEPEST, depth);
+    raise(tally, LONGEST, many);
 }
 
-// Asks for a claim in the first `lent` bytes of a slice, where its derivation has these steps, so many. What is answered in the longest slice is
-// judged.
+// Asks for a claim in the first `lent` bytes of a slice, where its derivation has these steps, so many. What is
+// answered in the longest slice is judged.
 fn try_in(
     tally: &mut Tally,
     bytes: &[u8],
@@ -402,16 +402,16 @@ fn try_in(
         | (reply.value != expected.value)
         | holds_other(&slice, steps, number_if(expected.number == 0, many));
     let short = number_if(many <= MOST, 1);
-    count(tally, DIFFERENCES, one_if(different));
-    count(tally, REFUSED + short, one_if(reply.number == 15));
-    count(tally, REFUSED + 2, one_if(reply.number == 16));
+    count_if(tally, DIFFERENCES, different);
+    count_if(tally, REFUSED + short, reply.number == 15);
+    count_if(tally, REFUSED + 2, reply.number == 16);
     if (reply.number == 0) & (length == ROOM) {
         judge_answer(tally, block, &slice, reply.value, claim);
     }
 }
 
-// Asks for a claim. One that is true is asked for with room to spare, in a slice that just takes its steps, or 512 where they are more, and in one a
-// byte shorter.
+// Asks for a claim. One that is true is asked for with room to spare, in a slice that just takes its steps, or 512
+// where they are more, and in one a byte shorter.
 fn try_claim(
     tally: &mut Tally,
     bytes: &[u8],
@@ -471,53 +471,77 @@ fn try_block(tally: &mut Tally, bytes: &[u8]) {
     }
 }
 
-fn mix_of(turn: usize) -> usize {
+// The mixes of kinds, by turns.
+fn mix_of(turn: usize) -> Mix {
     match turn % 8 {
-        0 => test_generator::EVEN,
-        1 => test_generator::MASKED,
-        2 => test_generator::DENSE,
-        3 => test_generator::REGISTERED,
-        4 => test_generator::LONG,
-        5 => XORS,
-        _ => test_generator::GATES,
+        0 => Mix::Even,
+        1 => Mix::Masked,
+        2 => Mix::Dense,
+        3 => Mix::Registered,
+        4 => Mix::Long,
+        5 => Mix::Xors,
+        _ => Mix::Gates,
     }
 }
 
-// Makes a block of two to five variables, and tries it; gives the generator's next state. One block in eight is mostly XORs of nodes close by, with
-// long derivations; one is a row of gates, each of an input and the gate before it, with two variables more and large families; and a few blocks
-// have ten variables.
-fn try_random(tally: &mut Tally, seed: u32, turn: usize) -> u32 {
+// A block of two to five variables. One in eight is mostly XORs of nodes close by, with long derivations; one is a row
+// of gates, each of an input and the gate before it, with two variables more and large families; and a few blocks have
+// ten variables.
+fn shape_of(seed: u32, turn: usize) -> Shape {
     let second = next(seed);
     let third = next(second);
-    let chain = turn % 8 == 5;
-    let row = turn % 8 == 7;
-    let large = turn % 128 == 2;
-    let variables = number_if(!large, 2 + pick(seed, 4)) + number_if(row, 2) + number_if(large, 10);
-    let made = test_generator::block(Shape {
+    let mut variables = 2 + pick(seed, 4);
+    let mut nodes = 6 + pick(second, 10);
+    let mut near = 1 + pick(third, 4);
+    let mut open = 0;
+    if turn % 128 == 2 {
+        variables = 10;
+        nodes = 6 + pick(second, 2);
+    }
+    match turn % 8 {
+        5 => near = 1 + pick(third, 2),
+        7 => {
+            variables = 4 + pick(seed, 4);
+            near = 3;
+            open = 2;
+        }
+        _ => {}
+    }
+    Shape {
         seed: next(third),
         variables,
         labels: variables,
-        nodes: 6 + pick(second, 10 - number_if(large, 8)),
+        nodes,
         mix: mix_of(turn),
-        near: number_if(!row, 1 + pick(third, 4 - number_if(chain, 2))) + number_if(row, 3),
-        open: number_if(row, 2),
-    });
+        near,
+        open,
+    }
+}
+
+// Makes a block and tries it. Gives the generator's state after it.
+fn try_random(tally: &mut Tally, seed: u32, turn: usize) -> u32 {
+    let made = test_generator::block(shape_of(seed, turn));
     let bytes = test_generator::bytes_of(made);
     let length = made.length % 1025;
     count(tally, 0, 1);
-    try_block(tally, &bytes[0..length]);
+    try_block(tally, &bytes[..length]);
     next(made.seed)
 }
 
+// Prints what was seen.
 fn print_tally(tally: Tally) {
     print_counts(
-        b"blocks\nsets derived\nsteps of rule 1\nsteps of rule 2\nsteps of rule 3\nsteps of rule 4\nsteps of rule 5\nsteps of rule 6\nsets that several rules give\nsets that rule 6 alone gives, in several ways\ndeepest derivation\nlongest derivation\nrefused with 15 for more than 512 steps\nrefused with 15 for a slice a byte too short\nrefused with 16\njudged wrong\ndifferences\n",
+        b"blocks\nsets derived\nsteps of rule 1\nsteps of rule 2\nsteps of rule 3\nsteps of rule 4\n\
+        steps of rule 5\nsteps of rule 6\nsets that several rules give\n\
+        sets that rule 6 alone gives, in several ways\ndeepest derivation\nlongest derivation\n\
+        refused with 15 for more than 512 steps\nrefused with 15 for a slice a byte too short\n\
+        refused with 16\njudged wrong\ndifferences\n",
         &tally,
     );
 }
 
 fn main() {
-    let mut tally = [0usize; 17];
+    let mut tally = [0usize; 64];
     let mut seed = 1;
     let mut turn = 0;
     while turn < BLOCKS {

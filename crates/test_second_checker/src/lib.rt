@@ -12,8 +12,8 @@ use rules::Node;
 use rules::NodeRecord;
 use test_generator::least;
 
-// All that is worked out of a block is in one array of numbers. First the lists of sets: list i is the settled family of
-// node i, and list 200 + i its glitch family; then their lengths; then for each set the last list that it went to.
+// All that is worked out of a block is in one array of numbers. First the lists of sets: list i is the settled family
+// of node i, and list 200 + i its glitch family; then their lengths; then for each set the last list that it went to.
 const LONGEST: usize = 1024;
 
 pub const LISTS: usize = 400;
@@ -85,13 +85,13 @@ fn kind_fault(block: SecondBlock, kind: u8) -> usize {
     if kind > 7 {
         return 1;
     }
-    if kind == 1 && block.count > 0 {
+    if (kind == 1) & (block.count > 0) {
         return 2;
     }
-    if kind == 1 && block.variables > 9 {
-        return 3;
+    if kind == 1 {
+        return number_if(block.variables > 9, 3);
     }
-    number_if(kind > 1 && block.count > 199, 3)
+    number_if((kind > 1) & (block.count > 199), 3)
 }
 
 // The block with the record whose last byte has come.
@@ -282,6 +282,15 @@ pub struct Choice {
     pub lowest: usize,
 }
 
+// No suspect set.
+fn no_choice() -> Choice {
+    Choice {
+        first: NO_SET,
+        last: NO_SET,
+        lowest: LONGEST,
+    }
+}
+
 // The set to report, the lowest of those with fewest variables.
 pub fn reported(choice: Choice) -> usize {
     choice.first % LONGEST
@@ -334,27 +343,6 @@ pub fn suspect_sets(
     }
 }
 
-// The first suspect of a layer as 1,024 × node + set, or `NONE`: the last one found from the last node down.
-pub fn first_suspect(block: SecondBlock, store: &Store, layer: usize) -> usize {
-    let mut found = NONE;
-    let mut i = block.count % 256;
-    while 0 < i {
-        i -= 1;
-        let node = block.nodes[i % 200];
-        let choice = suspect_sets(
-            store,
-            layer % 2 * 200 + i % 200,
-            0,
-            block.classes[0],
-            block.classes[1],
-        );
-        if (node.kind != 2) & (choice.first < NO_SET) {
-            found = i % 200 * LONGEST + choice.first % LONGEST;
-        }
-    }
-    found
-}
-
 // The mark of a node whose family is a list: the set that it reports, or 0 where no set is suspect (`NO_SET` leaves 0)
 // or the node is an input.
 fn mark_of(store: &Store, node: Node, list: usize, secrets: usize, masks: usize) -> u16 {
@@ -363,6 +351,23 @@ fn mark_of(store: &Store, node: Node, list: usize, secrets: usize, masks: usize)
         return 0;
     }
     (choice.first % LONGEST) as u16
+}
+
+// The first suspect of a layer as 1,024 × node + set, or `NONE`: the last one found from the last node down.
+pub fn first_suspect(block: SecondBlock, store: &Store, layer: usize) -> usize {
+    let mut found = NONE;
+    let mut i = block.count % 256;
+    while 0 < i {
+        i -= 1;
+        let at = i % 200;
+        let node = block.nodes[at];
+        let list = layer % 2 * 200 + at;
+        let mark = mark_of(store, node, list, block.classes[0], block.classes[1]);
+        if mark != 0 {
+            found = at * LONGEST + wide(mark) % LONGEST;
+        }
+    }
+    found
 }
 
 // The node records of a block, each with its marks in both layers.
@@ -410,11 +415,7 @@ pub struct FirstPair {
 // The suspect sets among the symmetric differences of a set of one node's glitch family with a set of another's.
 fn pair_sets(store: &Store, i: usize, j: usize, secrets: usize, masks: usize) -> Choice {
     let many = length_of(store, 200 + i % 200);
-    let mut choice = Choice {
-        first: NO_SET,
-        last: NO_SET,
-        lowest: LONGEST,
-    };
+    let mut choice = no_choice();
     let mut k = 0;
     while k < many {
         let with = set_at(store, 200 + i % 200, k);
@@ -433,6 +434,10 @@ fn pair_sets(store: &Store, i: usize, j: usize, secrets: usize, masks: usize) ->
 pub struct Tested {
     pub count: usize,
     pub nodes: [usize; 200],
+}
+
+fn tested_of(tested: Tested) -> [usize; 200] {
+    tested.nodes
 }
 
 pub fn tested_nodes(block: SecondBlock) -> Tested {
@@ -467,44 +472,44 @@ pub fn position_of(a: usize, b: usize) -> usize {
     pairs_of(b) + a % 256 + 1
 }
 
+// The suspect sets of tested nodes a and b, where k is 200 × b + a and a is below b.
+fn sets_at(store: &Store, tested: &[usize; 200], k: usize, secrets: usize, masks: usize) -> Choice {
+    let a = k % 200;
+    let b = k / 200 % 200;
+    if a >= b {
+        return no_choice();
+    }
+    pair_sets(store, tested[a], tested[b], secrets, masks)
+}
+
 // The first suspect pair: the last one found from the last pair back.
 pub fn first_pair(block: SecondBlock, store: &Store) -> FirstPair {
-    let secrets = block.classes[0];
-    let masks = block.classes[1];
     let tested = tested_nodes(block);
+    let nodes = tested_of(tested);
     let pairs = pairs_of(tested.count);
-    let mut found = FirstPair {
-        pairs,
-        position: pairs + 1,
-        i: 0,
-        j: 0,
-        choice: Choice {
-            first: NO_SET,
-            last: NO_SET,
-            lowest: LONGEST,
-        },
-    };
+    let mut found = 0;
     let mut k = tested.count % 256 * 200;
     while 0 < k {
         k -= 1;
-        let a = k % 200;
-        let b = k / 200 % 200;
-        if a < b {
-            let i = tested.nodes[a];
-            let j = tested.nodes[b];
-            let choice = pair_sets(store, i, j, secrets, masks);
-            if choice.first < NO_SET {
-                found = FirstPair {
-                    pairs,
-                    position: position_of(a, b),
-                    i,
-                    j,
-                    choice,
-                };
-            }
+        let sets = sets_at(store, &nodes, k, block.classes[0], block.classes[1]);
+        if sets.first < NO_SET {
+            found = k;
         }
     }
-    found
+    let a = found % 200;
+    let b = found / 200 % 200;
+    let choice = sets_at(store, &nodes, found, block.classes[0], block.classes[1]);
+    FirstPair {
+        pairs,
+        position: if found == 0 {
+            pairs + 1
+        } else {
+            position_of(a, b)
+        },
+        i: nodes[a],
+        j: nodes[b],
+        choice,
+    }
 }
 
 // Whether a list has a set.
@@ -573,23 +578,27 @@ fn word_of(node: Node, i: usize, w: usize, first: u16, second: u16) -> u16 {
     }
 }
 
+// Word `w` of a node, as it is filled in.
+fn word_at(store: &Store, node: usize, w: usize) -> u16 {
+    store[BITS + node % 200 * WORDS + w % WORDS]
+}
+
 // Fills in the words of all nodes.
 fn fill_words(block: SecondBlock, store: &mut Store) {
     let end = block.count % 256 * WORDS;
     let mut k = 0;
     while k < end {
         let node = block.nodes[k / WORDS % 200];
-        let w = k % WORDS;
-        let first = store[BITS + (node.first as usize) % 200 * WORDS + w];
-        let second = store[BITS + (node.second as usize) % 200 * WORDS + w];
-        store[BITS + k % 16000] = word_of(node, k / WORDS, w, first, second);
+        let first = word_at(store, node.first as usize, k);
+        let second = word_at(store, node.second as usize, k);
+        store[BITS + k % 16000] = word_of(node, k / WORDS, k % WORDS, first, second);
         k += 1;
     }
 }
 
 // Bit `place` of the words of a node.
 pub fn has_bit(store: &Store, node: usize, place: usize) -> bool {
-    (store[BITS + node % 200 * WORDS + place / 16 % WORDS] >> (place % 16)) % 2 == 1
+    (word_at(store, node, place / 16) >> (place % 16)) % 2 == 1
 }
 
 // Reads a block, and works out its families, values and feeding points. The store holds only zeros before.

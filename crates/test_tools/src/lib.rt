@@ -2,7 +2,6 @@
 // and the refusals' numbers, and no part of the checker. For the test programs.
 ghost use mathlib.Core.Path.{_≡_};
 ghost use mathlib.Core.Bool.{_&&_};
-ghost use Prim.Native.Nat.{min};
 ghost use lib.Dec.{eqb};
 use libc::STDOUT_FILENO;
 use rules::Answer;
@@ -36,14 +35,7 @@ pub fn raise(tally: &mut Tally, at: usize, value: usize) {
     }
 }
 
-// ---- numbers and node records
-
-// The lesser of two numbers.
-pub fn least(a: usize, b: usize) -> usize
-    ensures { λ r. ⌜ r ≡ min a b ⌝ }
-{
-    if a < b { a } else { b }
-}
+// ---- node records
 
 // Whether two node records are the same, marks included.
 pub fn same_record(a: NodeRecord, b: NodeRecord) -> bool
@@ -85,8 +77,8 @@ fn print_count(counts: &[usize], k: usize) {
     }
 }
 
-// A text with counts: a `#` stands for a blank and the next count, and the end of a line has the next one, if any is left,
-// before it.
+// A text with counts: a `#` stands for a blank and the next count, and the end of a line has the next one, if any is
+// left, before it.
 pub fn print_counts(text: &[u8], counts: &[usize]) {
     let mut k: usize = 0;
     let mut i = 0;

@@ -4,7 +4,7 @@ use Rattle.test_random_derivations.proofs.judge.Statement.{statement}
 use Rattle.test_random_derivations.proofs.judge.Tie as tie
 
 abbrev Inv-loop : tie.InvT-loop
-Inv-loop tally₀ block steps many asked stack₀ high₀ right₀ at₀ tally stack high right at = Unit {0}
+Inv-loop tally₀ block steps many asked stack₀ high₀ right₀ at₀ tally stack high right at = Unit
 
 abbrev μ-loop : tie.MeasureT-loop
 μ-loop tally₀ block steps many asked stack₀ high₀ right₀ at₀ tally stack high right at = at
@@ -27,14 +27,11 @@ establish-requires c κs = search needs
 wide-requires : tie.Need-wide-requires Inv-loop μ-loop
 wide-requires c κs = search needs
 
-add-count : tie.Need-add-count Inv-loop μ-loop
-add-count c = search needs
+add-count-if : tie.Need-add-count-if Inv-loop μ-loop
+add-count-if c = search needs
 
-one-if-requires : tie.Need-one-if-requires Inv-loop μ-loop
-one-if-requires c κs = search needs
-
-count-requires : tie.Need-count-requires Inv-loop μ-loop
-count-requires c κs = search needs
+count-if-requires : tie.Need-count-if-requires Inv-loop μ-loop
+count-if-requires c κs = search needs
 
 loop-less : tie.Need-loop-less Inv-loop μ-loop
 loop-less c = search needs
@@ -66,9 +63,8 @@ judge-spec =
     is-right-requires
     establish-requires
     wide-requires
-    add-count
-    one-if-requires
-    count-requires
+    add-count-if
+    count-if-requires
     loop-less
     loop-again
     array-read-right

@@ -1,8 +1,8 @@
 -- `test_random_edits::expected_of` is safe: no more bytes are lent than there are. Assumes nothing.
 use native.Mathlib.Omega.{arith}
+use borrow.Author.Needs.{needs}
 use mathlib.Core.Path.{sym}
 use lib.Seq.{length-take-le}
-use borrow.Author.Needs.{needs}
 use Rattle.test_random_edits.proofs.expected_of.Statement.{statement}
 use Rattle.test_random_edits.proofs.expected_of.Tie as tie
 

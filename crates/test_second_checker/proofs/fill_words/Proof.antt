@@ -22,41 +22,17 @@ mul-node c = search needs
 element-copy-out-node : tie.Need-element-copy-out-node Inv-loop μ-loop
 element-copy-out-node c = search needs
 
-cast-first : tie.Need-cast-first Inv-loop μ-loop
-cast-first c = search needs
+cast-word-at : tie.Need-cast-word-at Inv-loop μ-loop
+cast-word-at c = search needs
 
-mul-first : tie.Need-mul-first Inv-loop μ-loop
-mul-first c = search needs
+word-at-requires : tie.Need-word-at-requires Inv-loop μ-loop
+word-at-requires c κs = search needs
 
-add-first : tie.Need-add-first Inv-loop μ-loop
-add-first c = search needs
+cast-word-at-2 : tie.Need-cast-word-at-2 Inv-loop μ-loop
+cast-word-at-2 c = search needs
 
-add-first-2 : tie.Need-add-first-2 Inv-loop μ-loop
-add-first-2 c = search needs
-
-mul-first-2 : tie.Need-mul-first-2 Inv-loop μ-loop
-mul-first-2 c = search needs
-
-element-copy-out-first : tie.Need-element-copy-out-first Inv-loop μ-loop
-element-copy-out-first c = search needs
-
-cast-second : tie.Need-cast-second Inv-loop μ-loop
-cast-second c = search needs
-
-mul-second : tie.Need-mul-second Inv-loop μ-loop
-mul-second c = search needs
-
-add-second : tie.Need-add-second Inv-loop μ-loop
-add-second c = search needs
-
-add-second-2 : tie.Need-add-second-2 Inv-loop μ-loop
-add-second-2 c = search needs
-
-mul-second-2 : tie.Need-mul-second-2 Inv-loop μ-loop
-mul-second-2 c = search needs
-
-element-copy-out-second : tie.Need-element-copy-out-second Inv-loop μ-loop
-element-copy-out-second c = search needs
+word-at-requires-2 : tie.Need-word-at-requires-2 Inv-loop μ-loop
+word-at-requires-2 c κs = search needs
 
 word-of-requires : tie.Need-word-of-requires Inv-loop μ-loop
 word-of-requires c κs = search needs
@@ -92,18 +68,10 @@ fill-words-spec =
     loop-holds
     mul-node
     element-copy-out-node
-    cast-first
-    mul-first
-    add-first
-    add-first-2
-    mul-first-2
-    element-copy-out-first
-    cast-second
-    mul-second
-    add-second
-    add-second-2
-    mul-second-2
-    element-copy-out-second
+    cast-word-at
+    word-at-requires
+    cast-word-at-2
+    word-at-requires-2
     word-of-requires
     add-store
     mul-store

@@ -4,25 +4,19 @@ use Rattle.test_second_checker.proofs.first_pair.Statement.{statement}
 use Rattle.test_second_checker.proofs.first_pair.Tie as tie
 
 abbrev Inv-loop : tie.InvT-loop
-Inv-loop store secrets masks tested pairs found₀ k₀ found k = Unit
+Inv-loop store block nodes pairs found₀ k₀ found k = Unit
 
 abbrev μ-loop : tie.MeasureT-loop
-μ-loop store secrets masks tested pairs found₀ k₀ found k = k
-
-element-copy-out-secrets : tie.Need-element-copy-out-secrets Inv-loop μ-loop
-element-copy-out-secrets c = search needs
-
-element-copy-out-masks : tie.Need-element-copy-out-masks Inv-loop μ-loop
-element-copy-out-masks c = search needs
+μ-loop store block nodes pairs found₀ k₀ found k = k
 
 tested-nodes-requires : tie.Need-tested-nodes-requires Inv-loop μ-loop
 tested-nodes-requires c κs = search needs
 
+tested-of-requires : tie.Need-tested-of-requires Inv-loop μ-loop
+tested-of-requires c κs = search needs
+
 pairs-of-requires : tie.Need-pairs-of-requires Inv-loop μ-loop
 pairs-of-requires c κs = search needs
-
-add-k : tie.Need-add-k Inv-loop μ-loop
-add-k c = search needs
 
 mul-k : tie.Need-mul-k Inv-loop μ-loop
 mul-k c = search needs
@@ -33,23 +27,14 @@ loop-holds c = search needs
 sub-k : tie.Need-sub-k Inv-loop μ-loop
 sub-k c = search needs
 
-mul-i : tie.Need-mul-i Inv-loop μ-loop
-mul-i c = search needs
+element-copy-out-sets-at : tie.Need-element-copy-out-sets-at Inv-loop μ-loop
+element-copy-out-sets-at c = search needs
 
-element-copy-out-i : tie.Need-element-copy-out-i Inv-loop μ-loop
-element-copy-out-i c = search needs
+element-copy-out-sets-at-2 : tie.Need-element-copy-out-sets-at-2 Inv-loop μ-loop
+element-copy-out-sets-at-2 c = search needs
 
-mul-j : tie.Need-mul-j Inv-loop μ-loop
-mul-j c = search needs
-
-element-copy-out-j : tie.Need-element-copy-out-j Inv-loop μ-loop
-element-copy-out-j c = search needs
-
-pair-sets-requires : tie.Need-pair-sets-requires Inv-loop μ-loop
-pair-sets-requires c κs = search needs
-
-position-of-requires : tie.Need-position-of-requires Inv-loop μ-loop
-position-of-requires c κs = search needs
+sets-at-requires : tie.Need-sets-at-requires Inv-loop μ-loop
+sets-at-requires c κs = search needs
 
 loop-less : tie.Need-loop-less Inv-loop μ-loop
 loop-less c = search needs
@@ -63,11 +48,32 @@ loop-less-2 c = search needs
 loop-again-2 : tie.Need-loop-again-2 Inv-loop μ-loop
 loop-again-2 c = search needs
 
-loop-less-3 : tie.Need-loop-less-3 Inv-loop μ-loop
-loop-less-3 c = search needs
+element-copy-out-sets-at-3 : tie.Need-element-copy-out-sets-at-3 Inv-loop μ-loop
+element-copy-out-sets-at-3 c = search needs
 
-loop-again-3 : tie.Need-loop-again-3 Inv-loop μ-loop
-loop-again-3 c = search needs
+element-copy-out-sets-at-4 : tie.Need-element-copy-out-sets-at-4 Inv-loop μ-loop
+element-copy-out-sets-at-4 c = search needs
+
+sets-at-requires-2 : tie.Need-sets-at-requires-2 Inv-loop μ-loop
+sets-at-requires-2 c κs = search needs
+
+add-t49 : tie.Need-add-t49 Inv-loop μ-loop
+add-t49 c = search needs
+
+position-of-requires : tie.Need-position-of-requires Inv-loop μ-loop
+position-of-requires c κs = search needs
+
+mul-t54 : tie.Need-mul-t54 Inv-loop μ-loop
+mul-t54 c = search needs
+
+array-read-t57 : tie.Need-array-read-t57 Inv-loop μ-loop
+array-read-t57 c = search needs
+
+mul-t59 : tie.Need-mul-t59 Inv-loop μ-loop
+mul-t59 c = search needs
+
+array-read-t62 : tie.Need-array-read-t62 Inv-loop μ-loop
+array-read-t62 c = search needs
 
 returns : tie.Need-returns Inv-loop μ-loop
 returns c = search needs
@@ -78,24 +84,26 @@ first-pair-spec =
     (tie.spec
     Inv-loop
     μ-loop
-    element-copy-out-secrets
-    element-copy-out-masks
     tested-nodes-requires
+    tested-of-requires
     pairs-of-requires
-    add-k
     mul-k
     loop-holds
     sub-k
-    mul-i
-    element-copy-out-i
-    mul-j
-    element-copy-out-j
-    pair-sets-requires
-    position-of-requires
+    element-copy-out-sets-at
+    element-copy-out-sets-at-2
+    sets-at-requires
     loop-less
     loop-again
     loop-less-2
     loop-again-2
-    loop-less-3
-    loop-again-3
+    element-copy-out-sets-at-3
+    element-copy-out-sets-at-4
+    sets-at-requires-2
+    add-t49
+    position-of-requires
+    mul-t54
+    array-read-t57
+    mul-t59
+    array-read-t62
     returns)

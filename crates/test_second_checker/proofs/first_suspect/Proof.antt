@@ -21,23 +21,26 @@ mul-node c = search needs
 element-copy-out-node : tie.Need-element-copy-out-node Inv-loop μ-loop
 element-copy-out-node c = search needs
 
-mul-suspect-sets : tie.Need-mul-suspect-sets Inv-loop μ-loop
-mul-suspect-sets c = search needs
+mul-list : tie.Need-mul-list Inv-loop μ-loop
+mul-list c = search needs
 
-add-suspect-sets : tie.Need-add-suspect-sets Inv-loop μ-loop
-add-suspect-sets c = search needs
+add-list : tie.Need-add-list Inv-loop μ-loop
+add-list c = search needs
 
-element-copy-out-suspect-sets : tie.Need-element-copy-out-suspect-sets Inv-loop μ-loop
-element-copy-out-suspect-sets c = search needs
+element-copy-out-mark-of : tie.Need-element-copy-out-mark-of Inv-loop μ-loop
+element-copy-out-mark-of c = search needs
 
-element-copy-out-suspect-sets-2 : tie.Need-element-copy-out-suspect-sets-2 Inv-loop μ-loop
-element-copy-out-suspect-sets-2 c = search needs
+element-copy-out-mark-of-2 : tie.Need-element-copy-out-mark-of-2 Inv-loop μ-loop
+element-copy-out-mark-of-2 c = search needs
 
-suspect-sets-requires : tie.Need-suspect-sets-requires Inv-loop μ-loop
-suspect-sets-requires c κs = search needs
+mark-of-requires : tie.Need-mark-of-requires Inv-loop μ-loop
+mark-of-requires c κs = search needs
 
 mul-found : tie.Need-mul-found Inv-loop μ-loop
 mul-found c = search needs
+
+wide-requires : tie.Need-wide-requires Inv-loop μ-loop
+wide-requires c κs = search needs
 
 add-found : tie.Need-add-found Inv-loop μ-loop
 add-found c = search needs
@@ -67,12 +70,13 @@ first-suspect-spec =
     sub-i
     mul-node
     element-copy-out-node
-    mul-suspect-sets
-    add-suspect-sets
-    element-copy-out-suspect-sets
-    element-copy-out-suspect-sets-2
-    suspect-sets-requires
+    mul-list
+    add-list
+    element-copy-out-mark-of
+    element-copy-out-mark-of-2
+    mark-of-requires
     mul-found
+    wide-requires
     add-found
     loop-less
     loop-again

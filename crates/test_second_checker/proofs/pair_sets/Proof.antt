@@ -16,6 +16,9 @@ add-length-of c = search needs
 length-of-requires : tie.Need-length-of-requires Inv-loop μ-loop
 length-of-requires c κs = search needs
 
+no-choice-requires : tie.Need-no-choice-requires Inv-loop μ-loop
+no-choice-requires c κs = search needs
+
 loop-holds : tie.Need-loop-holds Inv-loop μ-loop
 loop-holds c = search needs
 
@@ -60,6 +63,7 @@ pair-sets-spec =
     μ-loop
     add-length-of
     length-of-requires
+    no-choice-requires
     loop-holds
     add-set-at
     set-at-requires

@@ -25,8 +25,8 @@ loop-less c = search needs
 loop-again : tie.Need-loop-again Inv-loop μ-loop
 loop-again c = search needs
 
-slices-requires : tie.Need-slices-requires Inv-loop μ-loop
-slices-requires c κs = search needs
+removal-requires : tie.Need-removal-requires Inv-loop μ-loop
+removal-requires c κs = search needs
 
 returns : tie.Need-returns Inv-loop μ-loop
 returns c = search needs
@@ -42,5 +42,5 @@ removed-spec =
     add-records
     loop-less
     loop-again
-    slices-requires
+    removal-requires
     returns)
