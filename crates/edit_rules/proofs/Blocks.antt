@@ -1,6 +1,6 @@
 -- Edits of two blocks with what each comes to, which antt computes from the definitions: every refusal, and two that
 -- meet in their order; one whose counts differ after it, so that what is said of one probe after an edit is not empty;
--- a node that is named, whose removal would change another's value; and marks after an edit, with a block that is not
+-- a node that is used, whose removal would change another's value; and marks after an edit, with a block that is not
 -- as a check leaves it for one mark. Assumes nothing.
 use Prim.Native.Nat.{ℕ}
 use mathlib.Core.Path.{_≡_, refl, ap}
@@ -27,7 +27,7 @@ use Rattle.edit_rules.specs.Edits.{Edit, add, remove, judgedNode, lowere
 abbrev pub before-a : Netlist
 before-a = record { variables = secret ∷ mask ∷ mask ∷ []; nodes = input 3 ∷ input 2 ∷ input 4 ∷ XOR 0 2 ∷ [] }
 
--- a gate of each kind and a register; node 4 is named by none, node 3 by nodes 5 and 6, by the second twice
+-- a gate of each kind and a register; node 4 is used by none, node 3 by nodes 5 and 6, by the second twice
 abbrev pub gates : Netlist
 gates = record {
   variables = secret ∷ mask ∷ [];
@@ -94,7 +94,7 @@ additions =
     ∷ short before-a (add (4 ∷ 3 ∷ 1 ∷ [])) 5 1280 (answered p9)
     ∷ []
 
--- Removals: 12, then the slices for the nodes that the block has, then 14. Of the gates, node 4 is named by none;
+-- Removals: 12, then the slices for the nodes that the block has, then 14. Of the gates, node 4 is used by none;
 -- operands above it are lowered, and those below it are not.
 abbrev pub removals : List Case
 removals =
@@ -153,9 +153,9 @@ added-probe probe =
     let same-count = probe p9 a-read 4 (record { there = omega arith; isTested = tt }) [] (false ∷ []) (true ∷ []) all-zero in
     omega arith
 
--- ---- a node that is named
+-- ---- a node that is used
 
--- Without node 0, which its NOT names, the NOT would be that of node 1: its value would be another.
+-- Without node 0, which its NOT uses, the NOT would be that of node 1: its value would be another.
 pub used-changes : (values (shared (input 1 ∷ input 2 ∷ NOT 0 ∷ [])) (true ∷ false ∷ []) ≡ true ∷ false ∷ false ∷ [])
     × (values (withoutNode (shared (input 1 ∷ input 2 ∷ NOT 0 ∷ [])) 0) (true ∷ false ∷ []) ≡ false ∷ true ∷ [])
 unfolding table xor exclusiveOr valueRule values lowered renumbered without withoutNode
@@ -164,7 +164,7 @@ used-changes = (refl, refl)
 -- ---- marks after an edit
 
 -- input 0 is the bare secret and has no mark; NOT 0 is marked in both layers and XOR 0 1 for glitches alone;
--- NOT 1, which none names, in neither
+-- NOT 1, which none uses, in neither
 abbrev two-marked : Netlist
 two-marked = shared (input 1 ∷ input 3 ∷ NOT 1 ∷ NOT 0 ∷ XOR 0 1 ∷ [])
 

@@ -1,4 +1,4 @@
--- Taking out a node that no node names leaves every other entry, renumbered. The law is said once, of any table
+-- Taking out a node that no node uses leaves every other entry, renumbered. The law is said once, of any table
 -- (`Tables`): over the step, the entries' type, and a relation between an entry before and the entry after.
 -- It is by recursion over the nodes: those before the one that is removed, that one, those behind it.
 -- Families and settled values follow at equality, feeding points at "each point renumbered"; and with the families
@@ -104,7 +104,7 @@ lowered-suc removed a = go (decLe a removed)
     go (yes h) = omega (arith, lowered-low removed a h, lowered-low (suc removed) (suc a) (omega arith))
     go (no h) = omega (arith, lowered-high removed a (omega arith), lowered-high (suc removed) (suc a) (omega arith))
 
--- ---- a node that is not named
+-- ---- a node that is not used
 
 -- no node of the list uses node `removed`
 abbrev pub Unused : ℕ → List Cell → Type 0
@@ -214,7 +214,7 @@ module _ {A : Type 0} (d : A) (R : A → A → Type 0) (removed : ℕ) where
     from (suc k) old new m l (cell ∷ cells) u =
         from k _ _ (next old new m (λ e. omega arith) cell cells u) (omega (arith, longer old cell)) cells (unused-rest removed cell cells u)
 
-    -- Taking out a node that nobody names leaves every other entry of the table, renumbered.
+    -- Taking out a node that no node uses leaves every other entry of the table, renumbered.
     pub table-moved : R d d → (cells : List Cell) → Unused removed cells
         → Moved (table step [] cells) (table step [] (map (renumbered removed) (without removed cells)))
     table-moved r cells u = from removed [] [] (moved-none r) (omega arith) cells u
@@ -340,7 +340,7 @@ module _ (removed : ℕ) where
   feedings-follow old new m p (OR a b) o = let (e, f) = two m a b o in joined _ _ _ _ e f
   feedings-follow old new m p (register a) o = record { points = ap (λ k. k ∷ []) (m .many); lacks = all-single (Other removed) (length old) p }
 
--- ---- a netlist without a node that no node names
+-- ---- a netlist without a node that no node uses
 
 module _ (n : Netlist) (removed : ℕ) (unused : Unused removed (n .nodes)) where
   pub families-removed : families (withoutNode n removed) ≡ without removed (families n)

@@ -1,4 +1,4 @@
--- What the functions that give a node up share: the node records of a netlist and the bytes of its families,
+-- What the functions that remove a node share: the node records of a netlist and the bytes of its families,
 -- whose entries behind the node's move down over its own, and which are then those of the netlist without the node.
 -- Assumes nothing.
 use Prim.Native.Nat.{ℕ, zero, suc, _+_, _*_, _-_, _≤_, _<_}

@@ -26,15 +26,9 @@ use Rattle.checker.proofs.Core.{refusal, answers, both-hold}
 use Rattle.edit_rules.specs.Edits.{remove, withoutNode, lowestUser, removedIfUnused, fits, edited}
 use Rattle.edit_steps.specs.Work.{movedDown, HoldsFamilies}
 use Rattle.edit_steps.proofs.MovesDown.{moved-families}
-use Rattle.edit_steps.specs.Changes.{Contained, Changes}
+use Rattle.edit_steps.specs.Changes.{RemovesUnused, Changes}
 use Rattle.edit_steps.proofs.Changing.{state-count, contained-refused, contained-looks}
 use Rattle.edit_rules.proofs.Removal.{Unused, marks-removed}
-
--- a node less, in slices that have room
-pub record RemovesUnused (block : Value.Netlist) (marks : Marks) (removed : ℕ) (examined : Examined) (before after : List ℕ) : Type 0 where
-  pub contained : Contained (block .count) examined before after
-  pub made : (n : Netlist) → WellFormed n → block ≡ flatOf n → marks ≡ marksOf n → HoldsFamilies n before
-      → Examines (removedIfUnused removed n) examined before after
 
 -- a node is removed, where `by` is the lowest node that uses it
 module _ (block : Value.Netlist) (marks : Marks) (removed by : ℕ) (lowest : (n : Netlist) → block ≡ flatOf n → by ≡ lowestUser removed (n .nodes)) where

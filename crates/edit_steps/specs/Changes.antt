@@ -16,7 +16,7 @@ use Rattle.marks.specs.declared.Marks.{Marks}
 use Rattle.marks.specs.Marks.{marksOf}
 use Rattle.checker.specs.declared.Examined.{Examined}
 use Rattle.checker.specs.Work.{Examines}
-use Rattle.edit_rules.specs.Edits.{Edit, fits, edited}
+use Rattle.edit_rules.specs.Edits.{Edit, removedIfUnused, fits, edited}
 use Rattle.edit_rules.specs.Meaning.{stateOf}
 use Rattle.edit_steps.specs.Work.{stateIn, HoldsFamilies}
 
@@ -39,6 +39,12 @@ pub record Adds (block : Value.Netlist) (marks : Marks) (e : Node) (entries : �
       → slicesFit entries (length before) (withNode n cell) ≡ refused k p → replyOf (examined .reply) ≡ refused k p
   pub made : (n : Netlist) (cell : Cell) → WellFormed (withNode n cell) → block ≡ flatOf n → marks ≡ marksOf n → e ≡ entry cell → HoldsFamilies n before
       → Examines (slicesFit entries (length before) (withNode n cell)) examined before after
+
+-- a node less, in slices that hold the block
+pub record RemovesUnused (block : Value.Netlist) (marks : Marks) (removed : ℕ) (examined : Examined) (before after : List ℕ) : Type 0 where
+  pub contained : Contained (block .count) examined before after
+  pub made : (n : Netlist) → WellFormed n → block ≡ flatOf n → marks ≡ marksOf n → HoldsFamilies n before
+      → Examines (removedIfUnused removed n) examined before after
 
 -- an edit
 pub record Changes (block : Value.Netlist) (marks : Marks) (e : Edit) (entries : ℕ) (examined : Examined) (before after : List ℕ) : Type 0 where

@@ -16,7 +16,7 @@ ghost use Rattle.edit_rules.specs.Edits as Edits;
 ghost use Rattle.edit_rules.specs.Edits.{judgedNode, withoutNode};
 ghost use Rattle.edit_rules.specs.Meaning.{editOf};
 ghost use Rattle.edit_steps.specs.Work.{offeredOf, renumberedEntry, movedDown, stateIn};
-ghost use Rattle.edit_steps.specs.Changes.{Limited, Adds, Changes};
+ghost use Rattle.edit_steps.specs.Changes.{Limited, Adds, RemovesUnused, Changes};
 use checker::Examined;
 use edit_rules::Edit;
 use edit_rules::State;
@@ -201,8 +201,29 @@ fn move_down(work: &mut [u8], removed: usize, count: usize)
     }
 }
 
-// A node removed: 12, then both slices for the nodes that the block has, then 14 where another node uses it; and only
-// then does anything move.
+// A node removed from a block that both slices hold, where `by` is the lowest node that uses it: 14 where there is one;
+// and only then does anything move.
+fn remove_if_unused(
+    block: Netlist,
+    marks: Marks,
+    removed: usize,
+    by: usize,
+    work: &mut [u8],
+) -> Examined
+    requires { ⌜ Limited block × (removed < block .count) × (256 * block .count ≤ length (now work)) ⌝ }
+    requires { ⌜ ((n : Records.Netlist) → block ≡ flatOf n → by ≡ Edits.lowestUser removed (n .nodes)) ⌝ }
+    ensures { λ r. ⌜ RemovesUnused block marks removed r (now (work .entry)) (now (work .exit)) ⌝ }
+{
+    let count = block.count;
+    if by < count {
+        return checker::refused(Refusal::StillNamed(by));
+    }
+    move_down(work, removed, count);
+    let fewer = marks::without_marks(marks, removed, count);
+    checker::read_marks(without_node(block, removed), fewer)
+}
+
+// A node removed: 12, then both slices for the nodes that the block has, then 14 where another node uses it.
 fn remove_node(
     block: Netlist,
     marks: Marks,
@@ -220,14 +241,7 @@ fn remove_node(
     }
     match checker::slices_fit(count, entries, work.len()) {
         QueryOutcome::Refused(refusal) => checker::refused(refusal),
-        QueryOutcome::Answered => {
-            if by < count {
-                return checker::refused(Refusal::StillNamed(by));
-            }
-            move_down(work, removed, count);
-            let fewer = marks::without_marks(marks, removed, count);
-            checker::read_marks(without_node(block, removed), fewer)
-        }
+        QueryOutcome::Answered => remove_if_unused(block, marks, removed, by, work),
     }
 }
 

@@ -1,6 +1,7 @@
-// Open blocks: `open` checks a block and gives the state of it, `edit` takes a new node at the end or gives one up.
-// The state goes in and comes back by value; node records with their marks, and families, stay in the two lent slices.
-// Request A3 is in `edit_rules/specs/`.
+// Open blocks over lent slices: `open` checks a block and gives the state of it, `edit` takes a new node at the end or
+// removes one. The state goes in and comes back by value; node records with their marks, and families, stay in the two
+// lent slices, which both write to. Request A3 is in `edit_rules/specs/`. For a caller's program, and used by test
+// programs and the benchmark; `write_bytes` and `write_words` load an open block by it.
 ghost use mathlib.Core.Path.{_≡_};
 ghost use mathlib.Core.Logic.{_↔_};
 ghost use Prim.Native.Nat.{ℕ, _≤_, min};

@@ -1,4 +1,4 @@
--- `edit_steps::uses` meets its contract: whether a node names another is one test of its record, by cases on the node,
+-- `edit_steps::uses` meets its contract: whether a node uses another is one test of its record, by cases on the node,
 -- and each arm of the match has the kind that the test's case is of. Assumes nothing.
 use Prim.Native.Nat.{ℕ}
 use mathlib.Core.Path.{_≡_, refl, sym, _∙_}
