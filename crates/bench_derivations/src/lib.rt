@@ -1,4 +1,5 @@
-// Derivations for the benchmark, which is written in Rust: the reply, in one number.
+// Derivations for the benchmark in `bench/`, which is written in Rust and links this crate: the reply, in one number.
+// It uses `derive`.
 ghost use mathlib.Core.Path.{_≡_};
 ghost use lib.ListN.{length};
 ghost use Rattle.rules.specs.Paper.{numberOf, placeOf};

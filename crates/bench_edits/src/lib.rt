@@ -1,4 +1,5 @@
-// Edits of an open block for the benchmark, which is written in Rust: how many of them are answered.
+// Edits of an open block for the benchmark in `bench/`, which is written in Rust and links this crate: how many of them
+// are answered. It uses opening and edits, over slices that `test_edit_trial` lends.
 ghost use Prim.Native.Nat.{_≤_};
 use edit_rules::Edit;
 use rules::MOST_NODES;
@@ -8,6 +9,7 @@ use rules::Reply;
 // The most turns of one call.
 const MOST_TURNS: usize = 65536;
 
+// The lesser of two numbers.
 fn least(a: usize, b: usize) -> usize
     ensures { λ r. ⌜ (r ≤ a) × (r ≤ b) ⌝ }
 {
@@ -24,7 +26,7 @@ fn one_if_answered(reply: Reply) -> usize
     }
 }
 
-// Opens a block, and then, so many times, gives up one of its nodes and takes a new one at the end. No times: it is a
+// Opens a block, and then, so many times, removes one of its nodes and takes a new one at the end. No times: it is a
 // fresh check alone.
 #[no_mangle]
 pub extern "C" fn telgouin_edits(bytes: &[u8], added: &[u8], node: usize, times: usize) -> usize
@@ -74,7 +76,7 @@ pub extern "C" fn telgouin_edits(bytes: &[u8], added: &[u8], node: usize, times:
     answered
 }
 
-// A new node at the end or, where there are no bytes of one, the last of so many nodes to give up.
+// A new node at the end or, where there are no bytes of one, the last of so many nodes to remove.
 fn edit_at_the_end(added: usize, count: usize) -> Edit {
     if added > 0 {
         return Edit::Add;
@@ -86,7 +88,7 @@ fn edit_at_the_end(added: usize, count: usize) -> Edit {
 }
 
 // Opens a block, and then, so many times, makes one edit of it as it was opened: takes a new node at the end or, where
-// there are no bytes of one, gives up the last node. Neither changes the families of the block's own nodes, so that the
+// there are no bytes of one, removes the last node. Neither changes the families of the block's own nodes, so that the
 // next edit finds them. No times: it is a fresh check alone.
 #[no_mangle]
 pub extern "C" fn telgouin_edit_again(bytes: &[u8], added: &[u8], times: usize) -> usize

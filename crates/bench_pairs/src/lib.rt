@@ -1,4 +1,5 @@
-// The search over pairs for the benchmark, which is written in Rust: the reply, in one number.
+// The search over pairs for the benchmark in `bench/`, which is written in Rust and links this crate: the reply, in one
+// number. It uses the check with two probes.
 ghost use mathlib.Core.Path.{_≡_};
 ghost use Rattle.rules.specs.Records.{most-nodes};
 ghost use Rattle.rules.specs.Checks.{most-work};
