@@ -106,6 +106,7 @@ fn print_outcome(question: &[u8], node: usize, number: usize, outcome: QueryOutc
     }
 }
 
+// A blank and yes or no.
 fn print_yes(yes: bool) {
     if yes {
         print(b" yes");
@@ -114,6 +115,7 @@ fn print_yes(yes: bool) {
     }
 }
 
+// The numbers of the marked nodes.
 fn print_marks(marks: [bool; MOST_NODES]) {
     let mut i = 0;
     while i < MOST_NODES {
@@ -263,6 +265,7 @@ fn put(bytes: &mut [u8; MOST_BLOCK], at: usize, digit: usize) -> usize {
     at + 1
 }
 
+// The same of several digits.
 fn put_digits(bytes: &mut [u8; MOST_BLOCK], at: usize, digits: &[u8]) -> usize {
     let mut end = at;
     let mut k = 0;
@@ -273,6 +276,7 @@ fn put_digits(bytes: &mut [u8; MOST_BLOCK], at: usize, digits: &[u8]) -> usize {
     end
 }
 
+// The same of digits that stand there so many times.
 fn put_times(bytes: &mut [u8; MOST_BLOCK], at: usize, count: usize, digits: &[u8]) -> usize {
     if count == 0 {
         return NO_BLOCK;
@@ -357,6 +361,7 @@ fn print_search(search: Search) {
     }
 }
 
+// The reply to a check with two probes.
 fn print_pairs(reply: PairsReply) {
     print_byte(b':');
     match reply {
@@ -385,6 +390,7 @@ fn check_pairs(bytes: &[u8], limit: usize, entries: usize, room: usize)
     print_left(nodes, work);
 }
 
+// The settled value of a node.
 fn value(bytes: &[u8], node: usize, assignment: usize) {
     let reply = queries::settled_value(bytes, node, assignment);
     let outcome = reply.outcome;
@@ -392,6 +398,7 @@ fn value(bytes: &[u8], node: usize, assignment: usize) {
     print_yes(reply.value);
 }
 
+// The points that feed a node.
 fn points(bytes: &[u8], node: usize) {
     let reply = queries::feeding_points(bytes, node);
     let outcome = reply.outcome;
@@ -400,6 +407,7 @@ fn points(bytes: &[u8], node: usize) {
     print_marks(marks);
 }
 
+// Whether the families of a node hold a set.
 fn memberships(bytes: &[u8], node: usize, set: usize) {
     let reply = queries::memberships(bytes, node, set);
     let outcome = reply.outcome;
@@ -427,6 +435,7 @@ fn print_listing(text: &[u8], length: usize) {
     print_counts(b"bytes#, kept from#", &[length, from]);
 }
 
+// The listing in a text of so many bytes.
 fn list(bytes: &[u8], room: usize)
     requires { ⌜ room ≤ most-text ⌝ }
 {
@@ -437,6 +446,7 @@ fn list(bytes: &[u8], room: usize)
     print_listing(text, length);
 }
 
+// A node's record with its marks.
 fn print_node(i: usize, held: NodeRecord) {
     let node = held.node;
     print_byte(b'\n');
@@ -477,6 +487,7 @@ fn print_families(work: &[u8], i: usize)
     print_family(b"glitch family# in all:", work, 2 * i + 1);
 }
 
+// A check, and one node with its families.
 fn node(bytes: &[u8], i: usize)
     requires { ⌜ i < most-nodes ⌝ }
 {
@@ -486,6 +497,7 @@ fn node(bytes: &[u8], i: usize)
     print_families(&work, i);
 }
 
+// A byte as a number.
 fn wide(x: u8) -> usize
     ensures { λ r. ⌜ r < 256 ⌝ }
 {
@@ -503,7 +515,7 @@ fn print_step(steps: &[u8], from: usize)
     print_byte(b',');
 }
 
-// So many steps, from the first on.
+// The first `count` steps, as far as the slice holds them.
 fn print_steps(steps: &[u8], count: usize) {
     let whole = least(count, steps.len() / 5);
     let mut at = 0;
@@ -513,6 +525,7 @@ fn print_steps(steps: &[u8], count: usize) {
     }
 }
 
+// The derivation of a set in a slice of so many bytes.
 fn derive(bytes: &[u8], node: usize, layer: usize, set: usize, room: usize)
     requires { ⌜ room ≤ 2565 ⌝ }
 {
@@ -569,6 +582,7 @@ fn with_place(span: Span, k: usize, changes: bool) -> Span
     }
 }
 
+// From where to where entries change.
 fn entries_span(before: [NodeRecord; MOST_NODES], after: [NodeRecord; MOST_NODES]) -> Span {
     let mut span = Span { from: 0, to: 0 };
     let mut i = 0;
@@ -580,6 +594,7 @@ fn entries_span(before: [NodeRecord; MOST_NODES], after: [NodeRecord; MOST_NODES
     span
 }
 
+// From where to where work bytes change.
 fn bytes_span(before: [u8; MOST_WORK], after: [u8; MOST_WORK]) -> Span {
     let mut span = Span { from: 0, to: 0 };
     let mut k = 0;
@@ -992,6 +1007,7 @@ fn is_understood(line: &[u8]) -> bool {
     run_case(&line[0..end], numbers, &line[from..])
 }
 
+// A line: for the reader, to be printed, or a case.
 fn run_line(line: &[u8]) {
     if line.len() == 0 {
         return;
@@ -1012,6 +1028,7 @@ fn run_line(line: &[u8]) {
     }
 }
 
+// Every line of a text.
 fn run_lines(text: &[u8])
     requires { ⌜ length (now text) ≤ 65536 ⌝ }
 {

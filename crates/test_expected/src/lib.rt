@@ -105,6 +105,7 @@ pub fn half_number(half: Half) -> usize {
 // A reply in numbers: a refusal's number and place, or 0 with the counts and halves of the answer.
 pub type Numbers = [usize; 5];
 
+// The numbers of a reply.
 pub fn reply_numbers(reply: Reply) -> Numbers {
     match reply {
         Reply::Refused(refusal) => [
@@ -142,6 +143,7 @@ pub fn expected_numbers(expected: Expected, block: SecondBlock, store: &Store) -
     ]
 }
 
+// Whether two replies are the same.
 pub fn same_numbers(a: Numbers, b: Numbers) -> bool {
     (a[0] == b[0]) & (a[1] == b[1]) & (a[2] == b[2]) & (a[3] == b[3]) & (a[4] == b[4])
 }

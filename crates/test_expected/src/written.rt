@@ -106,6 +106,7 @@ struct Record {
     second: u8,
 }
 
+// The record that starts at an offset.
 fn record_at(written: Written, at: usize) -> Record {
     let from = at % 1020;
     Record {

@@ -7,6 +7,7 @@ use std::num::wrapping_add_usize;
 use test_counting::NODES;
 use test_counting::differ;
 use test_counting::feeding_of;
+use test_expected::Work;
 use test_generator::least;
 use test_generator::next;
 use test_generator::pick;
@@ -50,7 +51,7 @@ struct Centre {
 
 // Whether the glitch family of a node holds a suspect set, one with a secret and no mask, in the work bytes that the
 // checker wrote.
-fn is_suspect(work: &[u8; 51200], node: usize, secrets: usize, masks: usize) -> bool {
+fn is_suspect(work: &Work, node: usize, secrets: usize, masks: usize) -> bool {
     let mut suspect = false;
     let mut set = 0;
     while set < 32 {
@@ -159,7 +160,7 @@ fn try_node(
     seed: u32,
     block: SecondBlock,
     store: &Store,
-    work: &[u8; 51200],
+    work: &Work,
     node: usize,
 ) -> u32 {
     let secrets = block.classes[0];
@@ -182,6 +183,13 @@ fn try_node(
     try_centre(tally, seed, block, store, centre)
 }
 
+// The families of a block, as the checker writes them.
+fn families_of(bytes: &[u8]) -> Work {
+    let mut work = [0u8; 51200];
+    checker::examine(bytes, 200, &mut work);
+    work
+}
+
 // Tries clusters round all gates and registers of a block. Gives the generator's state after them.
 pub(crate) fn clusters(
     tally: &mut Tally,
@@ -190,8 +198,7 @@ pub(crate) fn clusters(
     block: SecondBlock,
     store: &Store,
 ) -> u32 {
-    let mut work = [0u8; 51200];
-    checker::examine(bytes, 200, &mut work);
+    let work = families_of(bytes);
     count(tally, 0, 1);
     let mut state = seed;
     let mut node = 0;

@@ -91,6 +91,7 @@ struct Step {
     set: usize,
 }
 
+// A byte as a number.
 fn wide(x: u8) -> usize
     ensures { λ r. ⌜ r < 256 ⌝ }
 {

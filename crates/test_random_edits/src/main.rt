@@ -132,6 +132,7 @@ struct Open {
     written: Written,
 }
 
+// The work bytes of an open block.
 fn work_of(open: Open) -> Work {
     open.work
 }
@@ -145,6 +146,7 @@ struct Asked {
     lent: Lent,
 }
 
+// The record that is asked for.
 fn record_of(asked: Asked) -> [u8; 5] {
     asked.bytes
 }
@@ -249,6 +251,7 @@ fn open_in(written: Written, nodes: [NodeRecord; 200], before: Work, lent: Lent)
     }
 }
 
+// The edit that is asked for.
 fn edit_of(asked: Asked) -> Edit {
     if asked.adds {
         return Edit::Add;

@@ -195,6 +195,7 @@ pub fn read(bytes: &[u8]) -> SecondBlock {
 
 // ---- families, as lists of sets
 
+// An entry of the store as a number.
 fn wide(x: u16) -> usize {
     x as usize
 }
@@ -436,10 +437,12 @@ pub struct Tested {
     pub nodes: [usize; 200],
 }
 
+// Their numbers.
 fn tested_of(tested: Tested) -> [usize; 200] {
     tested.nodes
 }
 
+// Those that are no inputs.
 pub fn tested_nodes(block: SecondBlock) -> Tested {
     let mut tested = Tested {
         count: 0,

@@ -55,6 +55,7 @@ pub fn same_record(a: NodeRecord, b: NodeRecord) -> bool
 
 // ---- printing
 
+// Writes a text to standard output.
 pub fn print(text: &[u8]) {
     io::write_all(STDOUT_FILENO, text);
 }
@@ -65,6 +66,7 @@ pub fn print_number(x: usize) {
     io::print_decimal(STDOUT_FILENO, x as u64);
 }
 
+// A byte.
 pub fn print_byte(byte: u8) {
     let one = [byte; 1];
     print(&one);
@@ -110,6 +112,7 @@ pub fn print_refusal(refusal: Refusal) {
     print_number(refusals::place_of(refusal));
 }
 
+// A half of an answer, behind its name.
 fn print_half(name: &[u8], half: Half) {
     print(name);
     match half {
@@ -121,6 +124,7 @@ fn print_half(name: &[u8], half: Half) {
     }
 }
 
+// The counts and the halves of an answer.
 pub fn print_answer(answer: Answer) {
     let settled = answer.settled;
     let glitch = answer.glitch;
@@ -129,6 +133,7 @@ pub fn print_answer(answer: Answer) {
     print_half(b" glitch", glitch);
 }
 
+// A refusal or an answer.
 pub fn print_reply(reply: Reply) {
     match reply {
         Reply::Refused(refusal) => print_refusal(refusal),

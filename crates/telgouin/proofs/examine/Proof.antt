@@ -1,4 +1,5 @@
--- `telgouin::examine` meets its contract: what was examined and answered is a netlist whose families are in the work bytes. Assumes nothing.
+-- `telgouin::examine` meets its contract: what was examined and answered is a netlist whose families are in
+-- the work bytes. Assumes nothing.
 use Prim.Native.Nat.{ℕ}
 use borrow.Author.Needs.{needs}
 use denote.Ref.{now}

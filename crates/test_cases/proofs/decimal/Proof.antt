@@ -1,4 +1,5 @@
--- `test_cases::decimal` is safe and ends: each turn leaves less of the word, and no number is too high for its type. Assumes nothing.
+-- `test_cases::decimal` is safe and ends: each turn leaves less of the word, and no number is too high for its type.
+-- Assumes nothing.
 use Prim.Native.Nat.{_-_}
 use lib.ListN.{length}
 use borrow.Author.Needs.{needs}

@@ -1,5 +1,5 @@
--- `test_cases::one_edit` is safe and ends: the part of the work bytes that it lends is within them, since an array in a struct has the length of
--- its type. Assumes nothing.
+-- `test_cases::one_edit` is safe and ends: the part of the work bytes that it lends is within them, since an array in a
+-- struct has the length of its type. Assumes nothing.
 use mathlib.Core.Path.{_≡_, sym, _∙_}
 use native.Mathlib.Omega.{arith}
 use lib.ListN.{length, length-map}

@@ -1,4 +1,5 @@
--- `test_expected::families_differ` is safe and ends: each turn leaves fewer lists, and then fewer bytes. Assumes nothing.
+-- `test_expected::families_differ` is safe and ends: each turn leaves fewer lists, and then fewer bytes.
+-- Assumes nothing.
 use borrow.Author.Needs.{needs}
 use Prim.Native.Nat.{_-_, _≤_}
 use Rattle.test_expected.proofs.families_differ.Statement.{statement}

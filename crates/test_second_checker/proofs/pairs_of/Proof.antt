@@ -1,4 +1,5 @@
--- `test_second_checker::pairs_of` is safe and ends: the product of two numbers of a byte has two bytes. Assumes nothing.
+-- `test_second_checker::pairs_of` is safe and ends: the product of two numbers of a byte has two bytes.
+-- Assumes nothing.
 use native.Mathlib.Omega.{arith}
 use borrow.Author.Needs.{needs}
 use Prim.Native.Nat.{ℕ, _*_, _/_, _^_, _<_, _≤_}

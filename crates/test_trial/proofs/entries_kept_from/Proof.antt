@@ -1,5 +1,5 @@
--- `test_trial::entries_kept_from` meets its contract. The invariant: `from` is the lowest number from which on, up to k, all entries are as they were. The
--- measure is what is left of 200. Assumes nothing.
+-- `test_trial::entries_kept_from` meets its contract. The invariant: `from` is the lowest number from which on,
+-- up to k, all entries are as they were. The measure is what is left of 200. Assumes nothing.
 use Prim.Native.Nat.{ℕ, _-_, _≤_, _<_}
 use mathlib.Core.Path.{_≡_, refl, sym, ap, _∙_}
 use mathlib.Core.Logic.{⊎-elim}

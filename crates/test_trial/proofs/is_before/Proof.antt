@@ -1,4 +1,5 @@
--- `test_trial::is_before` meets its contract: on each way the tests are known, as far as the result depends on them. Assumes nothing.
+-- `test_trial::is_before` meets its contract: on each way the tests are known, as far as the result depends on them.
+-- Assumes nothing.
 use borrow.Author.Tests.{eq-eqb, ne-eqb}
 use Rattle.test_trial.specs.Before.{isBefore}
 use Rattle.test_trial.proofs.is_before.Statement.{statement}

@@ -1,5 +1,5 @@
--- `test_trial::work_kept_from` meets its contract. The invariant: `from` is the lowest number from which on, up to k, all bytes are as they were. The measure
--- is what is left of the slice. Assumes nothing.
+-- `test_trial::work_kept_from` meets its contract. The invariant: `from` is the lowest number from which on, up to k,
+-- all bytes are as they were. The measure is what is left of the slice. Assumes nothing.
 use Prim.Native.Nat.{_-_, _≤_}
 use mathlib.Core.Path.{_≡_, refl, sym, ap, _∙_}
 use mathlib.Core.Logic.{⊎-elim}

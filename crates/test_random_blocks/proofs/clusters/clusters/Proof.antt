@@ -10,11 +10,8 @@ Inv-loop tally₀ seed bytes block store work state₀ node₀ tally state node 
 abbrev μ-loop : tie.MeasureT-loop
 μ-loop tally₀ seed bytes block store work state₀ node₀ tally state node = 16 - node
 
-slice-aggregate-examine : tie.Need-slice-aggregate-examine Inv-loop μ-loop
-slice-aggregate-examine c = search needs
-
-examine-requires : tie.Need-examine-requires Inv-loop μ-loop
-examine-requires c κs = search needs
+families-of-requires : tie.Need-families-of-requires Inv-loop μ-loop
+families-of-requires c κs = search needs
 
 count-requires : tie.Need-count-requires Inv-loop μ-loop
 count-requires c κs = search needs
@@ -43,8 +40,7 @@ clusters-spec =
     (tie.spec
     Inv-loop
     μ-loop
-    slice-aggregate-examine
-    examine-requires
+    families-of-requires
     count-requires
     loop-holds
     try-node-requires

@@ -1,4 +1,5 @@
--- `test_random_blocks::compare::one_probe` is safe and ends: the front of the work bytes is as long as it was drawn. Assumes nothing.
+-- `test_random_blocks::compare::one_probe` is safe and ends: the front of the work bytes is as long as it was drawn.
+-- Assumes nothing.
 use native.Mathlib.Omega.{arith}
 use borrow.Author.Needs.{needs}
 use mathlib.Core.Path.{sym}

@@ -1,4 +1,5 @@
--- `test_random_blocks::products::pairs_at` is safe and ends: the product of two numbers of two bytes has four. Assumes nothing.
+-- `test_random_blocks::products::pairs_at` is safe and ends: the product of two numbers of two bytes has four.
+-- Assumes nothing.
 use native.Mathlib.Omega.{arith}
 use Prim.Native.Nat.{ℕ, _*_, _^_, _<_, _≤_}
 use native.Mathlib.Nat.{mul-le-mul}

@@ -1,4 +1,5 @@
--- `test_random_blocks::products::put_product` is safe and ends: each turn leaves fewer bytes of a family. Assumes nothing.
+-- `test_random_blocks::products::put_product` is safe and ends: each turn leaves fewer bytes of a family.
+-- Assumes nothing.
 use borrow.Author.Needs.{needs}
 use Prim.Native.Nat.{_-_, _≤_}
 use Rattle.test_random_blocks.proofs.products.put_product.Statement.{statement}
