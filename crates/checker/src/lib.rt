@@ -14,7 +14,8 @@ ghost use Rattle.rules.specs.Demands.{GlitchClear, NothingSuspect, OneProbe};
 ghost use Rattle.rules.specs.Paper.{replyOf};
 ghost use Rattle.netlists.specs.Netlists.{flatOf, Formed, Ready, kept};
 ghost use Rattle.marks.specs.Marks.{marksOf};
-ghost use Rattle.checker.specs.Work.{NothingKept, Examines, ReadsMarks, JudgesSlices, recordIn, stored, unwritten, noEntries};
+ghost use Rattle.checker.specs.Work.{NothingKept, Examines, ReadsMarks};
+ghost use Rattle.checker.specs.Work.{JudgesSlices, recordIn, stored, unwritten, noEntries};
 use marks::Marks;
 use netlists::Netlist;
 use rules::Answer;
@@ -109,8 +110,10 @@ fn admit(netlist: Netlist, entries: usize, work: &mut [u8]) -> Examined
 // at exit. In place of node records it gives the netlist and its marks by value; on a refusal they are empty.
 pub fn examine(bytes: &[u8], entries: usize, work: &mut [u8]) -> Examined
     ensures reply { λ r. ⌜ replyOf (r .reply) ≡ reply (now (bytes .entry)) entries (length (now (work .entry))) ⌝ }
-    ensures netlist { λ r. ⌜ r .netlist ≡ flatOf (kept (admitted (now (bytes .entry)) entries (length (now (work .entry))))) ⌝ }
-    ensures marks { λ r. ⌜ r .marks ≡ marksOf (kept (admitted (now (bytes .entry)) entries (length (now (work .entry))))) ⌝ }
+    ensures netlist { λ r. ⌜ r .netlist ≡
+        flatOf (kept (admitted (now (bytes .entry)) entries (length (now (work .entry))))) ⌝ }
+    ensures marks { λ r. ⌜ r .marks ≡
+        marksOf (kept (admitted (now (bytes .entry)) entries (length (now (work .entry))))) ⌝ }
     ensures work { λ _. ⌜ now (work .exit) ≡ workAfter (now (bytes .entry)) entries (now (work .entry)) ⌝ }
     ensures clear { λ r. ⌜ GlitchClear (replyOf (r .reply)) ↔
         NothingSuspect (now (bytes .entry)) entries (length (now (work .entry))) ⌝ }
@@ -202,10 +205,12 @@ pub fn node_at(nodes: &[NodeRecord], i: usize) -> NodeRecord
 // and no tested node's glitch family holds a suspect set; and then one probe on any gate or register sees each pattern
 // of settled values as often for one setting of the secrets as for another.
 pub fn check(bytes: &[u8], nodes: &mut [NodeRecord], work: &mut [u8]) -> Reply
-    ensures reply { λ r. ⌜ replyOf r ≡ reply (now (bytes .entry)) (length (now (nodes .entry))) (length (now (work .entry))) ⌝ }
+    ensures reply { λ r. ⌜ replyOf r ≡
+        reply (now (bytes .entry)) (length (now (nodes .entry))) (length (now (work .entry))) ⌝ }
     ensures nodes { λ _. ⌜ now (nodes .exit) ≡
         nodesAfter (now (bytes .entry)) (now (nodes .entry)) (length (now (work .entry))) ⌝ }
-    ensures work { λ _. ⌜ now (work .exit) ≡ workAfter (now (bytes .entry)) (length (now (nodes .entry))) (now (work .entry)) ⌝ }
+    ensures work { λ _. ⌜ now (work .exit) ≡
+        workAfter (now (bytes .entry)) (length (now (nodes .entry))) (now (work .entry)) ⌝ }
     ensures clear { λ r. ⌜ GlitchClear (replyOf r) ↔
         NothingSuspect (now (bytes .entry)) (length (now (nodes .entry))) (length (now (work .entry))) ⌝ }
     ensures probe { λ r. ⌜ (GlitchClear (replyOf r) → OneProbe (now (bytes .entry))) ⌝ }

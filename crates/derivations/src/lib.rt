@@ -11,7 +11,8 @@ ghost use Rattle.rules.specs.Records as Records;
 ghost use Rattle.rules.specs.Records.{most-sets};
 ghost use Rattle.rules.specs.Checks.{answered};
 ghost use Rattle.netlists.specs.Netlists.{flatOf};
-ghost use Rattle.derivation_rules.specs.Derivations.{step-size, derivation, explained, layerOf, inFamily, most-steps, fitting, stepsReply, stepsAfter, Certificate};
+ghost use Rattle.derivation_rules.specs.Derivations.{step-size, derivation, explained, layerOf, inFamily};
+ghost use Rattle.derivation_rules.specs.Derivations.{most-steps, fitting, stepsReply, stepsAfter, Certificate};
 ghost use Rattle.derivation_steps.specs.Meaning.{needsOf};
 ghost use Rattle.derivations.specs.Meaning.{derivedOf};
 ghost use Rattle.derivations.specs.Written.{Known, Held, HeldEach, Written, derivableIn, Told, ReadAs};
@@ -44,7 +45,8 @@ fn explain_cell(
     at: usize,
     room: usize,
 ) -> usize
-    requires { ⌜ Known netlist (now work) × Held netlist (netlist .count) claim × (step-size * room ≤ length (now steps)) × (room ≤ most-steps) ⌝ }
+    requires { ⌜ Known netlist (now work) × Held netlist (netlist .count) claim ×
+        (step-size * room ≤ length (now steps)) × (room ≤ most-steps) ⌝ }
     ensures { λ r. ⌜ ((n : Records.Netlist) → netlist ≡ flatOf n →
         Written (now (steps .entry)) (now (steps .exit)) at room r (derivation n (claim .node) (layerOf (claim .layer)) (claim .set))) ⌝ }
 {
@@ -68,7 +70,8 @@ fn explain_operands(
     at: usize,
     room: usize,
 ) -> usize
-    requires { ⌜ Known netlist (now work) × HeldEach netlist node needs × (node < netlist .count) × (step-size * room ≤ length (now steps)) × (room ≤ most-steps) ⌝ }
+    requires { ⌜ Known netlist (now work) × HeldEach netlist node needs × (node < netlist .count) ×
+        (step-size * room ≤ length (now steps)) × (room ≤ most-steps) ⌝ }
     ensures { λ r. ⌜ ((n : Records.Netlist) → netlist ≡ flatOf n →
         Written (now (steps .entry)) (now (steps .exit)) at room r (explained (derivation n) (needsOf needs))) ⌝ }
 {
@@ -97,7 +100,8 @@ fn fitting(bytes: usize) -> usize
 // Whether a set is in the family of a node in a layer, by work bytes that hold the families: no layer above 1 has any.
 fn in_family(netlist: Netlist, work: &[u8], claim: Claim) -> bool
     requires { ⌜ Known netlist (now work) × (claim .node < netlist .count) × (claim .set < most-sets) ⌝ }
-    ensures { λ r. ⌜ ((n : Records.Netlist) → netlist ≡ flatOf n → r ≡ inFamily n (claim .node) (claim .layer) (claim .set)) ⌝ }
+    ensures { λ r. ⌜ ((n : Records.Netlist) → netlist ≡ flatOf n → r ≡
+        inFamily n (claim .node) (claim .layer) (claim .set)) ⌝ }
 {
     claim.layer < 2 && derivation_steps::has(work, claim)
 }
@@ -157,7 +161,8 @@ pub fn derive_held(
 // `MOST_BYTES` bytes are enough for every derivation that is not refused. No family is worked out
 // for a query that is refused.
 pub fn derive(bytes: &[u8], node: usize, layer: usize, set: usize, steps: &mut [u8]) -> Derived
-    ensures reply { λ r. ⌜ derivedOf r ≡ stepsReply (now (bytes .entry)) node layer set (length (now (steps .entry))) ⌝ }
+    ensures reply { λ r. ⌜ derivedOf r ≡
+        stepsReply (now (bytes .entry)) node layer set (length (now (steps .entry))) ⌝ }
     ensures steps { λ _. ⌜ now (steps .exit) ≡ stepsAfter (now (bytes .entry)) node layer set (now (steps .entry)) ⌝ }
     ensures follows { λ r. ⌜ ((count : ℕ) → derivedOf r ≡ answered count →
         Certificate (now (bytes .entry)) node layer set count (now (steps .exit))) ⌝ }

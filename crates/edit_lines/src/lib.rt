@@ -8,7 +8,8 @@ ghost use lib.ListN.{length, drop};
 ghost use Rattle.read_words.specs.Numbers.{numberIn};
 ghost use Rattle.read_words.specs.Scans.{part};
 ghost use Rattle.read_words.specs.Words.{words};
-ghost use Rattle.edit_lines.specs.Asks.{addition, only, removal, written, alone, asked, stuck, unlessStuck, asksIn};
+ghost use Rattle.edit_lines.specs.Asks.{addition, only, removal, written};
+ghost use Rattle.edit_lines.specs.Asks.{alone, asked, stuck, unlessStuck, asksIn};
 ghost use Rattle.edit_lines.specs.Meaning.{asksOf, Within};
 use read_words::Fault;
 use read_words::Number;
@@ -104,7 +105,8 @@ fn named(line: &[u8], at: usize) -> Asked
 // Nothing: then it is what the first word asks for.
 fn unless_more(line: &[u8], at: usize, first: Asked) -> Asked
     requires { ⌜ at ≤ length (now line) ⌝ }
-    ensures { λ r. ⌜ asksOf r (now (line .entry)) ≡ alone (asksOf first (now (line .entry))) (words (drop at (now (line .entry)))) ⌝ }
+    ensures { λ r. ⌜ asksOf r (now (line .entry)) ≡
+        alone (asksOf first (now (line .entry))) (words (drop at (now (line .entry)))) ⌝ }
     ensures within { λ r. ⌜ (Within first (length (now (line .entry))) → Within r (length (now (line .entry)))) ⌝ }
 {
     let more = next_word(line, at);

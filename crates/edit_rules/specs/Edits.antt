@@ -10,9 +10,11 @@ use lib.Dec.{leb, ltb}
 use lib.ListN.{length, getD, take, drop}
 use Rattle.rules.specs.declared.NodeRecord.{NodeRecord}
 use Rattle.rules.specs.Lists.{member, without}
-use Rattle.rules.specs.Records.{Cell, input, NOT, XOR, AND, OR, register, Record, end, variable, node, Netlist, empty, WellFormed, withNode, last-kind, said, size, operands, writtenOut}
+use Rattle.rules.specs.Records.{Cell, input, NOT, XOR, AND, OR, register, Record, end, variable, node}
+use Rattle.rules.specs.Records.{Netlist, empty, WellFormed, withNode, last-kind, said, size, operands, writtenOut}
 use Rattle.rules.specs.Families.{families, Findings, findings}
-use Rattle.rules.specs.Checks.{Outcome, answered, refused, andThen, check, judged, overLimit, undeclaredSet, badOperand, slicesFit, admitted, nodeCheck}
+use Rattle.rules.specs.Checks.{Outcome, answered, refused, andThen, check, judged}
+use Rattle.rules.specs.Checks.{overLimit, undeclaredSet, badOperand, slicesFit, admitted, nodeCheck}
 use Rattle.rules.specs.Slices.{nodeRecords, workBytes, filled, reply, nodesAfter, workAfter}
 use Rattle.rules.specs.Demands.{NoSuspect}
 

@@ -117,12 +117,14 @@ fn edited_of(state: State, examined: Examined) -> Edited
 // Checks netlist bytes as `check` does, with the same reply and both slices at exit the same, and gives the state of
 // the open block beside the reply. On a refusal that is the state of no variables and no nodes.
 pub fn open(bytes: &[u8], nodes: &mut [NodeRecord], work: &mut [u8]) -> Edited
-    ensures reply { λ r. ⌜ replyOf (r .reply) ≡ reply (now (bytes .entry)) (length (now (nodes .entry))) (length (now (work .entry))) ⌝ }
+    ensures reply { λ r. ⌜ replyOf (r .reply) ≡
+        reply (now (bytes .entry)) (length (now (nodes .entry))) (length (now (work .entry))) ⌝ }
     ensures state { λ r. ⌜ r .state ≡
         stateOf (kept (admitted (now (bytes .entry)) (length (now (nodes .entry))) (length (now (work .entry))))) ⌝ }
     ensures nodes { λ _. ⌜ now (nodes .exit) ≡
         nodesAfter (now (bytes .entry)) (now (nodes .entry)) (length (now (work .entry))) ⌝ }
-    ensures work { λ _. ⌜ now (work .exit) ≡ workAfter (now (bytes .entry)) (length (now (nodes .entry))) (now (work .entry)) ⌝ }
+    ensures work { λ _. ⌜ now (work .exit) ≡
+        workAfter (now (bytes .entry)) (length (now (nodes .entry))) (now (work .entry)) ⌝ }
     ensures clear { λ r. ⌜ GlitchClear (replyOf (r .reply)) ↔
         NothingSuspect (now (bytes .entry)) (length (now (nodes .entry))) (length (now (work .entry))) ⌝ }
     ensures probe { λ r. ⌜ (GlitchClear (replyOf (r .reply)) → OneProbe (now (bytes .entry))) ⌝ }
@@ -151,19 +153,23 @@ pub fn edit(
     work: &mut [u8],
 ) -> Edited
     ensures reply { λ r. ⌜ ((n : Records.Netlist) → IsOpen n state (now (nodes .entry)) (now (work .entry)) →
-        replyOf (r .reply) ≡ replyAfter n (editOf edit (now (bytes .entry))) (length (now (nodes .entry))) (length (now (work .entry)))) ⌝ }
+        replyOf (r .reply) ≡
+        replyAfter n (editOf edit (now (bytes .entry))) (length (now (nodes .entry))) (length (now (work .entry)))) ⌝ }
     ensures state { λ r. ⌜ ((n : Records.Netlist) → IsOpen n state (now (nodes .entry)) (now (work .entry)) →
         r .state ≡ stateOf (netlistAfter n (editOf edit (now (bytes .entry))) (length (now (nodes .entry))) (length (now (work .entry))))) ⌝ }
     ensures nodes { λ _. ⌜ ((n : Records.Netlist) → IsOpen n state (now (nodes .entry)) (now (work .entry)) →
         now (nodes .exit) ≡ recordsAfter n (editOf edit (now (bytes .entry))) (now (nodes .entry)) (length (now (work .entry)))) ⌝ }
     ensures work { λ _. ⌜ ((n : Records.Netlist) → IsOpen n state (now (nodes .entry)) (now (work .entry)) →
         now (work .exit) ≡ bytesAfter n (editOf edit (now (bytes .entry))) (length (now (nodes .entry))) (now (work .entry))) ⌝ }
-    ensures clear { λ r. ⌜ ((n : Records.Netlist) → IsOpen n state (now (nodes .entry)) (now (work .entry)) → GlitchClear (replyOf (r .reply)) ↔
+    ensures clear { λ r. ⌜ ((n : Records.Netlist) → IsOpen n state (now (nodes .entry)) (now (work .entry)) →
+        GlitchClear (replyOf (r .reply)) ↔
         NothingSuspectAfter n (editOf edit (now (bytes .entry))) (length (now (nodes .entry))) (length (now (work .entry)))) ⌝ }
-    ensures probe { λ r. ⌜ ((n : Records.Netlist) → IsOpen n state (now (nodes .entry)) (now (work .entry)) → GlitchClear (replyOf (r .reply)) →
+    ensures probe { λ r. ⌜ ((n : Records.Netlist) → IsOpen n state (now (nodes .entry)) (now (work .entry)) →
+        GlitchClear (replyOf (r .reply)) →
         OneProbe (writtenOut (netlistAfter n (editOf edit (now (bytes .entry))) (length (now (nodes .entry))) (length (now (work .entry)))))) ⌝ }
     ensures early { λ r. ⌜ ((n : Records.Netlist) → WellFormed n → state ≡ stateOf n → (number place : ℕ) →
-        fits n (editOf edit (now (bytes .entry))) (length (now (nodes .entry))) (length (now (work .entry))) ≡ refused number place →
+        fits n (editOf edit (now (bytes .entry))) (length (now (nodes .entry))) (length (now (work .entry))) ≡
+        refused number place →
         replyOf (r .reply) ≡ refused number place) ⌝ }
     ensures kept { λ r. ⌜ Kept state r (now (nodes .entry)) (now (nodes .exit)) (now (work .entry)) (now (work .exit)) ⌝ }
 {

@@ -22,7 +22,8 @@ use rules::Reply;
 // Opens a block: the reply, and the netlist and its marks, which are those of no nodes where the block is refused.
 pub fn open_held(bytes: &[u8], work: &mut [u8]) -> Examined
     ensures reply { λ r. ⌜ replyOf (r .reply) ≡ reply (now (bytes .entry)) most-nodes (length (now (work .entry))) ⌝ }
-    ensures held { λ r. ⌜ ((n : Records.Netlist) → admitted (now (bytes .entry)) most-nodes (length (now (work .entry))) ≡ answered n →
+    ensures held { λ r. ⌜ ((n : Records.Netlist) →
+        admitted (now (bytes .entry)) most-nodes (length (now (work .entry))) ≡ answered n →
         IsHeld n (r .netlist) (r .marks) (now (work .exit))) ⌝ }
 {
     checker::examine(bytes, MOST_NODES, work)
@@ -38,7 +39,8 @@ pub fn edit_held(
     work: &mut [u8],
 ) -> Examined
     ensures reply { λ r. ⌜ ((n : Records.Netlist) → IsHeld n netlist marks (now (work .entry)) →
-        replyOf (r .reply) ≡ replyAfter n (editOf edit (now (bytes .entry))) most-nodes (length (now (work .entry)))) ⌝ }
+        replyOf (r .reply) ≡
+        replyAfter n (editOf edit (now (bytes .entry))) most-nodes (length (now (work .entry)))) ⌝ }
     ensures held { λ r. ⌜ ((n : Records.Netlist) → IsHeld n netlist marks (now (work .entry)) →
         IsHeld (netlistAfter n (editOf edit (now (bytes .entry))) most-nodes (length (now (work .entry))))
         (r .netlist) (r .marks) (now (work .exit))) ⌝ }

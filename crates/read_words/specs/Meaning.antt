@@ -14,7 +14,8 @@ use Rattle.read_words.specs.declared.Worded.{Worded}
 use Rattle.read_words.specs.declared.Worded.the-variants as Worded
 use Rattle.read_words.specs.declared.BlockWords.{BlockWords}
 use Rattle.read_words.specs.declared.BlockWords.the-variants as BlockWords
-use Rattle.read_words.specs.Words.{Said, nothing, says, wrong, Form, form, forms, BlockSaid, block, wrongIn, linesOf, blockIn}
+use Rattle.read_words.specs.Words.{Said, nothing, says, wrong, Form, form, forms}
+use Rattle.read_words.specs.Words.{BlockSaid, block, wrongIn, linesOf, blockIn}
 
 -- ---- a form
 

@@ -5,7 +5,8 @@ use mathlib.Core.Bool.{Bool, true, false, cond, _&&_, _||_}
 use mathlib.Core.List.{List, [], _∷_, _++_}
 use lib.Dec.{eqb, ltb}
 use lib.ListN.{length, set}
-use Rattle.rules.specs.Records.{secret, mask, public, Cell, input, NOT, XOR, AND, OR, register, Record, end, variable, node, odd, recordBytes}
+use Rattle.rules.specs.Records.{secret, mask, public, Cell, input, NOT, XOR, AND, OR}
+use Rattle.rules.specs.Records.{register, Record, end, variable, node, odd, recordBytes}
 use Rattle.rules.specs.Listing.{word}
 use Rattle.read_words.specs.declared.Fault.{Fault}
 use Rattle.read_words.specs.declared.Fault.the-variants as Fault

@@ -89,7 +89,8 @@ pub fn entries_kept_from(nodes: [NodeRecord; MOST_NODES]) -> usize
 }
 
 pub fn work_kept_from(work: &[u8]) -> usize
-    ensures { λ r. ⌜ r ≡ keptFrom (λ k. eqb (getD (now (work .entry)) k 0) (byteBefore k)) (length (now (work .entry))) ⌝ }
+    ensures { λ r. ⌜ r ≡
+        keptFrom (λ k. eqb (getD (now (work .entry)) k 0) (byteBefore k)) (length (now (work .entry))) ⌝ }
 {
     let mut from = 0;
     let mut k = 0;
@@ -133,11 +134,13 @@ pub fn check_over(
     nodes: [NodeRecord; MOST_NODES],
     work: &mut [u8],
 ) -> Seen
-    ensures reply { λ r. ⌜ replyOf (r .reply) ≡ reply (now (bytes .entry)) (min entries most-nodes) (length (now (work .entry))) ⌝ }
+    ensures reply { λ r. ⌜ replyOf (r .reply) ≡
+        reply (now (bytes .entry)) (min entries most-nodes) (length (now (work .entry))) ⌝ }
     ensures nodes { λ r. ⌜ r .nodes ≡
         nodesAfter (now (bytes .entry)) (take (min entries most-nodes) nodes) (length (now (work .entry)))
         ++ drop (min entries most-nodes) nodes ⌝ }
-    ensures work { λ _. ⌜ now (work .exit) ≡ workAfter (now (bytes .entry)) (min entries most-nodes) (now (work .entry)) ⌝ }
+    ensures work { λ _. ⌜ now (work .exit) ≡
+        workAfter (now (bytes .entry)) (min entries most-nodes) (now (work .entry)) ⌝ }
 {
     let lent = at_most(entries);
     let mut kept = nodes;
@@ -158,7 +161,8 @@ pub fn check_pairs_over(
     ensures nodes { λ r. ⌜ r .nodes ≡
         nodesAfter (now (bytes .entry)) (take (min entries most-nodes) nodes) (length (now (work .entry)))
         ++ drop (min entries most-nodes) nodes ⌝ }
-    ensures work { λ _. ⌜ now (work .exit) ≡ workAfter (now (bytes .entry)) (min entries most-nodes) (now (work .entry)) ⌝ }
+    ensures work { λ _. ⌜ now (work .exit) ≡
+        workAfter (now (bytes .entry)) (min entries most-nodes) (now (work .entry)) ⌝ }
 {
     let lent = at_most(entries);
     let mut kept = nodes;
@@ -181,13 +185,15 @@ pub fn open_over(
     nodes: [NodeRecord; MOST_NODES],
     work: &mut [u8],
 ) -> SeenEdit
-    ensures reply { λ r. ⌜ replyOf (r .edited .reply) ≡ reply (now (bytes .entry)) (min entries most-nodes) (length (now (work .entry))) ⌝ }
+    ensures reply { λ r. ⌜ replyOf (r .edited .reply) ≡
+        reply (now (bytes .entry)) (min entries most-nodes) (length (now (work .entry))) ⌝ }
     ensures state { λ r. ⌜ r .edited .state ≡
         stateOf (kept (admitted (now (bytes .entry)) (min entries most-nodes) (length (now (work .entry))))) ⌝ }
     ensures nodes { λ r. ⌜ r .nodes ≡
         nodesAfter (now (bytes .entry)) (take (min entries most-nodes) nodes) (length (now (work .entry)))
         ++ drop (min entries most-nodes) nodes ⌝ }
-    ensures work { λ _. ⌜ now (work .exit) ≡ workAfter (now (bytes .entry)) (min entries most-nodes) (now (work .entry)) ⌝ }
+    ensures work { λ _. ⌜ now (work .exit) ≡
+        workAfter (now (bytes .entry)) (min entries most-nodes) (now (work .entry)) ⌝ }
 {
     let lent = at_most(entries);
     let mut kept = nodes;
@@ -209,17 +215,21 @@ pub fn edit_over(
     nodes: [NodeRecord; MOST_NODES],
     work: &mut [u8],
 ) -> SeenEdit
-    ensures reply { λ r. ⌜ ((n : Records.Netlist) → IsOpen n state (take (min entries most-nodes) nodes) (now (work .entry)) →
+    ensures reply { λ r. ⌜ ((n : Records.Netlist) →
+        IsOpen n state (take (min entries most-nodes) nodes) (now (work .entry)) →
         replyOf (r .edited .reply) ≡
         replyAfter n (editOf edit (now (bytes .entry))) (min entries most-nodes) (length (now (work .entry)))) ⌝ }
-    ensures state { λ r. ⌜ ((n : Records.Netlist) → IsOpen n state (take (min entries most-nodes) nodes) (now (work .entry)) →
+    ensures state { λ r. ⌜ ((n : Records.Netlist) →
+        IsOpen n state (take (min entries most-nodes) nodes) (now (work .entry)) →
         r .edited .state ≡
         stateOf (netlistAfter n (editOf edit (now (bytes .entry))) (min entries most-nodes) (length (now (work .entry))))) ⌝ }
-    ensures nodes { λ r. ⌜ ((n : Records.Netlist) → IsOpen n state (take (min entries most-nodes) nodes) (now (work .entry)) →
+    ensures nodes { λ r. ⌜ ((n : Records.Netlist) →
+        IsOpen n state (take (min entries most-nodes) nodes) (now (work .entry)) →
         r .nodes ≡
         recordsAfter n (editOf edit (now (bytes .entry))) (take (min entries most-nodes) nodes) (length (now (work .entry)))
         ++ drop (min entries most-nodes) nodes) ⌝ }
-    ensures work { λ _. ⌜ ((n : Records.Netlist) → IsOpen n state (take (min entries most-nodes) nodes) (now (work .entry)) →
+    ensures work { λ _. ⌜ ((n : Records.Netlist) →
+        IsOpen n state (take (min entries most-nodes) nodes) (now (work .entry)) →
         now (work .exit) ≡ bytesAfter n (editOf edit (now (bytes .entry))) (min entries most-nodes) (now (work .entry))) ⌝ }
 {
     let lent = at_most(entries);

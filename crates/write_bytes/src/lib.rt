@@ -129,7 +129,8 @@ pub fn write_out(
     nodes: [NodeRecord; MOST_NODES],
     out: &mut [u8; MOST_WRITTEN],
 ) -> usize
-    ensures long { λ r. ⌜ ((n : Records.Netlist) (work : List ℕ) → IsOpen n state nodes work → r ≡ length (writtenOut n)) ⌝ }
+    ensures long { λ r. ⌜ ((n : Records.Netlist) (work : List ℕ) → IsOpen n state nodes work → r ≡
+        length (writtenOut n)) ⌝ }
     ensures bytes { λ r. ⌜ ((n : Records.Netlist) (work : List ℕ) → IsOpen n state nodes work →
         now (out .exit) ≡ writtenOut n ++ drop r (now (out .entry))) ⌝ }
     ensures most { λ r. ⌜ r ≤ most-bytes ⌝ }

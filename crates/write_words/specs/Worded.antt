@@ -3,7 +3,8 @@
 use Prim.Native.Nat.{ℕ, zero, suc, _+_, _*_, _/_, _^_}
 use mathlib.Core.Bool.{cond}
 use mathlib.Core.List.{List, [], _∷_, _++_, map}
-use Rattle.rules.specs.Records.{Class, secret, mask, public, Cell, Record, end, variable, node, Netlist, operands, setOf, odd, most-variables, most-nodes}
+use Rattle.rules.specs.Records.{Class, secret, mask, public, Cell, Record, end, variable}
+use Rattle.rules.specs.Records.{node, Netlist, operands, setOf, odd, most-variables, most-nodes}
 use Rattle.rules.specs.Listing.{word, decimal, line, kindName}
 
 -- the word of a variable

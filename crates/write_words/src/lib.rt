@@ -116,7 +116,8 @@ fn put_variables(text: &mut [u8], netlist: Netlist) -> usize
 
 // The lines of the nodes, behind those.
 fn put_nodes(text: &mut [u8], at: usize, netlist: Netlist) -> usize
-    requires { ⌜ Room (now text) 0 most-words × (at ≤ most-variable-line * most-variables) × (netlist .count ≤ most-nodes) ⌝ }
+    requires { ⌜ Room (now text) 0 most-words × (at ≤ most-variable-line * most-variables) ×
+        (netlist .count ≤ most-nodes) ⌝ }
     ensures { λ r. ⌜ ((n : Records.Netlist) → netlist ≡ flatOf n →
         Appended (now (text .entry)) (now (text .exit)) at r (recordLines (map Records.node (n .nodes)))) ⌝ }
     ensures few { λ r. ⌜ r ≤ at + most-node-line * most-nodes ⌝ }
@@ -159,7 +160,8 @@ pub fn write_words(
     nodes: [NodeRecord; MOST_NODES],
     text: &mut [u8; MOST_WORDS],
 ) -> usize
-    ensures long { λ r. ⌜ ((n : Records.Netlist) (work : List ℕ) → IsOpen n state nodes work → r ≡ length (wordedOut n)) ⌝ }
+    ensures long { λ r. ⌜ ((n : Records.Netlist) (work : List ℕ) → IsOpen n state nodes work → r ≡
+        length (wordedOut n)) ⌝ }
     ensures words { λ r. ⌜ ((n : Records.Netlist) (work : List ℕ) → IsOpen n state nodes work →
         now (text .exit) ≡ wordedOut n ++ drop r (now (text .entry))) ⌝ }
     ensures most { λ r. ⌜ r ≤ most-words ⌝ }
