@@ -100,8 +100,8 @@ fn fitting(bytes: usize) -> usize
 // Whether a set is in the family of a node in a layer, by work bytes that hold the families: no layer above 1 has any.
 fn in_family(netlist: Netlist, work: &[u8], claim: Claim) -> bool
     requires { ⌜ Known netlist (now work) × (claim .node < netlist .count) × (claim .set < most-sets) ⌝ }
-    ensures { λ r. ⌜ ((n : Records.Netlist) → netlist ≡ flatOf n → r ≡
-        inFamily n (claim .node) (claim .layer) (claim .set)) ⌝ }
+    ensures { λ r. ⌜ ((n : Records.Netlist) → netlist ≡ flatOf n →
+        r ≡ inFamily n (claim .node) (claim .layer) (claim .set)) ⌝ }
 {
     claim.layer < 2 && derivation_steps::has(work, claim)
 }

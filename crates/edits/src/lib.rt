@@ -168,8 +168,8 @@ pub fn edit(
         GlitchClear (replyOf (r .reply)) →
         OneProbe (writtenOut (netlistAfter n (editOf edit (now (bytes .entry))) (length (now (nodes .entry))) (length (now (work .entry)))))) ⌝ }
     ensures early { λ r. ⌜ ((n : Records.Netlist) → WellFormed n → state ≡ stateOf n → (number place : ℕ) →
-        fits n (editOf edit (now (bytes .entry))) (length (now (nodes .entry))) (length (now (work .entry))) ≡
-        refused number place →
+        fits n (editOf edit (now (bytes .entry))) (length (now (nodes .entry))) (length (now (work .entry)))
+        ≡ refused number place →
         replyOf (r .reply) ≡ refused number place) ⌝ }
     ensures kept { λ r. ⌜ Kept state r (now (nodes .entry)) (now (nodes .exit)) (now (work .entry)) (now (work .exit)) ⌝ }
 {

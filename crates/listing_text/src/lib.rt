@@ -100,8 +100,8 @@ pub fn listing_of(
     work: &[u8; MOST_WORK],
     text: &mut [u8; MOST_TEXT],
 ) -> usize
-    ensures { λ r. ⌜ ((n : Records.Netlist) (rest : List ℕ) → WellFormed n → netlist ≡ flatOf n → findingsOf answer ≡
-        findings n →
+    ensures { λ r. ⌜ ((n : Records.Netlist) (rest : List ℕ) → WellFormed n → netlist ≡ flatOf n →
+        findingsOf answer ≡ findings n →
         now (work .entry) ≡ workBytes (families n) ++ rest →
         Appended (now (text .entry)) (now (text .exit)) 0 r (netlistText n)) ⌝ }
     ensures most { λ r. ⌜ r ≤ most-text ⌝ }

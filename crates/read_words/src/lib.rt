@@ -93,8 +93,8 @@ fn stops(stop: Stop, letter: u8) -> bool
 // The first place from `from` on of a letter that the scan stops at, or the end of the text.
 fn past(text: &[u8], from: usize, stop: Stop) -> usize
     requires { ⌜ from ≤ length (now text) ⌝ }
-    ensures { λ r. ⌜ (r ≤ length (now (text .entry))) × (r ≡
-        from + first (stopsAt stop) (drop from (now (text .entry)))) ⌝ }
+    ensures { λ r. ⌜ (r ≤ length (now (text .entry))) ×
+        (r ≡ from + first (stopsAt stop) (drop from (now (text .entry)))) ⌝ }
 {
     let mut at = from;
     while at < text.len() {
@@ -234,8 +234,8 @@ fn operand_at(line: &[u8], k: usize) -> usize
 
 // A record whose word has no number behind it.
 fn alone_record(numbers: &[u8], line: Line) -> Line
-    ensures { λ r. ⌜ ((said : Record) → line ≡ lineOf (says said) → r ≡
-        lineOf (alone said (words (now (numbers .entry))))) ⌝ }
+    ensures { λ r. ⌜ ((said : Record) → line ≡ lineOf (says said) →
+        r ≡ lineOf (alone said (words (now (numbers .entry))))) ⌝ }
 {
     if count_words(numbers) != 0 {
         return Line::Wrong(Fault::NoNumber);
@@ -441,8 +441,8 @@ fn put_line(lines: &mut [usize], at: usize, line: usize)
 // then.
 fn put_record(bytes: &mut [u8], at: usize, own: [u8; 3], size: usize) -> usize
     requires { ⌜ (at ≤ length (now bytes)) × (size ≤ 3) ⌝ }
-    ensures { λ r. ⌜ (r ≡ min (at + size) (length (now (bytes .entry)))) × (now (bytes .exit) ≡
-        sets (now (bytes .entry)) at (take size own)) ⌝ }
+    ensures { λ r. ⌜ (r ≡ min (at + size) (length (now (bytes .entry)))) ×
+        (now (bytes .exit) ≡ sets (now (bytes .entry)) at (take size own)) ⌝ }
 {
     let mut k = 0;
     while k < size {
