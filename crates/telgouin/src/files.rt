@@ -1,4 +1,4 @@
-// The arguments, and the file that holds the block.
+// The arguments, and the file that holds the block: what is read here is all that a command is given.
 ghost use mathlib.Core.Path.{_≡_};
 ghost use Prim.Native.Nat.{_+_, _<_};
 ghost use Rattle.rules.specs.Paper.{numberOf, placeOf};
@@ -27,7 +27,7 @@ pub const MOST_NUMBERS: usize = 3;
 
 // ---- numbers
 
-// Argument `i` as number `k`; says what was expected where it is none.
+// Takes argument `i` as number `k`: whether it is a number; where it is none, what was expected is printed.
 fn take_number(i: usize, into: &mut [usize; MOST_NUMBERS], k: usize) -> bool
     requires { ⌜ k < 3 ⌝ }
     ensures { λ _. ⌜ SameBehind (k + 1) (now (into .entry)) (now (into .exit)) ⌝ }
@@ -46,8 +46,8 @@ fn take_number(i: usize, into: &mut [usize; MOST_NUMBERS], k: usize) -> bool
     }
 }
 
-// So many numbers, at most three, from left to right: whether they are numbers; says what was expected at the first
-// that is none. Which numbers the arguments are no contract can say; those behind them stay as they were.
+// Takes `count` numbers, at most three, from left to right: whether they are numbers; at the first that is none, what
+// was expected is printed. Which numbers the arguments are no contract can say; those behind them stay as they were.
 pub fn take_numbers(into: &mut [usize; MOST_NUMBERS], count: usize) -> bool
     ensures { λ _. ⌜ SameBehind count (now (into .entry)) (now (into .exit)) ⌝ }
 {
@@ -96,14 +96,14 @@ fn read_from(fd: i32, into: &mut [u8]) -> Read
     }
 }
 
-// A block: so many bytes of it, and how many lines its text in words has, or 0 for one that is given as bytes;
-// or none, and what was expected has been said.
+// A block: how many bytes it has, and how many lines its text in words, or 0 for one that is given as bytes;
+// or none, and what was expected has been printed.
 pub enum ReadBlock {
     Bytes(usize, usize),
     None,
 }
 
-// A file that cannot be read.
+// No block, since a file cannot be read; says so.
 fn unreadable(name: &[u8]) -> ReadBlock
     ensures { λ r. ⌜ r ≡ None ⌝ }
 {
@@ -112,7 +112,7 @@ fn unreadable(name: &[u8]) -> ReadBlock
     ReadBlock::None
 }
 
-// A block in words.
+// The block that a text in words says, with the line of each record; says what was expected where it says none.
 fn translated(
     text: &[u8],
     bytes: &mut [u8; MOST_BLOCK],
@@ -129,7 +129,7 @@ fn translated(
     }
 }
 
-// Too long a text in words.
+// No block, since a text in words is too long; says so.
 fn too_long() -> ReadBlock
     ensures { λ r. ⌜ r ≡ None ⌝ }
 {
@@ -139,7 +139,7 @@ fn too_long() -> ReadBlock
     ReadBlock::None
 }
 
-// Reads a block in words, by way of `text`.
+// Reads a block in words from a file that is open, by way of `text`.
 fn read_words(
     fd: i32,
     name: &[u8],
@@ -156,7 +156,7 @@ fn read_words(
     }
 }
 
-// A block that is given as bytes.
+// Reads a block that is given as bytes from a file that is open: as many as fit, which are more than a block may have.
 fn read_bytes(fd: i32, name: &[u8], bytes: &mut [u8; MOST_BLOCK]) -> ReadBlock
     ensures { λ r. ⌜ AsBytes r ⌝ }
 {
@@ -178,6 +178,7 @@ pub fn has_words(name: &[u8]) -> bool
     read_words::is_word(&name[from..], b".txt")
 }
 
+// The block of the file that is named, in words or as bytes by its name.
 fn read_named(
     name: &[u8],
     bytes: &mut [u8; MOST_BLOCK],
