@@ -1,6 +1,9 @@
 // `list`, and the three queries.
+ghost use mathlib.Core.Path.{_≡_};
 ghost use Prim.Native.Nat.{_≤_};
+ghost use Rattle.rules.specs.Queries.{valueQuery, feedingQuery, membershipQuery};
 ghost use Rattle.rules.specs.Listing.{most-text};
+ghost use Rattle.rules.specs.Paper.{queryOf};
 use crate::say::say;
 use crate::say::say_first;
 use desk_text::ROOM;
@@ -28,7 +31,9 @@ fn say_answered(outcome: QueryOutcome, text: &[u8; ROOM], count: usize)
 
 // Prints the settled value of a node under an assignment. A refusal is left to the caller to print, who knows the lines
 // of the block's text; so it is by the two below.
-pub fn value(bytes: &[u8], node: usize, assignment: usize) -> QueryOutcome {
+pub fn value(bytes: &[u8], node: usize, assignment: usize) -> QueryOutcome
+    ensures { λ r. ⌜ queryOf r ≡ valueQuery (now (bytes .entry)) node assignment .outcome ⌝ }
+{
     let reply = queries::settled_value(bytes, node, assignment);
     let outcome = reply.outcome;
     let mut text = [0u8; ROOM];
@@ -38,7 +43,9 @@ pub fn value(bytes: &[u8], node: usize, assignment: usize) -> QueryOutcome {
 }
 
 // Prints the inputs and registers that feed a node through gates alone.
-pub fn feeding(bytes: &[u8], node: usize) -> QueryOutcome {
+pub fn feeding(bytes: &[u8], node: usize) -> QueryOutcome
+    ensures { λ r. ⌜ queryOf r ≡ feedingQuery (now (bytes .entry)) node .outcome ⌝ }
+{
     let reply = queries::feeding_points(bytes, node);
     let outcome = reply.outcome;
     let marks = reply.marks;
@@ -49,7 +56,9 @@ pub fn feeding(bytes: &[u8], node: usize) -> QueryOutcome {
 }
 
 // Prints whether a set is in each of a node's two families.
-pub fn member(bytes: &[u8], node: usize, set: usize) -> QueryOutcome {
+pub fn member(bytes: &[u8], node: usize, set: usize) -> QueryOutcome
+    ensures { λ r. ⌜ queryOf r ≡ membershipQuery (now (bytes .entry)) node set .outcome ⌝ }
+{
     let reply = queries::memberships(bytes, node, set);
     let outcome = reply.outcome;
     let mut text = [0u8; ROOM];

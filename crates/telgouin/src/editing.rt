@@ -423,7 +423,7 @@ fn edit_block(opened: Examined, work: &mut [u8; MOST_WORK]) -> Told
 }
 
 // Edits of a block that was opened over these work bytes; the last line says how they ended.
-pub fn edit(opened: Examined, work: &mut [u8; MOST_WORK]) {
+pub(crate) fn edit(opened: Examined, work: &mut [u8; MOST_WORK]) {
     let told = edit_block(opened, work);
     let reply = told.reply;
     let turn = told.turn;
