@@ -24,9 +24,10 @@ use rules::MOST_WORK;
 use rules::QueryOutcome;
 use rules::Refusal;
 
-// The most steps that a derivation has, and how many bytes those are.
+// The most steps that a derivation has.
 pub const MOST_STEPS: usize = 512;
 
+// How many bytes have room for every derivation.
 pub const MOST_BYTES: usize = STEP * MOST_STEPS;
 
 // What `derive` replies: a refusal, or the number of steps.

@@ -16,9 +16,10 @@ ghost use Rattle.read_words.specs.Words.{forms, readBy, recordIn};
 ghost use Rattle.read_words.specs.Meaning.{nameOf, readsOf, formAt, lineOf, TellsRecord, TellsBlock};
 use listing_lines::Name;
 
-// The bytes of a block that are looked at, and the bytes of a text in words.
+// The most bytes of a block that are looked at.
 pub const MOST_BLOCK: usize = 1024;
 
+// The most bytes of a text in words that is read.
 pub const MOST_TEXT: usize = 65536;
 
 // What was expected: a record's word; a record with no, with one or with two numbers; an operand, from 0 to 255; a
@@ -52,6 +53,7 @@ pub struct Place {
     pub to: usize,
 }
 
+// The number that a word is in decimal digits, or none.
 pub enum Number {
     Is(usize),
     None,

@@ -24,8 +24,8 @@
 //         the reply, the first steps of the derivation, each as node, layer, rule and set, and from where on the slice
 //         is as it was
 //     edits ENTRIES BYTES : BLOCK : EDITS : NAME
-//         the block is opened in slices that hold every block, then each edit is made in slices of these lengths; of the
-//         opening and of each edit the reply, how many variables and nodes the state then has, from where to where
+//         the block is opened in slices that hold every block, then each edit is made in slices of these lengths; of
+//         the opening and of each edit the reply, how many variables and nodes the state then has, from where to where
 //         entries and work bytes change, and each marked node as above
 //     product FIRST SECOND INTO : SETS : SETS : NAME
 //         families of these sets are put into two parts of the work bytes, or both into one; in a part above them their

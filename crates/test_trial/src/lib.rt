@@ -73,7 +73,7 @@ fn is_before(held: NodeRecord) -> bool
             && (node.second == 7 && (node.set == 6 && (held.settled == 5 && held.glitch == 4))))
 }
 
-// The lowest number from which on all entries are as they were, and the same of the work bytes.
+// The lowest number from which on all entries are as they were before.
 pub fn entries_kept_from(nodes: [NodeRecord; MOST_NODES]) -> usize
     ensures { λ r. ⌜ r ≡ keptFrom (λ k. isBefore (getD nodes k entryBefore)) most-nodes ⌝ }
 {
@@ -88,6 +88,7 @@ pub fn entries_kept_from(nodes: [NodeRecord; MOST_NODES]) -> usize
     from
 }
 
+// The lowest number from which on all work bytes are as they were before.
 pub fn work_kept_from(work: &[u8]) -> usize
     ensures { λ r. ⌜ r ≡
         keptFrom (λ k. eqb (getD (now (work .entry)) k 0) (byteBefore k)) (length (now (work .entry))) ⌝ }
@@ -105,12 +106,13 @@ pub fn work_kept_from(work: &[u8]) -> usize
 
 // ---- a check
 
-// What a check leaves, and one with two probes: the reply, and all entries.
+// What a check leaves: the reply, and all entries.
 pub struct Seen {
     pub reply: Reply,
     pub nodes: [NodeRecord; MOST_NODES],
 }
 
+// What a check with two probes leaves: the reply, and all entries.
 pub struct SeenPairs {
     pub reply: PairsReply,
     pub nodes: [NodeRecord; MOST_NODES],
