@@ -119,10 +119,14 @@ recordsAfter n e before work = filled nodeRecords (edited n e (length before) wo
 unfoldable pub bytesAfter : Netlist → Edit → (entries : ℕ) → (before : List ℕ) → List ℕ
 bytesAfter n e entries before = filled (λ m. workBytes (families m)) (edited n e entries (length before)) before
 
+-- the work bytes hold a netlist's families at their front
+abbrev pub HoldsFamilies : Netlist → (work : List ℕ) → Type 0
+HoldsFamilies n work = take (256 * length (n .nodes)) work ≡ workBytes (families n)
+
 -- both slices hold a netlist's node records and families at their front
 pub record Holds (n : Netlist) (nodes : List NodeRecord) (work : List ℕ) : Type 0 where
   pub records : take (length (n .nodes)) nodes ≡ nodeRecords n
-  pub families : take (256 * length (n .nodes)) work ≡ workBytes (families n)
+  pub families : HoldsFamilies n work
 
 -- the edit is made, and in the block as it now is no tested node's glitch family holds a suspect set
 pub record NothingSuspectAfter (n : Netlist) (e : Edit) (entries work : ℕ) : Type 0 where

@@ -1,6 +1,6 @@
 // Change request A3, "Cells come and go": `specs/` has what an edit of an open block is as definitions, `proofs/` the
 // laws of them. It has the two types that the definitions speak of and no function, so it touches nothing; the code is
-// in `edit_steps`, and all that edits a block uses both.
+// in `edit_parts` and `edit_steps`, and all that edits a block uses these definitions.
 use rules::MOST_VARIABLES;
 
 // The state of an open block: its variables and their classes, and the number of its nodes.

@@ -35,9 +35,10 @@ use Rattle.checker.proofs.Core.{refusal, answers, too-short, both-hold}
 use Rattle.edit_rules.specs.Edits.{judgedNode, offered, add, fits, edited}
 use Rattle.edit_rules.specs.Meaning.{stateOf}
 use Rattle.edit_rules.proofs.Adding.{offered-lower, offered-small, offered-well-formed, marks-added}
-use Rattle.edit_steps.proofs.Offers.{OffersNode, offers-none}
+use Rattle.edit_parts.proofs.Offers.{OffersNode, offers-none}
 use Rattle.edit_steps.proofs.Changing.{value-state, state-count, state-variables, contained-refused, contained-looks, refused-early}
-use Rattle.edit_steps.specs.Work.{stateIn, HoldsFamilies}
+use Rattle.edit_rules.specs.Edits.{HoldsFamilies}
+use Rattle.edit_steps.specs.Changes.{stateIn}
 use Rattle.edit_steps.specs.Changes.{Adds, Changes}
 
 -- a node that is offered can stand at its number

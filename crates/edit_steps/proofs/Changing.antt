@@ -21,7 +21,7 @@ use Rattle.checker.proofs.Core.{refusal}
 use Rattle.edit_rules.specs.declared.State.{State}
 use Rattle.edit_rules.specs.Edits.{Edit, add, remove, fits, edited}
 use Rattle.edit_rules.specs.Meaning.{stateOf}
-use Rattle.edit_steps.specs.Work.{stateIn}
+use Rattle.edit_steps.specs.Changes.{stateIn}
 use Rattle.edit_steps.specs.Changes.{Contained, Changes}
 
 -- a block by value of a netlist has its state, and such a state tells the number of nodes

@@ -24,8 +24,9 @@ use Rattle.checker.specs.declared.Examined.{Examined}
 use Rattle.checker.specs.Work.{NothingKept, Examines, ReadsMarks, JudgesSlices}
 use Rattle.checker.proofs.Core.{refusal, answers, both-hold}
 use Rattle.edit_rules.specs.Edits.{remove, withoutNode, lowestUser, removedIfUnused, fits, edited}
-use Rattle.edit_steps.specs.Work.{movedDown, HoldsFamilies}
-use Rattle.edit_steps.proofs.MovesDown.{moved-families}
+use Rattle.edit_parts.specs.Parts.{movedDown}
+use Rattle.edit_rules.specs.Edits.{HoldsFamilies}
+use Rattle.edit_parts.proofs.MovesDown.{moved-families}
 use Rattle.edit_steps.specs.Changes.{RemovesUnused, Changes}
 use Rattle.edit_steps.proofs.Changing.{state-count, contained-refused, contained-looks}
 use Rattle.edit_rules.proofs.Removal.{Unused, marks-removed}

@@ -16,9 +16,13 @@ use Rattle.marks.specs.declared.Marks.{Marks}
 use Rattle.marks.specs.Marks.{marksOf}
 use Rattle.checker.specs.declared.Examined.{Examined}
 use Rattle.checker.specs.Work.{Examines}
-use Rattle.edit_rules.specs.Edits.{Edit, removedIfUnused, fits, edited}
+use Rattle.edit_rules.specs.Edits.{Edit, removedIfUnused, fits, edited, HoldsFamilies}
+use Rattle.edit_rules.specs.declared.State.{State}
 use Rattle.edit_rules.specs.Meaning.{stateOf}
-use Rattle.edit_steps.specs.Work.{stateIn, HoldsFamilies}
+
+-- the state of a block by value
+abbrev pub stateIn : Value.Netlist → State
+stateIn block = record { variables = block .variables; classes = block .classes; count = block .count }
 
 -- a block by value has no more variables and nodes than there may be
 pub record Limited (block : Value.Netlist) : Type 0 where

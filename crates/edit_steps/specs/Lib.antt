@@ -1,3 +1,2 @@
--- What the parts of an edit of a block by value come to, and the whole.
-pub mod Work
+-- What an edit of a block by value comes to.
 pub mod Changes

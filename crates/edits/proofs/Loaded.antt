@@ -24,7 +24,7 @@ use Rattle.checker.specs.Work.{unwritten, noEntries, stored}
 use Rattle.checker.proofs.Stored.{stored-front, stored-length, no-entries-length}
 use Rattle.edit_rules.specs.declared.State.{State}
 use Rattle.edit_rules.specs.Meaning.{stateOf, IsOpen}
-use Rattle.edit_steps.specs.Work.{stateIn}
+use Rattle.edit_steps.specs.Changes.{stateIn}
 use Rattle.edits.specs.Edited.{column, loadedFrom, loadedOf}
 
 -- ---- a field of the first records

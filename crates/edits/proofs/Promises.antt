@@ -28,7 +28,7 @@ use Rattle.checker.proofs.Stored.{stored-none, stored-length, netlist-stored}
 use Rattle.edit_rules.specs.declared.State.{State}
 use Rattle.edit_rules.specs.Edits.{Edit, fits, edited, otherwise, netlistAfter, replyAfter, recordsAfter, bytesAfter, NothingSuspectAfter}
 use Rattle.edit_rules.specs.Meaning.{stateOf, IsOpen}
-use Rattle.edit_steps.specs.Work.{stateIn}
+use Rattle.edit_steps.specs.Changes.{stateIn}
 use Rattle.edit_steps.specs.Changes.{Changes}
 use Rattle.edit_steps.proofs.Changing.{value-state}
 use Rattle.edits.specs.declared.Edited.{Edited}

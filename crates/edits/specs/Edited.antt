@@ -13,7 +13,7 @@ use Rattle.rules.specs.Paper.{replyOf}
 use Rattle.netlists.specs.Netlists.{padded, blank}
 use Rattle.checker.specs.declared.Examined.{Examined}
 use Rattle.edit_rules.specs.declared.State.{State}
-use Rattle.edit_steps.specs.Work.{stateIn}
+use Rattle.edit_steps.specs.Changes.{stateIn}
 use Rattle.edit_steps.specs.declared.Loaded.{Loaded}
 use Rattle.edits.specs.declared.Edited.{Edited}
 

@@ -8,7 +8,7 @@ use Rattle.netlists.specs.declared.Netlist as Value
 use Rattle.netlists.specs.Netlists.{flatOf}
 use Rattle.marks.specs.declared.Marks.{Marks}
 use Rattle.marks.specs.Marks.{marksOf}
-use Rattle.edit_steps.specs.Work.{HoldsFamilies}
+use Rattle.edit_rules.specs.Edits.{HoldsFamilies}
 
 -- The netlist obeys the record rules, the value and the marks are its own, and the work bytes hold its families
 -- at their front, 256 bytes a node.

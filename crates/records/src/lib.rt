@@ -1,6 +1,6 @@
 // One record of a netlist: what the bytes at an offset say by the rules, or the refusal; and the reader,
 // which takes the next record. Reads the netlist bytes and writes to no lent slice. Used by `netlists`,
-// `edit_rules` and `query_netlists`.
+// `edit_parts` and `query_netlists`.
 ghost use mathlib.Core.Path.{_≡_};
 ghost use mathlib.Core.Logic.{_⊎_};
 ghost use Prim.Native.Nat.{_+_, _<_};

@@ -3,9 +3,9 @@
 -- is the edit (`Adding`). Assumes nothing.
 use mathlib.Core.Path.{sym, ap, _∙_}
 use borrow.Author.Needs.{needs}
-use Rattle.edit_steps.specs.Work.{offeredOf}
+use Rattle.edit_parts.specs.Parts.{offeredOf}
 use Rattle.edit_rules.proofs.Adding.{offered-room}
-use Rattle.edit_steps.proofs.Offers.{OffersNode, offers-node}
+use Rattle.edit_parts.proofs.Offers.{OffersNode, offers-node}
 use Rattle.edit_steps.proofs.Adding.{offered-placed, offeredTo, refuses, adds}
 use Rattle.edit_steps.proofs.add_node.Statement.{statement}
 use Rattle.edit_steps.proofs.add_node.Tie as tie

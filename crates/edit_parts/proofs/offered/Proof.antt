@@ -1,4 +1,4 @@
--- `edit_steps::offered` meets its contract: a kind of 0 or 1 is refused first, and then the record is judged
+-- `edit_parts::offered` meets its contract: a kind of 0 or 1 is refused first, and then the record is judged
 -- as the next of a file (`Offers`), which finds a refusal, or a node's record that has bytes left over or not.
 -- Assumes nothing.
 use Prim.Native.Nat.{ℕ, _≤_}
@@ -12,9 +12,9 @@ use Rattle.rules.specs.Slices.{entry}
 use Rattle.rules.specs.Checks.{Outcome, answered, andThen}
 use Rattle.records.specs.Found.{foundOf}
 use Rattle.edit_rules.specs.Edits.{judgedNode}
-use Rattle.edit_steps.proofs.Offers.{no-node, refused-next, found-next, surplus-next, taken-next}
-use Rattle.edit_steps.proofs.offered.Statement.{statement}
-use Rattle.edit_steps.proofs.offered.Tie as tie
+use Rattle.edit_parts.proofs.Offers.{no-node, refused-next, found-next, surplus-next, taken-next}
+use Rattle.edit_parts.proofs.offered.Statement.{statement}
+use Rattle.edit_parts.proofs.offered.Tie as tie
 
 -- the record of these bytes, behind so many variables and nodes, is offered
 abbrev offer : (total variables nodes k b c : ℕ) → Outcome Node

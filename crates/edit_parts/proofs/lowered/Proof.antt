@@ -1,9 +1,9 @@
--- `edit_steps::lowered` meets its contract: by the test. Assumes nothing.
+-- `edit_parts::lowered` meets its contract: by the test. Assumes nothing.
 use borrow.Author.Needs.{needs}
 use borrow.Author.Tests.{lt-ltb, le-ltb}
 use Rattle.edit_rules.specs.Edits.{lowered}
-use Rattle.edit_steps.proofs.lowered.Statement.{statement}
-use Rattle.edit_steps.proofs.lowered.Tie as tie
+use Rattle.edit_parts.proofs.lowered.Statement.{statement}
+use Rattle.edit_parts.proofs.lowered.Tie as tie
 
 sub-result : tie.Need-sub-result
 sub-result c = search needs

@@ -1,4 +1,4 @@
--- `edit_steps::move_down` meets its contract. The loop's invariant: of the bytes behind the node that is removed the
+-- `edit_parts::move_down` meets its contract. The loop's invariant: of the bytes behind the node that is removed the
 -- first `at - 256 * removed` have moved down by 256, and all others stand. So what is read 256 further on is still the
 -- byte that stood there. The measure is what is left of the bytes. Assumes nothing.
 use Prim.Native.Nat.{ℕ, suc, _+_, _*_, _-_, _≤_, _<_}
@@ -7,10 +7,10 @@ use mathlib.Core.List.{List}
 use native.Mathlib.Omega.{arith}
 use lib.ListN.{length, getD, drop, set, length-drop, length-set}
 use lib.Seq.{paste, paste-zero, getD-drop}
-use Rattle.edit_steps.specs.Work.{movedDown}
+use Rattle.edit_parts.specs.Parts.{movedDown}
 use Rattle.netlists.proofs.Without.{moved-next}
-use Rattle.edit_steps.proofs.move_down.Statement.{statement}
-use Rattle.edit_steps.proofs.move_down.Tie as tie
+use Rattle.edit_parts.proofs.move_down.Statement.{statement}
+use Rattle.edit_parts.proofs.move_down.Tie as tie
 
 -- the bytes once those up to `at` have moved
 abbrev shifted : List ℕ → (removed at : ℕ) → List ℕ

@@ -20,7 +20,8 @@ use Rattle.netlists.proofs.Netlists.{value-count}
 use Rattle.netlists.proofs.Without.{shifted, shifted-none, shifted-next, padded-without, map-take, map-drop}
 use Rattle.rules.specs.Lists.{without}
 use Rattle.edit_rules.specs.Edits.{lowered, renumbered, withoutNode}
-use Rattle.edit_steps.specs.Work.{renumberedEntry, movedDown, HoldsFamilies}
+use Rattle.edit_parts.specs.Parts.{renumberedEntry, movedDown}
+use Rattle.edit_rules.specs.Edits.{HoldsFamilies}
 use Rattle.edit_rules.proofs.Removal.{lowered-low, lowered-high, first-of, second-of, Unused, removed-length, families-removed}
 
 -- ---- those of a netlist

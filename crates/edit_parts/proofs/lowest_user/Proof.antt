@@ -1,4 +1,4 @@
--- `edit_steps::lowest_user` meets its contract. The invariant: of the netlist's nodes none of the first j uses node i
+-- `edit_parts::lowest_user` meets its contract. The invariant: of the netlist's nodes none of the first j uses node i
 -- (`Used`). The measure is the number of nodes left. Assumes nothing.
 use Prim.Native.Nat.{_-_, _≤_}
 use mathlib.Core.Path.{_≡_, sym, _∙_}
@@ -10,8 +10,8 @@ use Rattle.netlists.specs.Netlists.{flatOf}
 use Rattle.netlists.proofs.Netlists.{value-count, value-entry}
 use Rattle.edit_rules.specs.Edits.{uses}
 use Rattle.edit_rules.proofs.Used.{Passed, none-passed, uses-it, passes-it, none-uses}
-use Rattle.edit_steps.proofs.lowest_user.Statement.{statement}
-use Rattle.edit_steps.proofs.lowest_user.Tie as tie
+use Rattle.edit_parts.proofs.lowest_user.Statement.{statement}
+use Rattle.edit_parts.proofs.lowest_user.Tie as tie
 
 abbrev Inv-loop : tie.InvT-loop
 Inv-loop i block count j₀ j = (j ≤ count) × ((n : Netlist) → block ≡ flatOf n → Passed i (n .nodes) j)

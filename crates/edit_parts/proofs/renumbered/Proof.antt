@@ -1,7 +1,7 @@
--- `edit_steps::renumbered` meets its contract: field by field. Assumes nothing.
+-- `edit_parts::renumbered` meets its contract: field by field. Assumes nothing.
 use borrow.Author.Needs.{needs}
-use Rattle.edit_steps.proofs.renumbered.Statement.{statement}
-use Rattle.edit_steps.proofs.renumbered.Tie as tie
+use Rattle.edit_parts.proofs.renumbered.Statement.{statement}
+use Rattle.edit_parts.proofs.renumbered.Tie as tie
 
 lowered-requires : tie.Need-lowered-requires
 lowered-requires c κs = search needs

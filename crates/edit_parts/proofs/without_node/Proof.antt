@@ -1,13 +1,13 @@
--- `edit_steps::without_node` meets its contract. The loop's invariant: of the node records behind
+-- `edit_parts::without_node` meets its contract. The loop's invariant: of the node records behind
 -- the one that is removed those up to `i` have moved down by one, renumbered, and all others stand.
 -- The measure is what is left of the records. Assumes nothing.
 use Prim.Native.Nat.{_-_, _≤_}
 use mathlib.Core.Path.{ap}
 use native.Mathlib.Omega.{arith}
 use Rattle.netlists.specs.declared.Netlist as Value
-use Rattle.edit_steps.proofs.MovesDown.{Reached, none-moved, next-moved, all-moved}
-use Rattle.edit_steps.proofs.without_node.Statement.{statement}
-use Rattle.edit_steps.proofs.without_node.Tie as tie
+use Rattle.edit_parts.proofs.MovesDown.{Reached, none-moved, next-moved, all-moved}
+use Rattle.edit_parts.proofs.without_node.Statement.{statement}
+use Rattle.edit_parts.proofs.without_node.Tie as tie
 
 abbrev Inv-loop : tie.InvT-loop
 Inv-loop removed last shorter₀ i₀ shorter i = (removed ≤ i) × (i ≤ last) × Reached shorter₀ shorter removed i

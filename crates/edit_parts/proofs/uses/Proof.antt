@@ -1,4 +1,4 @@
--- `edit_steps::uses` meets its contract: whether a node uses another is one test of its record, by cases on the node,
+-- `edit_parts::uses` meets its contract: whether a node uses another is one test of its record, by cases on the node,
 -- and each arm of the match has the kind that the test's case is of. Assumes nothing.
 use Prim.Native.Nat.{ℕ}
 use mathlib.Core.Path.{_≡_, refl, sym, _∙_}
@@ -12,8 +12,8 @@ use Rattle.rules.specs.Lists.{member}
 use Rattle.rules.specs.Records.{Cell, input, NOT, XOR, AND, OR, register, kindOf, operands, setOf}
 use Rattle.rules.specs.Slices.{entry}
 use Rattle.edit_rules.specs.Edits.{uses}
-use Rattle.edit_steps.proofs.uses.Statement.{statement}
-use Rattle.edit_steps.proofs.uses.Tie as tie
+use Rattle.edit_parts.proofs.uses.Statement.{statement}
+use Rattle.edit_parts.proofs.uses.Tie as tie
 
 -- the code compares an operand with the node's number, and the rules the number with the operand
 turned : (i a : ℕ) → eqb i a ≡ eqb a i
