@@ -14,8 +14,7 @@ fn packed(refusal: Refusal) -> usize
     ensures { λ r. ⌜ r ≡ packedSteps (refused (numberOf refusal) (placeOf refusal)) ⌝ }
 {
     let number = refusals::number_of(refusal);
-    let place = refusals::place_of(refusal);
-    number % 4096 * 4096 + place % 4096
+    number % 4096 * 4096 + refusal.place % 4096
 }
 
 // Writes a derivation as `derive` does, and returns the number of steps, or the refusal in one number.

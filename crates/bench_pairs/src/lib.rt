@@ -29,13 +29,7 @@ pub extern "C" fn telgouin_pairs(bytes: &[u8], limit: usize) -> usize
     let reply = examined.reply;
     match reply {
         PairsReply::Refused(refusal) => {
-            packed(
-                0,
-                0,
-                refusals::number_of(refusal),
-                refusals::place_of(refusal),
-                0,
-            )
+            packed(0, 0, refusals::number_of(refusal), refusal.place, 0)
         }
         PairsReply::Answered(answer) => {
             let search = answer.search;

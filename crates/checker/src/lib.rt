@@ -22,6 +22,7 @@ use rules::Answer;
 use rules::MOST_NODES;
 use rules::NodeRecord;
 use rules::QueryOutcome;
+use rules::Reason;
 use rules::Refusal;
 use rules::Reply;
 
@@ -85,10 +86,16 @@ pub fn slices_fit(count: usize, entries: usize, work: usize) -> QueryOutcome
 {
     let bytes = 256 * count;
     if entries < count {
-        return QueryOutcome::Refused(Refusal::FewEntries(count));
+        return QueryOutcome::Refused(Refusal {
+            reason: Reason::FewEntries,
+            place: count,
+        });
     }
     if work < bytes {
-        return QueryOutcome::Refused(Refusal::ShortWork(bytes));
+        return QueryOutcome::Refused(Refusal {
+            reason: Reason::ShortWork,
+            place: bytes,
+        });
     }
     QueryOutcome::Answered
 }

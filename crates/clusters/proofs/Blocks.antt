@@ -3,7 +3,7 @@
 -- And a gate that is clear, with no mark, in a block whose answer reports another. Assumes nothing.
 use Prim.Native.Nat.{ℕ, _*_}
 use mathlib.Core.Path.{_≡_, refl}
-use mathlib.Core.Bool.{false, true, not, xor}
+use mathlib.Core.Bool.{Bool, false, true, not, xor}
 use mathlib.Core.List.{List, [], _∷_}
 use native.Mathlib.Omega.{arith}
 use lib.Dec.{T}
@@ -11,8 +11,8 @@ use lib.ListN.{replicate}
 use Rattle.rules.specs.declared.NodeRecord.{NodeRecord}
 use Rattle.rules.specs.Lists.{member, insert, union, count, tabulate}
 use Rattle.rules.specs.Tables.{table}
-use Rattle.rules.specs.Records.{secret, input, Netlist, most-nodes}
-use Rattle.rules.specs.Values.{exclusiveOr, valueRule, values, feedingRule, feedings, feeding, same, howMany, settings, next, others, make, matches, giving, CountsAgree}
+use Rattle.rules.specs.Records.{secret, listed, fromOperands, input, kindOf, operands, Netlist, most-nodes}
+use Rattle.rules.specs.Values.{exclusiveOr, valueOf, valueRule, values, isPoint, joined, feedingRule, feedings, feeding, same, howMany, settings, next, others, make, Pattern, matches, giving, CountsAgree}
 use Rattle.rules.specs.Families.{familiesAt, suspect, tested}
 use Rattle.rules.specs.Families as Families
 use Rattle.rules.specs.Checks.{answered, read, most-work}
@@ -24,6 +24,11 @@ use Rattle.rules.proofs.Blocks.{replyTo}
 use Rattle.rules.proofs.BlockCounts.{all-zero, p9, p9-read, p10, p10-read}
 use Rattle.rules.proofs.BlockOutputs.{fields}
 use Rattle.clusters.specs.Clusters.{feedingOf, Round, ClearGate, ProbesRound, ManyProbes, ManyProbesEverywhere, WiresRound, ManyWires, ManyWiresEverywhere, recordOf, Unmarked, RoundUnmarked}
+
+-- to unfold this is to compute feeding points, values and counts
+counted : Netlist → (points : List ℕ) → Pattern → (publics secrets : List Bool) → ℕ
+unfolding member insert union count table xor exclusiveOr kindOf listed operands fromOperands valueOf valueRule values isPoint joined feedingRule feedings feeding same howMany settings next others make matches giving
+counted = giving
 
 -- ---- gates that are clear, and one that is not
 
@@ -55,7 +60,7 @@ abbrev pub cluster-b : List ℕ
 cluster-b = 5 ∷ 1 ∷ 0 ∷ []
 
 pub b-not-round : ¬ Round p10 5 cluster-b
-unfolding member insert union table feedingRule feedings feeding Round
+unfolding counted Round
 b-not-round round = round 0 tt 0 tt
 
 module _ (n : Netlist) (gate : ℕ) where
@@ -67,7 +72,7 @@ module _ (n : Netlist) (gate : ℕ) where
 
 -- gate 5 itself, register 4 and input 1 lie round it
 pub b-round : Round p10 5 (5 ∷ 4 ∷ 1 ∷ [])
-unfolding member insert union table feedingRule feedings feeding Round
+unfolding counted Round
 b-round =
     all-front (Within p10 5) 5 (4 ∷ 1 ∷ []) (λ p t. t)
     (all-front (Within p10 5) 4 (1 ∷ []) (all-single (Feeds p10 5) 4 tt) (all-single (Within p10 5) 1 (all-single (Feeds p10 5) 1 tt)))
@@ -77,7 +82,7 @@ abbrev pub cluster-a : List ℕ
 cluster-a = 3 ∷ 2 ∷ 1 ∷ []
 
 pub a-round : Round p9 4 cluster-a
-unfolding member insert union table feedingRule feedings feeding Round
+unfolding counted Round
 a-round =
     all-front (Within p9 4) 3 (2 ∷ 1 ∷ []) (all-front (Feeds p9 4) 0 (2 ∷ []) tt (all-single (Feeds p9 4) 2 tt))
     (all-front (Within p9 4) 2 (1 ∷ []) (all-single (Feeds p9 4) 2 tt) (all-single (Within p9 4) 1 (all-single (Feeds p9 4) 1 tt)))
@@ -86,7 +91,7 @@ a-round =
 
 -- what feeds the two clusters
 pub cluster-feeding : (feedingOf p9 cluster-a ≡ 0 ∷ 2 ∷ 1 ∷ []) × (feedingOf p10 cluster-b ≡ 4 ∷ 1 ∷ 0 ∷ [])
-unfolding member insert union table feedingRule feedings feeding feedingOf
+unfolding counted feedingOf
 cluster-feeding = (refl, refl)
 
 -- beside secret 0 one mask setting gives the pattern of zeros on these points, and beside secret 1 none does
@@ -95,19 +100,19 @@ Differ n points = (giving n points all-zero [] (false ∷ []) ≡ 1) × (giving 
 
 -- so it is of both clusters, over what feeds them and over their own wires
 pub a-points : Differ p9 (feedingOf p9 cluster-a)
-unfolding member insert union count table xor exclusiveOr valueRule values feedingRule feedings feeding same howMany settings next others make matches giving feedingOf
+unfolding counted feedingOf
 a-points = (refl, refl)
 
 pub a-wires : Differ p9 cluster-a
-unfolding count table xor exclusiveOr valueRule values same howMany settings next others make matches giving
+unfolding counted
 a-wires = (refl, refl)
 
 pub b-points : Differ p10 (feedingOf p10 cluster-b)
-unfolding member insert union count table xor exclusiveOr valueRule values feedingRule feedings feeding same howMany settings next others make matches giving feedingOf
+unfolding counted feedingOf
 b-points = (refl, refl)
 
 pub b-wires : Differ p10 cluster-b
-unfolding count table xor exclusiveOr valueRule values same howMany settings next others make matches giving
+unfolding counted
 b-wires = (refl, refl)
 
 -- such counts do not agree
@@ -126,11 +131,11 @@ unfolding WiresRound
 a-wires-round round = disagree p9 cluster-a a-wires (round cluster-a a-round)
 
 pub a-probes-everywhere : ¬ ManyProbesEverywhere (P9 .bytes)
-unfolding tested ManyProbesEverywhere
+unfolding kindOf tested ManyProbesEverywhere
 a-probes-everywhere everywhere = a-probes-round (everywhere p9 p9-read 4 (record { there = omega arith; isTested = tt }))
 
 pub a-wires-everywhere : ¬ ManyWiresEverywhere (P9 .bytes)
-unfolding tested ManyWiresEverywhere
+unfolding kindOf tested ManyWiresEverywhere
 a-wires-everywhere everywhere = a-wires-round (everywhere p9 p9-read 4 (record { there = omega arith; isTested = tt }))
 
 -- So a gate that is clear for settled signals is not enough: with that in its place the statement would
@@ -177,7 +182,7 @@ abbrev pub card-a : List ℕ
 card-a = 3 ∷ 2 ∷ 0 ∷ []
 
 pub a-card-round : Round p9 3 card-a
-unfolding member insert union table feedingRule feedings feeding Round
+unfolding counted Round
 a-card-round =
     all-front (Within p9 3) 3 (2 ∷ 0 ∷ []) (λ p t. t)
     (all-front (Within p9 3) 2 (0 ∷ []) (all-single (Feeds p9 3) 2 tt) (all-single (Within p9 3) 0 (all-single (Feeds p9 3) 0 tt)))

@@ -1,21 +1,23 @@
 -- A node's settled value follows from those of its feeding points: it is what the rules make of them. So where the
 -- counts agree on some points, they agree on these and all nodes that no other point feeds. Assumes nothing.
 use Prim.Native.Nat.{ℕ}
-use mathlib.Core.Path.{_≡_, refl, sym, ap, ap₂, _∙_, subst}
-use mathlib.Core.Bool.{Bool, true, false, cond, not, xor, _&&_, _||_, Bool·beq, and-false}
+use mathlib.Core.Path.{_≡_, refl, sym, ap, _∙_, subst}
+use mathlib.Core.Bool.{Bool, true, false, cond, _&&_, Bool·beq, and-false}
 use mathlib.Core.List.{List, [], _∷_}
 use lib.Dec.{T}
 use lib.ListN.{length, getD, take}
 use Rattle.rules.specs.Lists.{member, insert, union, count}
 use Rattle.rules.specs.Tables.{table}
-use Rattle.rules.specs.Records.{mask, Cell, input, NOT, XOR, AND, OR, register, Netlist}
-use Rattle.rules.specs.Values.{Assignment, exclusiveOr, valueRule, values, feedingRule, feedings, feeding, howMany, settings, make, Pattern, matches, giving, CountsAgree}
+use Rattle.rules.specs.Records.{mask, operandCount, Cell, input, gate, kindOf, operands, Netlist}
+use Rattle.rules.specs.Values.{Assignment, valueOf, valueRule, values, isPoint, joined, feedingRule, feedings, feeding, howMany, settings, make, Pattern, matches, giving, CountsAgree}
 use Rattle.rules.proofs.Tests.{pass, same-bit, and-left, and-right}
 use Rattle.rules.proofs.Lists.{member-head, member-tail, union-left, union-right, count-ext}
 use Rattle.rules.proofs.Members.{All, all-insert}
 use Rattle.rules.proofs.Tables.{table-entry}
-use Rattle.rules.proofs.Entries.{isPoint, each-entry, length-done}
-use Rattle.rules.proofs.Points.{matches-union, matches-among, agree-among}
+use Rattle.rules.proofs.Operands.{from-same}
+use Rattle.rules.proofs.Entries.{each-entry, length-done}
+use Rattle.rules.proofs.Feeding.{joined-fed}
+use Rattle.rules.proofs.Points.{matches-among, agree-among}
 
 -- ---- the value of a node by a pattern
 
@@ -66,22 +68,22 @@ module _ (n : Netlist) (x : Assignment) (z : Pattern) where
     at-point i v e f own t =
         sym own ∙ same-bit (getD (values n x) i false) (z i) (and-left (Bool·beq (getD (values n x) i false) (z i)) true (rw e at t)) ∙ ap z (sym f)
 
-    -- a gate of two operands
-    at-pair : (op : Bool → Bool → Bool) (a b : ℕ) → T (seen (union (fed a) (fed b)))
-        → op (getD (done settledOf) a false) (getD (done settledOf) b false) ≡ op (getD (done namedOf) a false) (getD (done namedOf) b false)
-    at-pair op a b t =
-        let both = subst T (matches-union (values n x) (fed a) (fed b) z) t in
-        ap₂ op (so-far a (and-left (seen (fed a)) (seen (fed b)) both)) (so-far b (and-right (seen (fed a)) (seen (fed b)) both))
+    -- a gate, whose operands' feeding points are among its own
+    operand-seen : (nodes : List ℕ) → T (seen (joined fed nodes)) → (a : ℕ) → T (member a nodes) → T (seen (fed a))
+    operand-seen nodes t a m =
+        and-right (seen (joined fed nodes)) (seen (fed a))
+        (subst T (matches-among (values n x) (joined fed nodes) (fed a) z (λ p u. joined-fed fed p nodes (a, m, u))) t)
 
     at-node : (i : ℕ) → length (done pointsOf) ≡ i → length (done namedOf) ≡ i → (cell : Cell)
         → getD (values n x) i false ≡ valueRule x (done settledOf) cell → Follows (λ l. rule l (done l) cell)
-    unfolding feedingRule valueRule byPattern isPoint
-    at-node i e f (input s) own t = at-point i (exclusiveOr s x) e f own t
-    at-node i e f (NOT a) own t = ap not (so-far a t)
-    at-node i e f (XOR a b) own t = at-pair xor a b t
-    at-node i e f (AND a b) own t = at-pair _&&_ a b t
-    at-node i e f (OR a b) own t = at-pair _||_ a b t
-    at-node i e f (register a) own t = at-point i (getD (done settledOf) a false) e f own t
+    unfolding kindOf operands valueRule isPoint feedingRule byPattern
+    at-node i e f (input s) own t = at-point i _ e f own t
+    at-node i e f (gate kind ops) own t = go (isPoint (gate kind ops)) t
+      where
+        go : (b : Bool) → T (seen (cond b (length (done pointsOf) ∷ []) (joined fed (operands (gate kind ops)))))
+            → valueRule x (done settledOf) (gate kind ops) ≡ cond b (z (length (done namedOf))) (valueRule [] (done namedOf) (gate kind ops))
+        go true u = at-point i _ e f own u
+        go false u = from-same (operandCount kind) (valueOf kind) _ _ ops (λ a m. so-far a (operand-seen _ u a m))
 
   -- A node's settled value follows from those of its feeding points.
   pub follows : (i : ℕ) → T (matches (values n x) (feeding n i) z) → getD (values n x) i false ≡ valueBy n z i

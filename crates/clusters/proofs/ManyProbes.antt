@@ -3,7 +3,6 @@
 -- feeds. And so round every gate of a block that the checker answers clear for glitching signals. Assumes nothing.
 use Prim.Native.Nat.{ℕ}
 use mathlib.Core.Path.{_≡_, subst}
-use mathlib.Core.Logic.{⊎-elim}
 use mathlib.Core.List.{List, [], _∷_}
 use lib.Dec.{T}
 use Rattle.rules.specs.Lists.{member}
@@ -14,8 +13,9 @@ use Rattle.rules.specs.Slices.{reply}
 use Rattle.rules.specs.declared.Reply.{Reply}
 use Rattle.rules.specs.Paper.{replyOf}
 use Rattle.rules.specs.Demands.{GlitchClear, NoSuspect, TestedNode, OneProbe, EndsClear}
-use Rattle.rules.proofs.Lists.{member-head, member-tail, member-cases, union-left, union-right}
-use Rattle.rules.proofs.Members.{All, all-none, all-single, all-union}
+use Rattle.rules.proofs.Lists.{member-head}
+use Rattle.rules.proofs.Members.{All, all-single}
+use Rattle.rules.proofs.Feeding.{joined-fed, joined-of}
 use Rattle.rules.proofs.Points.{agree-among}
 use Rattle.rules.proofs.Probe.{node-agrees, none-suspect}
 use Rattle.rules.proofs.ClearLine.{clear-line}
@@ -28,18 +28,12 @@ module _ (n : Netlist) where
   -- what feeds a node of the cluster feeds the cluster
   pub node-feeds : (cluster : List ℕ) (i : ℕ) → T (member i cluster) → All (λ p. T (member p (feedingOf n cluster))) (feeding n i)
   unfolding feedingOf
-  node-feeds [] i m p t = absurd (unfold member in m)
-  node-feeds (j ∷ cluster) i m p t =
-      ⊎-elim (λ e. union-left p (feeding n j) _ (subst (λ (k : ℕ). T (member p (feeding n k))) e t))
-      (λ u. union-right p (feeding n j) _ (node-feeds cluster i u p t)) (member-cases i j cluster m)
+  node-feeds cluster i m p t = joined-fed (feeding n) p cluster (i, m, t)
 
   -- and what feeds a cluster round a gate feeds the gate
   pub round-feeds : (gate : ℕ) (cluster : List ℕ) → Round n gate cluster → All (λ p. T (member p (feeding n gate))) (feedingOf n cluster)
   unfolding feedingOf Round
-  round-feeds gate [] round = all-none (λ p. T (member p (feeding n gate)))
-  round-feeds gate (i ∷ cluster) round =
-      all-union (λ p. T (member p (feeding n gate))) (feeding n i) (feedingOf n cluster) (round i (member-head i cluster))
-      (round-feeds gate cluster (λ k m. round k (member-tail k i cluster m)))
+  round-feeds gate cluster round p t = let (i, m, u) = joined-of (feeding n) p cluster t in round i m p u
 
 -- ---- one gate
 

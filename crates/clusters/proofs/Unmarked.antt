@@ -3,11 +3,11 @@
 -- Of the node records that a check leaves, and of those of an open block. Assumes nothing.
 use Prim.Native.Nat.{ℕ, _<_}
 use mathlib.Core.Path.{_≡_, refl, sym, ap, subst, _∙_}
-use mathlib.Core.Bool.{Bool, true, false, not}
+use mathlib.Core.Bool.{true, not}
 use mathlib.Core.List.{List, map}
 use mathlib.Core.Option.{none}
 use native.Mathlib.Omega.{arith}
-use borrow.Author.Tests.{eqb-true}
+use borrow.Author.Tests.{ne-eqb}
 use lib.ListN.{length, getD, take, List·getD-map}
 use lib.Seq.{getD-take}
 use Rattle.rules.specs.declared.Node.{Node}
@@ -20,7 +20,7 @@ use Rattle.rules.specs.Checks.{Outcome, answered, refused, andThen, read, admit
 use Rattle.rules.specs.Slices.{entry, markNumber, markOf, nodeRecord, nodeRecords, nodesAfter, reply}
 use Rattle.rules.specs.Paper.{replyOf}
 use Rattle.rules.proofs.Halves.{reported-none, layer-mark}
-use Rattle.rules.proofs.Marks.{mark-written, mark-told, tested-kind, record-nodes, record-glitch, checked-records}
+use Rattle.rules.proofs.Marks.{mark-written, mark-told, record-nodes, record-glitch, checked-records}
 use Rattle.rules.proofs.Room.{admitted-says}
 use Rattle.rules.proofs.Written.{write-read}
 use Rattle.clusters.specs.Clusters.{ClearGate, ManyProbes, ManyWires, recordOf, Unmarked, RoundUnmarked}
@@ -28,11 +28,8 @@ use Rattle.clusters.proofs.ManyProbes.{many-probes, many-wires}
 
 -- a kind above 2 is tested
 kind-tested : (cell : Cell) → 2 < kindOf cell → tested cell ≡ true
-kind-tested cell above = go (tested cell) refl
-  where
-    go : (b : Bool) → tested cell ≡ b → b ≡ true
-    go true e = refl
-    go false e = absurd (omega (arith, eqb-true (kindOf cell) 2 (tested-kind cell ∙ ap not e)))
+unfolding tested
+kind-tested cell above = ap not (ne-eqb (kindOf cell) 2 (λ e. omega (arith, e)))
 
 -- ---- a slice that holds the node records of a netlist at its front
 

@@ -5,14 +5,14 @@
 use Prim.Native.Nat.{ℕ, _<_}
 use mathlib.Core.Path.{_≡_}
 use mathlib.Core.Bool.{not}
-use mathlib.Core.List.{List, [], _∷_}
+use mathlib.Core.List.{List}
 use mathlib.Core.Option.{none}
 use lib.Dec.{T}
 use lib.ListN.{length, getD}
 use Rattle.rules.specs.declared.NodeRecord.{NodeRecord}
-use Rattle.rules.specs.Lists.{member, union}
+use Rattle.rules.specs.Lists.{member}
 use Rattle.rules.specs.Records.{input, Netlist}
-use Rattle.rules.specs.Values.{feeding, CountsAgree}
+use Rattle.rules.specs.Values.{joined, feeding, CountsAgree}
 use Rattle.rules.specs.Families.{familiesAt, suspect}
 use Rattle.rules.specs.Checks.{answered, read}
 use Rattle.rules.specs.Slices.{nodeRecord}
@@ -20,8 +20,7 @@ use Rattle.rules.specs.Demands.{TestedNode}
 
 -- the feeding points of a cluster, which is any list of nodes: those of all of them together, each listed once
 unfoldable pub feedingOf : Netlist → (cluster : List ℕ) → List ℕ
-feedingOf n [] = []
-feedingOf n (i ∷ cluster) = union (feeding n i) (feedingOf n cluster)
+feedingOf n cluster = joined (feeding n) cluster
 
 -- the cluster lies round a gate: the feeding points of its nodes are all among the gate's
 unfoldable pub Round : Netlist → (gate : ℕ) → (cluster : List ℕ) → Type 0

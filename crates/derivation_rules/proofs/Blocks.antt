@@ -5,18 +5,18 @@ use Prim.Native.Nat.{ℕ}
 use mathlib.Core.Path.{_≡_, refl}
 use mathlib.Core.List.{List, [], _∷_, _++_}
 use lib.ListN.{replicate}
-use Rattle.rules.specs.Records.{mask, input, NOT, XOR, AND, OR, Netlist}
+use Rattle.rules.specs.Records.{NOT, XOR, AND, OR, listed, mask, input, gate, Netlist}
 use Rattle.rules.specs.Families.{families, familiesAt}
 use Rattle.rules.specs.Checks.{Outcome, answered, refused, nodeCheck, numberCheck, queriedWith}
 use Rattle.rules.specs.Slices.{filled}
 use Rattle.rules.specs.Blocks.{P9}
 use Rattle.rules.proofs.Blocks.{replyTo}
 use Rattle.rules.proofs.BlockCounts.{p9, p10}
-use Rattle.derivation_rules.specs.Derivations.{Layer, settled, glitch, layerNumber, familyIn, Step, step, stepBytes, stepsOut, claim, way, claimed, lowestSet, wayOfBoth, wayOfSpread, chosen, explained, derivationRule, derivation, layerOf, inFamily, fitting, derived, setCheck, stepsCheck, explainable, derivable, stepsReply, stepsAfter}
+use Rattle.derivation_rules.specs.Derivations.{Layer, settled, glitch, layerNumber, familyIn, Step, step, stepBytes, stepsOut, claim, way, lowestSet, rulesOf, layerBelow, picked, productOf, needed, firstMade, chosen, explained, derivationRule, derivation, layerOf, inFamily, fitting, derived, setCheck, stepsCheck, explainable, derivable, stepsReply, stepsAfter}
 
 -- to unfold these is to compute them
 derivationOf : Netlist → (i : ℕ) → Layer → (set : ℕ) → List Step
-unfolding replyTo familiesAt familyIn claimed lowestSet wayOfBoth wayOfSpread chosen explained derivationRule derivation
+unfolding replyTo familiesAt familyIn lowestSet listed rulesOf layerBelow picked productOf needed firstMade chosen explained derivationRule derivation
 derivationOf = derivation
 
 replyOf : List ℕ → (node layer set bytes : ℕ) → Outcome ℕ
@@ -91,7 +91,7 @@ b-derivation = refl
 
 -- an input without a variable and one with a mask, XOR of every two of them, AND, and NOT of each
 abbrev pub small : Netlist
-small = record { variables = mask ∷ []; nodes = input 0 ∷ input 1 ∷ XOR 0 0 ∷ XOR 0 1 ∷ XOR 1 0 ∷ XOR 1 1 ∷ AND 0 1 ∷ NOT 0 ∷ NOT 1 ∷ [] }
+small = record { variables = mask ∷ []; nodes = input 0 ∷ input 1 ∷ gate XOR (0, (0, tt)) ∷ gate XOR (0, (1, tt)) ∷ gate XOR (1, (0, tt)) ∷ gate XOR (1, (1, tt)) ∷ gate AND (0, (1, tt)) ∷ gate NOT (0, tt) ∷ gate NOT (1, tt) ∷ [] }
 
 -- A settled XOR goes by rule 6, even where the set is empty, or the first or the second operand alone has it.
 pub settled-xors : (derivation small 2 settled 0 ≡ step 2 settled 6 0 ∷ step 0 settled 1 0 ∷ step 0 settled 1 0 ∷ [])
@@ -120,11 +120,11 @@ empty-sets = (refl, refl, refl)
 
 -- three masks; two gates with the families 0, 4, 3, 7 and 0, 2, 5, 7; and XOR of them
 abbrev pub two-ways : Netlist
-two-ways = record { variables = mask ∷ mask ∷ mask ∷ []; nodes = input 4 ∷ input 3 ∷ input 2 ∷ input 5 ∷ AND 0 1 ∷ OR 2 3 ∷ XOR 4 5 ∷ [] }
+two-ways = record { variables = mask ∷ mask ∷ mask ∷ []; nodes = input 4 ∷ input 3 ∷ input 2 ∷ input 5 ∷ gate AND (0, (1, tt)) ∷ gate OR (2, (3, tt)) ∷ gate XOR (4, (5, tt)) ∷ [] }
 
 -- Set 1 is the difference of 3 and 2, and of 4 and 5. Rule 6 takes the lower-numbered 3, though 4 stands first in
 -- the family and has fewer variables.
-pub lowest-taken : (chosen (families two-ways) glitch (XOR 4 5) 1 ≡ way 6 (claim 4 glitch 3 ∷ claim 5 glitch 2 ∷ []))
+pub lowest-taken : (chosen (families two-ways) glitch (gate XOR (4, (5, tt))) 1 ≡ way 6 (claim 4 glitch 3 ∷ claim 5 glitch 2 ∷ []))
     × (derivation two-ways 6 glitch 1 ≡ step 6 glitch 6 1 ∷ step 4 glitch 5 3 ∷ step 1 glitch 1 3 ∷ step 5 glitch 4 2 ∷ step 2 glitch 1 2 ∷ [])
     × (derivation two-ways 6 settled 1 ≡ step 6 settled 6 1 ∷ step 4 settled 5 3 ∷ step 1 settled 1 3 ∷ step 5 settled 4 2 ∷ step 2 settled 1 2 ∷ [])
 unfolding derivationOf

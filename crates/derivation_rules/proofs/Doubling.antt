@@ -12,34 +12,34 @@ use lib.Dec.{T}
 use lib.ListN.{length, getD, length-append}
 use lib.Pow.{pow-mono}
 use Rattle.rules.specs.Lists.{member, tabulate}
-use Rattle.rules.specs.Records.{Cell, input, XOR, Netlist, WellFormed, most-nodes, operands, setOf}
-use Rattle.rules.specs.Families.{Family, settledRule, familiesRule, familiesAt}
+use Rattle.rules.specs.Records.{XOR, listed, fromOperands, Cell, input, gate, Netlist, WellFormed, most-nodes, operands, setOf}
+use Rattle.rules.specs.Families.{Family, settledOf, familyRule, familiesRule, familiesAt}
 use Rattle.rules.specs.Checks.{refused, judged}
 use Rattle.rules.proofs.Lists.{member-head, product-holds}
 use Rattle.rules.proofs.Tests.{same-test}
 use Rattle.rules.proofs.Members.{All, all-none, all-front, all-single}
 use Rattle.rules.proofs.Packing.{tabulate-length, tabulate-at}
-use Rattle.derivation_rules.specs.Derivations.{settled, familyIn, Is, claim, way, claimed, lowestSet, wayOfBoth, chosen, explained, derivation, layerOf, inFamily, most-steps, derived, setCheck, stepsCheck, explainable}
+use Rattle.derivation_rules.specs.Derivations.{settled, familyIn, Is, rulesOf, layerBelow, picked, claim, way, lowestSet, productOf, needed, firstMade, chosen, explained, derivation, layerOf, inFamily, most-steps, derived, setCheck, stepsCheck, explainable}
 use Rattle.derivation_rules.proofs.Lowest.{lowest-least}
 use Rattle.derivation_rules.proofs.Derivation.{own-family, family-of, chosenAt, derivation-unfolds}
 
 -- no variables; an input of the empty set, and behind it so many gates
 abbrev pub chain : (gates : ℕ) → Netlist
-chain gates = record { variables = []; nodes = input 0 ∷ tabulate (λ j. XOR j j) gates }
+chain gates = record { variables = []; nodes = input 0 ∷ tabulate (λ j. gate XOR (j, (j, tt))) gates }
 
 -- how many nodes it has, and what they are
 chain-length : (gates : ℕ) → length (chain gates .nodes) ≡ suc gates
-chain-length gates = ap suc (tabulate-length (λ j. XOR j j) gates)
+chain-length gates = ap suc (tabulate-length (λ j. gate XOR (j, (j, tt))) gates)
 
 input-is : (gates : ℕ) → Is (chain gates) 0 (input 0)
 input-is gates = record { there = omega arith; same = refl }
 
-gate-is : (gates j : ℕ) → j < gates → Is (chain gates) (suc j) (XOR j j)
-gate-is gates j h = record { there = omega (arith, chain-length gates); same = tabulate-at (λ j. XOR j j) gates j (input 0) h }
+gate-is : (gates j : ℕ) → j < gates → Is (chain gates) (suc j) (gate XOR (j, (j, tt)))
+gate-is gates j h = record { there = omega (arith, chain-length gates); same = tabulate-at (λ j. gate XOR (j, (j, tt))) gates j (input 0) h }
 
 -- The chain obeys the record rules.
 pub chain-formed : (gates : ℕ) → gates < most-nodes → WellFormed (chain gates)
-unfolding operands setOf
+unfolding listed operands setOf
 chain-formed gates few = record {
   few-variables = omega arith;
   few-nodes = omega (arith, chain-length gates);
@@ -64,7 +64,7 @@ module _ (gates : ℕ) (few : gates < most-nodes) where
 
   -- The empty set is in each node's settled family.
   pub chain-holds : (i : ℕ) → i ≤ gates → T (member 0 (familyIn settled (familiesAt (chain gates) i)))
-  unfolding familyIn familiesAt settledRule familiesRule
+  unfolding familyIn familiesAt fromOperands settledOf familyRule familiesRule
   chain-holds zero h = rw (own-family (chain gates) formed (input-is gates) settled) (member-head 0 [])
   chain-holds (suc j) h =
       let t = chain-holds j (omega arith) in
@@ -72,7 +72,7 @@ module _ (gates : ℕ) (few : gates < most-nodes) where
 
   -- at a gate, the empty set needs that of the operand, twice
   needs-empty : (j : ℕ) → j < gates → chosenAt (chain gates) (suc j) settled 0 ≡ way 6 (claim j settled 0 ∷ claim j settled 0 ∷ [])
-  unfolding familiesAt claimed wayOfBoth chosen
+  unfolding familiesAt listed rulesOf layerBelow picked productOf needed firstMade chosen
   needs-empty j h = let t = chain-holds j (omega arith) in rw (gate-is gates j h .same, lowest-empty)
 
   -- The empty set's derivation at node i has 2 to the power i + 1 steps, less one: twice those of

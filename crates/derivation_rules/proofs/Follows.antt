@@ -2,27 +2,27 @@
 -- nodes, and over the steps. Of all steps that follow for the set, none begin with a lower rule than its derivation,
 -- which by rule 6 goes on with the first operand's lowest set that works. Assumes nothing.
 use Prim.Native.Nat.{ℕ, zero, suc, _*_, _≤_, _<_}
-use mathlib.Core.Path.{_≡_, refl, sym, ap}
-use mathlib.Core.Logic.{_⊎_, inl, inr, ⊎-elim}
-use mathlib.Core.List.{List, [], _∷_}
+use mathlib.Core.Path.{_≡_, refl, sym, ap, _∙_, subst}
+use mathlib.Core.List.{List, [], _∷_, append-nil}
 use native.Mathlib.Omega.{arith}
 use lib.Bits.{bitXor}
 use lib.Dec.{T, ltb, lt→ltb}
-use lib.ListN.{length, length-append}
+use lib.ListN.{length, getD, length-append}
 use Rattle.rules.specs.Lists.{member}
-use Rattle.rules.specs.Records.{XOR, Netlist, WellFormed}
-use Rattle.rules.specs.Families.{settledRule, glitchRule, familiesRule, families, familiesAt}
-use Rattle.rules.proofs.Lists.{member-head, insert-old, insert-new, product-holds, spread-first, spread-second, spread-both, spread-empty}
-use Rattle.rules.proofs.Tests.{and-both}
+use Rattle.rules.specs.Records.{Kind, operandCount, Operands, listed, Cell, input, gate, Netlist, WellFormed}
+use Rattle.rules.specs.Families.{Family, families, familiesAt}
+use Rattle.rules.proofs.Lists.{member-head, member-tail, product-holds}
+use Rattle.rules.proofs.Members.{All, all-single}
+use Rattle.rules.proofs.Tests.{or-left, or-right, and-both}
 use Rattle.rules.proofs.Reading.{read-well-formed}
-use Rattle.derivation_rules.specs.Derivations.{Layer, settled, glitch, familyIn, Step, step, stepBytes, step-size, stepsOut, Is, Spreading, xor-glitch, and-either, or-either, Gate, xor-gate, and-gate, or-gate, Follows, own, inverted, stored, empty-not, empty-gate, first, second, both, Claim, claim, Way, claimed, wayOfBoth, wayOfSpread, chosen, Derivations, derivation, inFamily, Certificate}
+use Rattle.derivation_rules.specs.Derivations.{Layer, familyIn, Step, step, stepBytes, step-size, stepsOut, Is, Choice, layerBelow, picked, In, here, there, Follows, own, made, FollowsEach, none, one, more, claim, Way, lowestSet, familyOf, productOf, needed, chosen, explained, derivation, inFamily, Certificate}
 use Rattle.derivation_rules.proofs.Lowest.{lowest-least}
-use Rattle.derivation_rules.proofs.Derivation.{family-of, own-family, stored-family, spread-family, not-ways, spread-ways, chosenAt, NeedsHeld, StepsFollow, xor-rest, chosen-works, derivation-unfolds}
+use Rattle.derivation_rules.proofs.Derivation.{own-family, isMade, made-family, chosenAt, xor-rest, xor-back, lowest-left, picked-lower, taken, derivation-unfolds}
 
 -- ---- the first of the steps
 
 -- the rule of the first step
-abbrev pub firstRule : List Step → ℕ
+abbrev firstRule : List Step → ℕ
 firstRule [] = 0
 firstRule (s ∷ steps) = s .rule
 
@@ -30,13 +30,7 @@ firstRule (s ∷ steps) = s .rule
 pub follows-begins : {n : Netlist} {i : ℕ} {ℓ : Layer} {A : ℕ} {steps : List Step} → Follows n i ℓ A steps
     → (rule : ℕ) × (below : List Step) × (steps ≡ step i ℓ rule A ∷ below)
 follows-begins (own is) = (_, _, refl)
-follows-begins (inverted is f) = (_, _, refl)
-follows-begins (stored is f) = (_, _, refl)
-follows-begins (empty-not is) = (_, _, refl)
-follows-begins (empty-gate s) = (_, _, refl)
-follows-begins (first s f) = (_, _, refl)
-follows-begins (second s f) = (_, _, refl)
-follows-begins (both gate f g) = (_, _, refl)
+follows-begins (made is c each) = (_, _, refl)
 
 -- no list of steps that follows is empty
 pub follows-some : {n : Netlist} {i : ℕ} {ℓ : Layer} {A : ℕ} → Follows n i ℓ A [] → ⊥
@@ -44,23 +38,40 @@ follows-some f = let (rule, below, e) = follows-begins f in omega (arith, ap {B 
 
 -- ---- the derivation follows
 
--- where the derivations of lower nodes follow, so do those of what is needed
-needs-follow : (n : Netlist) (i : ℕ) (at : ℕ → Derivations)
-    → ((k : ℕ) → k < i → (ℓ : Layer) (A : ℕ) → T (member A (familyIn ℓ (familiesAt n k))) → Follows n k ℓ A (at k ℓ A))
-    → (needs : List Claim) → NeedsHeld n i needs → StepsFollow n at needs
-unfolding claimed familiesAt
-needs-follow n i at f [] held = tt
-needs-follow n i at f (c ∷ needs) (l, t, held) = (f (c .node) l (c .layer) (c .set) t, needs-follow n i at f needs held)
+-- the derivations of a set of the family of each node below a bound follow
+abbrev FollowBelow : Netlist → (bound : ℕ) → Type 0
+FollowBelow n bound =
+    (k : ℕ) → k < bound → (ℓ : Layer) (A : ℕ) → T (member A (familyIn ℓ (familiesAt n k))) → Follows n k ℓ A (derivation n k ℓ A)
+
+-- then those of what is needed of such nodes do
+needed-follow : (n : Netlist) → WellFormed n → (i : ℕ) → FollowBelow n i → (ℓ : Layer) (nodes : List ℕ) (A : ℕ) → All (λ a. a < i) nodes
+    → T (member A (productOf (familyOf (families n) ℓ) nodes)) → FollowsEach n nodes ℓ A (explained (derivation n) (needed (families n) ℓ nodes A))
+unfolding needed explained productOf familiesAt
+needed-follow n formed i f ℓ [] A lower t = rw (all-single (λ B. B ≡ 0) 0 refl A t) none
+needed-follow n formed i f ℓ (a ∷ []) A lower t = rw append-nil (one (f a (lower a (member-head a [])) ℓ A t))
+needed-follow n formed i f ℓ (a ∷ b ∷ nodes) A lower t =
+    let B = lowestSet (λ B. member (bitXor A B) (productOf (familyOf (families n) ℓ) (b ∷ nodes))) (familyOf (families n) ℓ a) in
+    let (m, left) = lowest-left n formed ℓ a _ A t in
+    subst (λ (X : ℕ). FollowsEach n (a ∷ b ∷ nodes) ℓ X (explained (derivation n) (needed (families n) ℓ (a ∷ b ∷ nodes) A))) (xor-back A B)
+    (more (f a (lower a (member-head a _)) ℓ B m) (needed-follow n formed i f ℓ (b ∷ nodes) _ (λ c u. lower c (member-tail c a _ u)) left))
+
+-- of a node over those below it
+follow-at : (n : Netlist) → WellFormed n → (i : ℕ) → FollowBelow n i → (cell : Cell) → Is n i cell → (ℓ : Layer) (A : ℕ)
+    → T (member A (familyIn ℓ (familiesAt n i)))
+    → let w = chosen (families n) ℓ cell A in Follows n i ℓ A (step i ℓ (w .rule) A ∷ explained (derivation n) (w .needs))
+unfolding chosen explained
+follow-at n formed i f (input s) is ℓ A t = rw (all-single (λ B. B ≡ s) s refl A (rw (own-family n formed is ℓ) at t)) (own is)
+follow-at n formed i f (gate kind ops) is ℓ A t =
+    let w = taken n formed is ℓ A t in
+    rw (w .is) (made is (w .among) (needed-follow n formed i f (layerBelow kind ℓ) _ A (picked-lower n formed is (w .by .operands)) (w .makes)))
 
 -- of the nodes below a bound
 follow-below : (n : Netlist) → WellFormed n → (m i : ℕ) → i < m → i < length (n .nodes) → (ℓ : Layer) (A : ℕ)
     → T (member A (familyIn ℓ (familiesAt n i))) → Follows n i ℓ A (derivation n i ℓ A)
 follow-below n formed zero i l h ℓ A t = absurd (omega arith)
 follow-below n formed (suc m) i l h ℓ A t =
-    let works = chosen-works n formed i h ℓ A t in
     rw (derivation-unfolds n formed i h ℓ A t)
-    (works .follow (derivation n)
-    (needs-follow n i (derivation n) (λ k b. follow-below n formed m k (omega arith) (omega arith)) (chosenAt n i ℓ A .needs) (works .held)))
+    (follow-at n formed i (λ k b. follow-below n formed m k (omega arith) (omega arith)) (getD (n .nodes) i (input 0)) (record { there = h; same = refl }) ℓ A t)
 
 -- the derivation of a set that is in the family follows from the rules
 pub derivation-follows : (n : Netlist) → WellFormed n → (i : ℕ) → i < length (n .nodes) → (ℓ : Layer) (A : ℕ)
@@ -69,88 +80,59 @@ derivation-follows n formed i = follow-below n formed (suc i) i (omega arith)
 
 -- ---- what follows is in the family
 
--- a gate in a layer: XOR of settled signals, or a gate that spreads
-data GateIn (n : Netlist) (i a b : ℕ) : Layer → Type 0 where
-  settled-xor : Is n i (XOR a b) → GateIn n i a b settled
-  spreading : {ℓ : Layer} → Spreading n i ℓ a b → GateIn n i a b ℓ
-
-gate-in : {n : Netlist} {i a b : ℕ} → Gate n i a b → (ℓ : Layer) → GateIn n i a b ℓ
-gate-in (xor-gate is) settled = settled-xor is
-gate-in (xor-gate is) glitch = spreading (xor-glitch is)
-gate-in (and-gate is) ℓ = spreading (and-either is)
-gate-in (or-gate is) ℓ = spreading (or-either is)
+-- what one of these choices makes is made
+in-made : (F : ℕ → Family) (operands : List ℕ) {choices : List Choice} {c : Choice} (A : ℕ) → In c choices
+    → T (member A (productOf F (picked (c .operands) operands))) → T (isMade F operands choices A)
+in-made F operands {c = c} A here t = or-left (member A (productOf F (picked (c .operands) operands))) _ t
+in-made F operands A (there {d = d} m) t = or-right (member A (productOf F (picked (d .operands) operands))) _ (in-made F operands A m t)
 
 module _ (n : Netlist) (formed : WellFormed n) where
-  -- a gate's family holds the difference of a set of the one operand and one of the other
-  gate-holds : {i a b : ℕ} {ℓ : Layer} → GateIn n i a b ℓ → (B C : ℕ) → T (member B (familyIn ℓ (familiesAt n a)))
-      → T (member C (familyIn ℓ (familiesAt n b))) → T (member (bitXor B C) (familyIn ℓ (familiesAt n i)))
-  unfolding familyIn familiesAt settledRule familiesRule
-  gate-holds (settled-xor is) B C t u = rw (family-of n formed is settled) (product-holds _ _ B C t u)
-  gate-holds (spreading s) B C t u = rw (spread-family n formed s) (spread-both _ _ B C t u)
+  -- where steps follow for each of some nodes, what is made of the sets is among what is made of their families
+  pub each-in-family : {nodes : List ℕ} {ℓ : Layer} {A : ℕ} {steps : List Step} → FollowsEach n nodes ℓ A steps
+      → T (member A (productOf (familyOf (families n) ℓ) nodes))
+  unfolding productOf familiesAt
+  each-in-family f =
+      elim f as (λ i ℓ A steps f. T (member A (familyIn ℓ (familiesAt n i)))) (λ nodes ℓ A steps f. T (member A (productOf (familyOf (families n) ℓ) nodes))) [
+        | own {ℓ = ℓ} {A = A} is ↦ rw (own-family n formed is ℓ) (member-head A [])
+        | made {ℓ = ℓ} {A = A} is c (each → t) ↦ rw (made-family n formed is ℓ A) (in-made _ _ A c t)
+        | none ↦ member-head 0 []
+        | one (f → t) ↦ t
+        | more {B = B} {C = C} (f → t) (each → u) ↦ product-holds _ _ B C t u
+      ]
 
   -- a set for which steps follow is in the family
   pub follows-in-family : {i : ℕ} {ℓ : Layer} {A : ℕ} {steps : List Step} → Follows n i ℓ A steps → T (member A (familyIn ℓ (familiesAt n i)))
-  unfolding familyIn familiesAt settledRule glitchRule familiesRule
-  follows-in-family (own {ℓ = ℓ} {A = A} is) = rw (own-family n formed is ℓ) (member-head A [])
-  follows-in-family (inverted {ℓ = settled} is f) = rw (family-of n formed is settled) (follows-in-family f)
-  follows-in-family (inverted {ℓ = glitch} {A = A} is f) = rw (family-of n formed is glitch) (insert-old A 0 _ (follows-in-family f))
-  follows-in-family (stored {ℓ = ℓ} is f) = rw (stored-family n formed is ℓ) (follows-in-family f)
-  follows-in-family (empty-not is) = rw (family-of n formed is glitch) (insert-new 0 _)
-  follows-in-family (empty-gate s) = rw (spread-family n formed s) (spread-empty _ _)
-  follows-in-family (first {A = A} s f) = rw (spread-family n formed s) (spread-first _ _ A (follows-in-family f))
-  follows-in-family (second {A = A} s f) = rw (spread-family n formed s) (spread-second _ _ A (follows-in-family f))
-  follows-in-family (both {ℓ = ℓ} {B = B} {C = C} gate f g) = gate-holds (gate-in gate ℓ) B C (follows-in-family f) (follows-in-family g)
+  unfolding productOf familiesAt
+  follows-in-family f = each-in-family (one f)
 
-  -- ---- the first rule that works, and the lowest set
+-- ---- the first rule that works, and the lowest set
 
-  -- the way chosen, of a gate that spreads
-  spread-way : {i a b : ℕ} {ℓ : Layer} → Spreading n i ℓ a b → (A : ℕ) → chosenAt n i ℓ A ≡ wayOfSpread (families n) ℓ a b A
-  unfolding chosen
-  spread-way (xor-glitch is) A = rw (is .same)
-  spread-way (and-either is) A = rw (is .same)
-  spread-way (or-either is) A = rw (is .same)
-
-  -- a gate's rule is below 6, or it takes both operands
-  gate-way : {i a b : ℕ} {ℓ : Layer} → GateIn n i a b ℓ → (A : ℕ) → (chosenAt n i ℓ A .rule < 6) ⊎ (chosenAt n i ℓ A ≡ wayOfBoth (families n) ℓ a b A)
-  unfolding chosen
-  gate-way (settled-xor is) A = inr (rw (is .same))
-  gate-way {a = a} {b} {ℓ} (spreading s) A =
-      rw (spread-way s A)
-      (spread-ways (λ w. (w .rule < 6) ⊎ (w ≡ wayOfBoth (families n) ℓ a b A)) (families n) ℓ a b A
-      (λ _. inl (omega arith)) (λ _ _. inl (omega arith)) (λ _ _ _. inl (omega arith)) (λ _ _ _. inr refl))
-
-  begins : {i : ℕ} {ℓ : Layer} {A : ℕ} {steps : List Step} → Follows n i ℓ A steps → chosenAt n i ℓ A .rule ≤ firstRule steps
-  unfolding familiesAt claimed wayOfBoth wayOfSpread chosen
-  begins (own is) = rw (is .same) (omega arith)
-  begins (inverted {ℓ = settled} is f) = rw (is .same) (omega arith)
-  begins (inverted {a = a} {ℓ = glitch} {A} is f) =
-      rw (is .same) (not-ways (λ w. w .rule ≤ 2) (families n) a A (λ _. omega arith) (λ t. absurd (t (follows-in-family f))))
-  begins (stored is f) = rw (is .same) (omega arith)
-  begins (empty-not {a = a} is) = rw (is .same) (not-ways (λ w. w .rule ≤ 3) (families n) a 0 (λ _. omega arith) (λ _. omega arith))
-  begins (empty-gate s) = rw (spread-way s 0) (omega arith)
-  begins (first {a = a} {b} {ℓ} {A} s f) =
-      rw (spread-way s A)
-      (spread-ways (λ w. w .rule ≤ 4) (families n) ℓ a b A (λ _. omega arith) (λ _ _. omega arith)
-      (λ _ t _. absurd (t (follows-in-family f))) (λ _ t _. absurd (t (follows-in-family f))))
-  begins (second {a = a} {b} {ℓ} {A} s f) =
-      rw (spread-way s A)
-      (spread-ways (λ w. w .rule ≤ 5) (families n) ℓ a b A (λ _. omega arith) (λ _ _. omega arith) (λ _ _ _. omega arith)
-      (λ _ _ t. absurd (t (follows-in-family f))))
-  begins (both {ℓ = ℓ} {B} {C} gate f g) = ⊎-elim (λ l. omega arith) (λ e. rw e (omega arith)) (gate-way (gate-in gate ℓ) (bitXor B C))
-
+module _ (n : Netlist) (formed : WellFormed n) where
   -- no steps that follow for a set begin with a lower rule than its derivation
   pub first-rule : {i : ℕ} {ℓ : Layer} {A : ℕ} {s : Step} {below : List Step} → Follows n i ℓ A (s ∷ below) → chosenAt n i ℓ A .rule ≤ s .rule
+  unfolding chosen
   first-rule f = begins f
+    where
+      begins : {i : ℕ} {ℓ : Layer} {A : ℕ} {steps : List Step} → Follows n i ℓ A steps → chosenAt n i ℓ A .rule ≤ firstRule steps
+      begins (own is) = rw (is .same) (omega arith)
+      begins (made {ℓ = ℓ} {c = c} {A} is m each) =
+          let w = taken n formed is ℓ A (follows-in-family n formed (made is m each)) in
+          rw (is .same, w .is) (w .least c m (each-in-family n formed each))
 
-  -- Where rule 6 is chosen, the first operand's set is the lowest that works: no steps for a lower one and
-  -- for what is left of the set follow.
-  pub lowest-first-set : {i a b : ℕ} {ℓ : Layer} {A B C : ℕ} {firsts seconds : List Step}
-      → Gate n i a b → Follows n a ℓ B firsts → Follows n b ℓ C seconds → bitXor B C ≡ A → chosenAt n i ℓ A .rule ≡ 6
-      → (D : ℕ) × (chosenAt n i ℓ A .needs ≡ claim a ℓ D ∷ claim b ℓ (bitXor A D) ∷ []) × (D ≤ B)
-  unfolding familiesAt claimed wayOfBoth
-  lowest-first-set {i} {a} {b} {ℓ} {A} {B} {C} gate f g e six =
-      let of-both = ⊎-elim (λ l. absurd (omega arith)) (λ w. w) (gate-way (gate-in gate ℓ) A) in
-      (_, ap (λ (w : Way). w .needs) of-both, lowest-least _ _ B (follows-in-family f) (rw (xor-rest A B C (sym e)) (follows-in-family g)))
+  -- Of the operands that the rule takes which is chosen, the first one's set is the lowest that works: no steps for
+  -- a lower one, and for what is left of the set, follow.
+  pub lowest-first-set : {i : ℕ} {kind : Kind} {ops : Operands (operandCount kind)} {a b : ℕ} {nodes : List ℕ} {B C : ℕ} {firsts others : List Step}
+      (is : Is n i (gate kind ops)) (ℓ : Layer) (A : ℕ) (t : T (member A (familyIn ℓ (familiesAt n i))))
+      → picked (taken n formed is ℓ A t .by .operands) (listed (operandCount kind) ops) ≡ a ∷ b ∷ nodes
+      → Follows n a (layerBelow kind ℓ) B firsts → FollowsEach n (b ∷ nodes) (layerBelow kind ℓ) C others → bitXor B C ≡ A
+      → (D : ℕ) × (chosenAt n i ℓ A .needs ≡ claim a (layerBelow kind ℓ) D ∷ needed (families n) (layerBelow kind ℓ) (b ∷ nodes) (bitXor A D)) × (D ≤ B)
+  unfolding familiesAt needed chosen
+  lowest-first-set {kind = kind} {B = B} {C} is ℓ A t takes f each e = (
+    _,
+    ap (λ (w : Way). w .needs) (ap (λ (cell : Cell). chosen (families n) ℓ cell A) (is .same) ∙ taken n formed is ℓ A t .is)
+        ∙ ap (λ (l : List ℕ). needed (families n) (layerBelow kind ℓ) l A) takes,
+    lowest-least _ _ B (follows-in-family n formed f) (rw (xor-rest A B C (sym e)) (each-in-family n formed each)),
+  )
 
 -- ---- certificates
 

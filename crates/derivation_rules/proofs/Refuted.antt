@@ -2,19 +2,19 @@
 -- for a set that is not in the family, and not those of a derivation by another rule or in another order.
 -- And slices that are no certificate, beside one that is. Assumes nothing.
 use Prim.Native.Nat.{ℕ}
-use mathlib.Core.Path.{_≡_, refl, ap, subst, _∙_}
+use mathlib.Core.Path.{_≡_, refl, sym, ap, subst, _∙_}
 use mathlib.Core.List.{List, [], _∷_}
 use native.Mathlib.Omega.{arith}
 use lib.ListN.{length, getD}
-use Rattle.rules.specs.Records.{Netlist, WellFormed, writtenOut, variablesOut, nodesOut}
+use Rattle.rules.specs.Records.{XOR, listed, Cell, input, gate, operands, Netlist, WellFormed, writtenOut, variablesOut, nodesOut}
 use Rattle.rules.specs.Families.{familiesAt}
 use Rattle.rules.specs.Blocks.{P9, P10}
 use Rattle.rules.proofs.Reading.{read-well-formed}
 use Rattle.rules.proofs.Blocks.{replyTo}
 use Rattle.rules.proofs.BlockCounts.{p9, p9-read, p10, p10-read}
-use Rattle.derivation_rules.specs.Derivations.{Layer, settled, glitch, layerNumber, familyIn, Step, step, stepBytes, stepsOut, Gate, xor-gate, and-gate, or-gate, Follows, own, inverted, stored, empty-not, empty-gate, first, second, both, wayOfBoth, chosen, layerOf, Certificate}
+use Rattle.derivation_rules.specs.Derivations.{Layer, settled, glitch, layerNumber, familyIn, Step, step, stepBytes, stepsOut, Choice, rulesOf, picked, In, here, there, Follows, own, made, FollowsEach, one, more, chosen, firstMade, layerOf, Certificate}
 use Rattle.derivation_rules.proofs.Blocks.{a-derivation, small}
-use Rattle.derivation_rules.proofs.Follows.{firstRule, derivation-follows, follows-in-family, first-rule, follows-begins, out-length}
+use Rattle.derivation_rules.proofs.Follows.{derivation-follows, follows-in-family, first-rule, follows-begins, out-length}
 
 -- ---- no steps
 
@@ -36,38 +36,44 @@ small-formed = read-well-formed (writtenOut small) small refl
 
 -- A settled XOR does not have a set by rule 4, though its first operand has it.
 pub xor-alone : ¬ Follows small 4 settled 1 (step 4 settled 4 1 ∷ step 1 settled 1 1 ∷ [])
-unfolding wayOfBoth chosen
+unfolding rulesOf firstMade chosen
 xor-alone f = omega (arith, first-rule small small-formed f)
 
 -- ---- another order
 
--- the node of the second step
-abbrev secondNode : List Step → ℕ
-secondNode [] = 0
-secondNode (s ∷ []) = 0
-secondNode (s ∷ t ∷ steps) = t .node
+-- the node of the first step
+abbrev firstNode : List Step → ℕ
+firstNode [] = 0
+firstNode (s ∷ steps) = s .node
 
--- behind a step by rule 6 the next is of the gate's first operand
-next-step : {n : Netlist} {i : ℕ} {ℓ : Layer} {A : ℕ} {steps : List Step} → Follows n i ℓ A steps → firstRule steps ≡ 6
-    → (b : ℕ) × Gate n i (secondNode steps) b
+-- the first steps are of the first node
+each-begins : {n : Netlist} {a : ℕ} {nodes : List ℕ} {ℓ : Layer} {A : ℕ} {steps : List Step} → FollowsEach n (a ∷ nodes) ℓ A steps → firstNode steps ≡ a
+each-begins (one f) = let (rule, below, e) = follows-begins f in rw e
+each-begins (more f each) = let (rule, below, e) = follows-begins f in rw e
+
+-- at gate 4 of block A a step by rule 6 takes sets of both operands, the first of which is node 3
+a-first : {c : Choice} → In c (rulesOf XOR glitch) → c .rule ≡ 6 → picked (c .operands) (3 ∷ 1 ∷ []) ≡ 3 ∷ 1 ∷ []
+unfolding rulesOf picked
+a-first here six = absurd (omega arith)
+a-first (there here) six = absurd (omega arith)
+a-first (there (there here)) six = absurd (omega arith)
+a-first (there (there (there here))) six = refl
+
+-- so the next step is of that node
+abbrev rulesAt : Cell → List Choice
+rulesAt (input s) = []
+rulesAt (gate kind ops) = rulesOf kind glitch
+
+next-step : {A : ℕ} {s : Step} {steps : List Step} → Follows p9 4 glitch A (s ∷ steps) → s .rule ≡ 6 → firstNode steps ≡ 3
+unfolding listed operands
 next-step (own is) six = absurd (omega arith)
-next-step (inverted is f) six = absurd (omega arith)
-next-step (stored is f) six = absurd (omega arith)
-next-step (empty-not is) six = absurd (omega arith)
-next-step (empty-gate s) six = absurd (omega arith)
-next-step (first s f) six = absurd (omega arith)
-next-step (second s f) six = absurd (omega arith)
-next-step (both {b = b} gate f g) six = let (rule, below, e) = follows-begins f in (b, rw e gate)
-
--- the first operand of gate 4 of block A
-a-first : {a b : ℕ} → Gate p9 4 a b → a ≡ 3
-a-first (xor-gate is) = cc
-a-first (and-gate is) = cc
-a-first (or-gate is) = cc
+next-step (made is m each) six =
+    let taken = a-first (subst (In _) (sym (ap rulesAt (is .same))) m) six in
+    each-begins (rw (← ap operands (is .same), taken) at each)
 
 -- The steps of the secret alone in block A do not follow with those of the two operands exchanged.
 pub a-exchanged : ¬ Follows p9 4 glitch 1 (step 4 glitch 6 1 ∷ step 1 glitch 1 2 ∷ step 3 glitch 4 3 ∷ step 0 glitch 1 3 ∷ [])
-a-exchanged f = let (b, gate) = next-step f refl in omega (arith, a-first gate)
+a-exchanged f = omega (arith, next-step f refl)
 
 -- ---- certificates
 

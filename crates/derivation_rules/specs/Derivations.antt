@@ -11,8 +11,9 @@ use lib.Dec.{eqb, ltb}
 use lib.ListN.{length, getD, take}
 use Rattle.rules.specs.Lists.{member}
 use Rattle.rules.specs.Tables.{table}
-use Rattle.rules.specs.Records.{Cell, input, NOT, XOR, AND, OR, register, Netlist, most-sets}
-use Rattle.rules.specs.Families.{Family, Families, constant, families, familiesAt}
+use Rattle.rules.specs.Records.{Kind, NOT, XOR, AND, OR, register, kindNumber, operandCount, Operands, listed}
+use Rattle.rules.specs.Records.{Cell, input, gate, Netlist, odd, most-sets}
+use Rattle.rules.specs.Families.{Family, Families, constant, product, families, familiesAt}
 use Rattle.rules.specs.Checks.{Outcome, answered, andThen, Check, check, judged, read, queriedWith}
 use Rattle.rules.specs.Slices.{filled}
 
@@ -60,41 +61,63 @@ pub record Is (n : Netlist) (i : ℕ) (cell : Cell) : Type 0 where
   pub there : i < length (n .nodes)
   pub same : getD (n .nodes) i (input 0) ≡ cell
 
--- node i is a gate of the two operands a and b
-pub data Gate (n : Netlist) (i a b : ℕ) : Type 0 where
-  xor-gate : Is n i (XOR a b) → Gate n i a b
-  and-gate : Is n i (AND a b) → Gate n i a b
-  or-gate : Is n i (OR a b) → Gate n i a b
+-- A rule above 1, and the operands of which it takes a set each, as a binary number with the first operand as bit 0.
+-- What it explains is the symmetric difference of those sets, and with no operand the empty set.
+pub record Choice : Type 0 where
+  pub rule : ℕ
+  pub operands : ℕ
 
--- and one whose family has the empty set and those of its operands too: AND and OR in both layers,
--- XOR in the glitch layer
-pub data Spreading (n : Netlist) (i : ℕ) : Layer → (a b : ℕ) → Type 0 where
-  xor-glitch : {a b : ℕ} → Is n i (XOR a b) → Spreading n i glitch a b
-  and-either : {ℓ : Layer} {a b : ℕ} → Is n i (AND a b) → Spreading n i ℓ a b
-  or-either : {ℓ : Layer} {a b : ℕ} → Is n i (OR a b) → Spreading n i ℓ a b
+abbrev pub choice : (rule operands : ℕ) → Choice
+choice k operands = record { rule = k; operands = operands }
+
+-- those of a gate whose family has the empty set and its operands' sets too:
+-- 3 the empty set, 4 first operand alone, 5 second alone, 6 both
+abbrev pub spreading : List Choice
+spreading = choice 3 0 ∷ choice 4 1 ∷ choice 5 2 ∷ choice 6 3 ∷ []
+
+-- The rules that document 01 gives a kind in a layer, by their numbers; 2 is from a register's or NOT's operand.
+unfoldable pub rulesOf : Kind → Layer → List Choice
+rulesOf NOT settled = choice 2 1 ∷ []
+rulesOf NOT glitch = choice 2 1 ∷ choice 3 0 ∷ []
+rulesOf XOR settled = choice 6 3 ∷ []
+rulesOf XOR glitch = spreading
+rulesOf AND ℓ = spreading
+rulesOf OR ℓ = spreading
+rulesOf register ℓ = choice 2 1 ∷ []
+
+-- the layer of the operands' families: a register (kind 7) takes settled ones only
+unfoldable pub layerBelow : Kind → Layer → Layer
+layerBelow kind ℓ = cond (eqb (kindNumber kind) 7) settled ℓ
+
+-- the operands that a binary number picks, in operand order
+unfoldable pub picked : (number : ℕ) → (operands : List ℕ) → List ℕ
+picked k [] = []
+picked k (a ∷ operands) = cond (odd k) (a ∷ picked (k / 2) operands) (picked (k / 2) operands)
+
+-- a choice is one of these
+pub data In : Choice → List Choice → Type 0 where
+  here : {c : Choice} {choices : List Choice} → In c (c ∷ choices)
+  there : {c d : Choice} {choices : List Choice} → In c choices → In c (d ∷ choices)
 
 -- Steps that follow from the rules, for a set in the family of node i in a layer: a step that document 01 allows there,
 -- and behind it steps that follow for just the operands that it needs, the first operand's first.
-pub data Follows (n : Netlist) : (i : ℕ) (ℓ : Layer) (set : ℕ) → List Step → Type 0 where
-  -- rule 1: an input's own set, in both layers
-  own : {i : ℕ} {ℓ : Layer} {A : ℕ} → Is n i (input A) → Follows n i ℓ A (step i ℓ 1 A ∷ [])
-  -- rule 2: the same set is in the family of a NOT's operand in its layer; of a register's operand in the settled layer
-  inverted : {i a : ℕ} {ℓ : Layer} {A : ℕ} {below : List Step} → Is n i (NOT a)
-      → Follows n a ℓ A below → Follows n i ℓ A (step i ℓ 2 A ∷ below)
-  stored : {i a : ℕ} {ℓ : Layer} {A : ℕ} {below : List Step} → Is n i (register a) → Follows n a settled A below
-      → Follows n i ℓ A (step i ℓ 2 A ∷ below)
-  -- rule 3: the empty set
-  empty-not : {i a : ℕ} → Is n i (NOT a) → Follows n i glitch 0 (step i glitch 3 0 ∷ [])
-  empty-gate : {i a b : ℕ} {ℓ : Layer} → Spreading n i ℓ a b → Follows n i ℓ 0 (step i ℓ 3 0 ∷ [])
-  -- rules 4 and 5: a set of the first operand alone, of the second alone
-  first : {i a b : ℕ} {ℓ : Layer} {A : ℕ} {below : List Step} → Spreading n i ℓ a b → Follows n a ℓ A below
-      → Follows n i ℓ A (step i ℓ 4 A ∷ below)
-  second : {i a b : ℕ} {ℓ : Layer} {A : ℕ} {below : List Step} → Spreading n i ℓ a b → Follows n b ℓ A below
-      → Follows n i ℓ A (step i ℓ 5 A ∷ below)
-  -- rule 6: the symmetric difference of a set of the first operand and one of the second
-  both : {i a b : ℕ} {ℓ : Layer} {B C : ℕ} {firsts seconds : List Step} → Gate n i a b
-      → Follows n a ℓ B firsts → Follows n b ℓ C seconds
-      → Follows n i ℓ (bitXor B C) (step i ℓ 6 (bitXor B C) ∷ firsts ++ seconds)
+mutual
+  pub data Follows (n : Netlist) : (i : ℕ) (ℓ : Layer) (set : ℕ) → List Step → Type 0 where
+    -- rule 1: an input's own set, in both layers
+    own : {i : ℕ} {ℓ : Layer} {A : ℕ} → Is n i (input A) → Follows n i ℓ A (step i ℓ 1 A ∷ [])
+    -- the others: what is made of sets of the operands that the rule takes
+    made : {i : ℕ} {kind : Kind} {ops : Operands (operandCount kind)} {ℓ : Layer} {c : Choice} {A : ℕ}
+        {below : List Step} → Is n i (gate kind ops) → In c (rulesOf kind ℓ)
+        → FollowsEach n (picked (c .operands) (listed (operandCount kind) ops)) (layerBelow kind ℓ) A below
+        → Follows n i ℓ A (step i ℓ (c .rule) A ∷ below)
+
+  -- and those for a set of each of these nodes, one behind the other, where A is the symmetric difference of the sets
+  pub data FollowsEach (n : Netlist) : (nodes : List ℕ) (ℓ : Layer) (set : ℕ) → List Step → Type 0 where
+    none : {ℓ : Layer} → FollowsEach n [] ℓ 0 []
+    one : {a : ℕ} {ℓ : Layer} {A : ℕ} {steps : List Step} → Follows n a ℓ A steps → FollowsEach n (a ∷ []) ℓ A steps
+    more : {a b : ℕ} {nodes : List ℕ} {ℓ : Layer} {B C : ℕ} {firsts others : List Step} → Follows n a ℓ B firsts
+        → FollowsEach n (b ∷ nodes) ℓ C others
+        → FollowsEach n (a ∷ b ∷ nodes) ℓ (bitXor B C) (firsts ++ others)
 
 -- ---- the derivation of a set that is in the family
 
@@ -124,31 +147,38 @@ unfoldable pub lowestSet : (ℕ → Bool) → Family → ℕ
 lowestSet test [] = most-sets
 lowestSet test (B ∷ F) = let rest = lowestSet test F in cond (test B && ltb B rest) B rest
 
--- both operands, with the first one's lowest set that works: what is left of A is in the second one's family
-unfoldable pub wayOfBoth : List Families → Layer → (a b A : ℕ) → Way
-wayOfBoth Fs ℓ a b A =
-    let B = lowestSet (λ B. claimed Fs (claim b ℓ (bitXor A B))) (familyIn ℓ (getD Fs a constant)) in
-    way 6 (claim a ℓ B ∷ claim b ℓ (bitXor A B) ∷ [])
+-- a node's family in a layer, among these
+abbrev pub familyOf : List Families → Layer → (node : ℕ) → Family
+familyOf Fs ℓ a = familyIn ℓ (getD Fs a constant)
 
--- the empty set, the first operand alone, the second alone, both
-unfoldable pub wayOfSpread : List Families → Layer → (a b A : ℕ) → Way
-wayOfSpread Fs ℓ a b A =
-    cond (eqb A 0) (way 3 [])
-    (cond (claimed Fs (claim a ℓ A)) (way 4 (claim a ℓ A ∷ []))
-    (cond (claimed Fs (claim b ℓ A)) (way 5 (claim b ℓ A ∷ []))
-    (wayOfBoth Fs ℓ a b A)))
+-- the sets that are made of one of each of these nodes' families: of none the empty set
+unfoldable pub productOf : (ℕ → Family) → (nodes : List ℕ) → Family
+productOf F [] = 0 ∷ []
+productOf F (a ∷ []) = F a
+productOf F (a ∷ b ∷ nodes) = product (F a) (productOf F (b ∷ nodes))
+
+-- of which sets A is made: the first node's lowest that works, where what is left of A is made of the others'
+unfoldable pub needed : List Families → Layer → (nodes : List ℕ) → (A : ℕ) → List Claim
+needed Fs ℓ [] A = []
+needed Fs ℓ (a ∷ []) A = claim a ℓ A ∷ []
+needed Fs ℓ (a ∷ b ∷ nodes) A =
+    let B = lowestSet (λ B. member (bitXor A B) (productOf (familyOf Fs ℓ) (b ∷ nodes))) (familyOf Fs ℓ a) in
+    claim a ℓ B ∷ needed Fs ℓ (b ∷ nodes) (bitXor A B)
+
+-- the choices tried in this order: the first that makes A of the operands' sets, and the last where no other does
+unfoldable pub firstMade : List Families → Layer → (operands : List ℕ) → List Choice → (A : ℕ) → Way
+firstMade Fs ℓ operands [] A = way 0 []
+firstMade Fs ℓ operands (c ∷ []) A = way (c .rule) (needed Fs ℓ (picked (c .operands) operands) A)
+firstMade Fs ℓ operands (c ∷ d ∷ choices) A =
+    cond (member A (productOf (familyOf Fs ℓ) (picked (c .operands) operands)))
+    (way (c .rule) (needed Fs ℓ (picked (c .operands) operands) A)) (firstMade Fs ℓ operands (d ∷ choices) A)
 
 -- The first rule that works, of those that document 01 gives the node in the layer, where the families are those of the
 -- lower nodes and A is a set of the node's own.
 unfoldable pub chosen : List Families → Layer → Cell → (A : ℕ) → Way
 chosen Fs ℓ (input s) A = way 1 []
-chosen Fs settled (NOT a) A = way 2 (claim a settled A ∷ [])
-chosen Fs glitch (NOT a) A = cond (claimed Fs (claim a glitch A)) (way 2 (claim a glitch A ∷ [])) (way 3 [])
-chosen Fs settled (XOR a b) A = wayOfBoth Fs settled a b A
-chosen Fs glitch (XOR a b) A = wayOfSpread Fs glitch a b A
-chosen Fs ℓ (AND a b) A = wayOfSpread Fs ℓ a b A
-chosen Fs ℓ (OR a b) A = wayOfSpread Fs ℓ a b A
-chosen Fs ℓ (register a) A = way 2 (claim a settled A ∷ [])
+chosen Fs ℓ (gate kind ops) A =
+    firstMade Fs (layerBelow kind ℓ) (listed (operandCount kind) ops) (rulesOf kind ℓ) A
 
 -- the derivations of a node's sets, by layer and set
 abbrev pub Derivations : Type 0

@@ -3,19 +3,22 @@
 // Used by `derivations` and the desk.
 ghost use mathlib.Core.Path.{_≡_};
 ghost use mathlib.Core.Bool.{_&&_};
+ghost use mathlib.Core.List.{[], _∷_};
 ghost use Prim.Native.Nat.{_+_, _*_, _<_, _≤_};
 ghost use lib.Bits.{bitXor};
 ghost use lib.ListN.{length, getD};
-ghost use Rattle.rules.specs.Records.{Cell, NOT, XOR, most-nodes, most-sets};
+ghost use Rattle.netlists.specs.Netlists.{Placed};
+ghost use Rattle.rules.specs.Records.{NOT, XOR, Cell, gate, most-nodes, most-sets};
 ghost use Rattle.rules.specs.Families.{constant};
 ghost use Rattle.rules.specs.Checks.{most-work};
 ghost use Rattle.rules.specs.Slices.{entry};
 ghost use Rattle.listing_lines.specs.Text.{Appended};
-ghost use Rattle.nodes.specs.Work.{soFar, Placed};
-ghost use Rattle.derivation_rules.specs.Derivations.{familyIn, step, stepBytes, step-size, claim, claimed};
-ghost use Rattle.derivation_rules.specs.Derivations.{lowestSet, wayOfBoth, wayOfSpread, chosen, layerOf};
+ghost use Rattle.nodes.specs.Work.{soFar};
+ghost use Rattle.derivation_rules.specs.Derivations.{familyIn, step, stepBytes, step-size, spreading, claim, claimed};
+ghost use Rattle.derivation_rules.specs.Derivations.{way, lowestSet, needed, firstMade, chosen, layerOf};
 ghost use Rattle.derivation_steps.specs.Meaning.{claimOf, wayOf, Layered, InRange};
 use families::SETS;
+use rules::MOST_BODY;
 use rules::Node;
 
 // How many bytes a step has.
@@ -28,17 +31,12 @@ pub struct Claim {
     pub set: usize,
 }
 
-// What a step needs of the operands, the first one's claim first.
-pub enum Needs {
-    Nothing,
-    One(Claim),
-    Two(Claim, Claim),
-}
-
-// A rule by its number, from 1 to 6, and what it needs of the operands.
+// A rule by its number, from 1 to 6, and what it needs of the operands: so many claims, in operand order.
+// The others stand for none.
 pub struct Way {
     pub rule: u8,
-    pub needs: Needs,
+    pub count: usize,
+    pub claims: [Claim; MOST_BODY],
 }
 
 // Whether a claim is true, by work bytes that hold the families.
@@ -100,24 +98,26 @@ fn lowest_set(work: &[u8], layer: usize, first: usize, second: usize, set: usize
 // The way by rule 6: both operands, with the first one's lowest-numbered set that works.
 fn way_of_both(work: &[u8], layer: usize, first: usize, second: usize, set: usize) -> Way
     requires { ⌜ InRange (now work) layer first second set ⌝ }
-    ensures { λ r. ⌜ wayOf r ≡ wayOfBoth (soFar (now (work .entry)) most-nodes) (layerOf layer) first second set ⌝ }
-    ensures layers { λ r. ⌜ Layered (r .needs) ⌝ }
+    ensures { λ r. ⌜ wayOf r ≡ way 6
+        (needed (soFar (now (work .entry)) most-nodes) (layerOf layer) (first ∷ second ∷ []) set) ⌝ }
+    ensures layers { λ r. ⌜ Layered r ⌝ }
 {
     let lowest = lowest_set(work, layer, first, second, set);
+    let of_first = Claim {
+        node: first,
+        layer,
+        set: lowest,
+    };
+    let mut claims = [of_first; MOST_BODY];
+    claims[1] = Claim {
+        node: second,
+        layer,
+        set: set ^ lowest,
+    };
     Way {
         rule: 6,
-        needs: Needs::Two(
-            Claim {
-                node: first,
-                layer,
-                set: lowest,
-            },
-            Claim {
-                node: second,
-                layer,
-                set: set ^ lowest,
-            },
-        ),
+        count: 2,
+        claims,
     }
 }
 
@@ -125,24 +125,27 @@ fn way_of_both(work: &[u8], layer: usize, first: usize, second: usize, set: usiz
 // 5, the second alone; 6, both.
 fn way_of_spread(work: &[u8], layer: usize, first: usize, second: usize, set: usize) -> Way
     requires { ⌜ InRange (now work) layer first second set ⌝ }
-    ensures { λ r. ⌜ wayOf r ≡ wayOfSpread (soFar (now (work .entry)) most-nodes) (layerOf layer) first second set ⌝ }
-    ensures layers { λ r. ⌜ Layered (r .needs) ⌝ }
+    ensures { λ r. ⌜ wayOf r ≡
+        firstMade (soFar (now (work .entry)) most-nodes) (layerOf layer) (first ∷ second ∷ []) spreading set ⌝ }
+    ensures layers { λ r. ⌜ Layered r ⌝ }
 {
-    if set == 0 {
-        return Way {
-            rule: 3,
-            needs: Needs::Nothing,
-        };
-    }
     let of_first = Claim {
         node: first,
         layer,
         set,
     };
+    if set == 0 {
+        return Way {
+            rule: 3,
+            count: 0,
+            claims: [of_first; MOST_BODY],
+        };
+    }
     if has(work, of_first) {
         return Way {
             rule: 4,
-            needs: Needs::One(of_first),
+            count: 1,
+            claims: [of_first; MOST_BODY],
         };
     }
     let of_second = Claim {
@@ -153,7 +156,8 @@ fn way_of_spread(work: &[u8], layer: usize, first: usize, second: usize, set: us
     if has(work, of_second) {
         return Way {
             rule: 5,
-            needs: Needs::One(of_second),
+            count: 1,
+            claims: [of_second; MOST_BODY],
         };
     }
     way_of_both(work, layer, first, second, set)
@@ -162,8 +166,8 @@ fn way_of_spread(work: &[u8], layer: usize, first: usize, second: usize, set: us
 // The way for NOT: rule 2, the operand's set; else, in the glitch layer, rule 3, the empty set.
 fn way_of_not(work: &[u8], layer: usize, operand: usize, set: usize) -> Way
     requires { ⌜ (most-work ≤ length (now work)) × (operand < most-nodes) × (layer < 2) × (set < most-sets) ⌝ }
-    ensures { λ r. ⌜ wayOf r ≡ chosen (soFar (now (work .entry)) most-nodes) (layerOf layer) (NOT operand) set ⌝ }
-    ensures layers { λ r. ⌜ Layered (r .needs) ⌝ }
+    ensures { λ r. ⌜ wayOf r ≡ chosen (soFar (now (work .entry)) most-nodes) (layerOf layer) (gate NOT (operand, tt)) set ⌝ }
+    ensures layers { λ r. ⌜ Layered r ⌝ }
 {
     let of_operand = Claim {
         node: operand,
@@ -173,26 +177,29 @@ fn way_of_not(work: &[u8], layer: usize, operand: usize, set: usize) -> Way
     if layer == 0 {
         return Way {
             rule: 2,
-            needs: Needs::One(of_operand),
+            count: 1,
+            claims: [of_operand; MOST_BODY],
         };
     }
     if has(work, of_operand) {
         return Way {
             rule: 2,
-            needs: Needs::One(of_operand),
+            count: 1,
+            claims: [of_operand; MOST_BODY],
         };
     }
     Way {
         rule: 3,
-        needs: Needs::Nothing,
+        count: 0,
+        claims: [of_operand; MOST_BODY],
     }
 }
 
 // The way for XOR: rule 6, both operands, in the settled layer, and in the glitch layer as for AND.
 fn way_of_xor(work: &[u8], layer: usize, first: usize, second: usize, set: usize) -> Way
     requires { ⌜ InRange (now work) layer first second set ⌝ }
-    ensures { λ r. ⌜ wayOf r ≡ chosen (soFar (now (work .entry)) most-nodes) (layerOf layer) (XOR first second) set ⌝ }
-    ensures layers { λ r. ⌜ Layered (r .needs) ⌝ }
+    ensures { λ r. ⌜ wayOf r ≡ chosen (soFar (now (work .entry)) most-nodes) (layerOf layer) (gate XOR (first, (second, tt))) set ⌝ }
+    ensures layers { λ r. ⌜ Layered r ⌝ }
 {
     if layer == 0 {
         return way_of_both(work, layer, first, second, set);
@@ -207,24 +214,27 @@ pub fn choose(work: &[u8], node: Node, layer: usize, set: usize) -> Way
     requires { ⌜ (most-work ≤ length (now work)) × Placed most-nodes node × (layer < 2) × (set < most-sets) ⌝ }
     ensures { λ r. ⌜ ((cell : Cell) → node ≡ entry cell →
         wayOf r ≡ chosen (soFar (now (work .entry)) most-nodes) (layerOf layer) cell set) ⌝ }
-    ensures layers { λ r. ⌜ Layered (r .needs) ⌝ }
+    ensures layers { λ r. ⌜ Layered r ⌝ }
 {
     let kind = node.kind;
     let first = node.first as usize;
     let second = node.second as usize;
+    let of_first = Claim {
+        node: first,
+        layer: 0,
+        set,
+    };
     match kind {
         2 => Way {
             rule: 1,
-            needs: Needs::Nothing,
+            count: 0,
+            claims: [of_first; MOST_BODY],
         },
         3 => way_of_not(work, layer, first, set),
         7 => Way {
             rule: 2,
-            needs: Needs::One(Claim {
-                node: first,
-                layer: 0,
-                set,
-            }),
+            count: 1,
+            claims: [of_first; MOST_BODY],
         },
         4 => way_of_xor(work, layer, first, second, set),
         _ => way_of_spread(work, layer, first, second, set),

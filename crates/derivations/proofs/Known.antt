@@ -1,13 +1,13 @@
 -- What is known of a claim that is to be explained: it is true of the netlist that the work bytes hold the families of,
 -- its set is one of those that there may be, its node's record can be looked at; and the way that is chosen by the
 -- bytes is the first rule that works, whose needs are such claims again. Assumes nothing.
-use Prim.Native.Nat.{ℕ, _≤_, _<_}
+use Prim.Native.Nat.{ℕ, zero, suc, _≤_, _<_}
 use mathlib.Core.Path.{_≡_, sym, ap, _∙_}
 use mathlib.Core.Bool.{true}
-use mathlib.Core.List.{List, _∷_, _++_}
+use mathlib.Core.List.{List, [], _∷_, _++_, map, append-nil, append-assoc}
 use native.Mathlib.Omega.{arith}
 use lib.Dec.{T, ltb, ltb→lt}
-use lib.ListN.{length, getD}
+use lib.ListN.{length, getD, take}
 use Rattle.rules.specs.Lists.{member}
 use Rattle.rules.specs.Records as R
 use Rattle.rules.specs.Records.{WellFormed, input, most-nodes, most-sets}
@@ -15,28 +15,31 @@ use Rattle.rules.specs.Families.{constant, families, familiesAt}
 use Rattle.rules.specs.Slices.{entry, workBytes}
 use Rattle.rules.proofs.Tests.{pass, and-left, and-right}
 use Rattle.netlists.specs.declared.Netlist.{Netlist}
-use Rattle.netlists.specs.Netlists.{blank, flatOf}
-use Rattle.netlists.proofs.Netlists.{value-count, value-entry, few-nodes, one-netlist}
+use Rattle.netlists.specs.Netlists.{blank, flatOf, Placed}
+use Rattle.netlists.proofs.Netlists.{value-count, value-entry, few-nodes, one-netlist, placed-at, placed-later}
 use Rattle.families.proofs.Work.{Alike, settled-there, glitch-there}
-use Rattle.nodes.specs.Work.{soFar, Placed}
-use Rattle.nodes.proofs.Nodes.{so-far-at, placed}
+use Rattle.nodes.specs.Work.{soFar}
+use Rattle.nodes.proofs.Nodes.{so-far-at}
 use Rattle.derivation_steps.specs.declared.Claim.{Claim}
-use Rattle.derivation_steps.specs.declared.Needs.{Needs}
-use Rattle.derivation_steps.specs.declared.Needs.the-variants.{Nothing, One, Two}
 use Rattle.derivation_steps.specs.declared.Way.{Way}
-use Rattle.derivation_rules.specs.Derivations.{Layer, settled, glitch, familyIn, step, claimed, chosen, explained, derivation, layerOf, inFamily}
-use Rattle.derivation_steps.specs.Meaning.{claimOf, needsOf, wayOf, Layered}
+use Rattle.derivation_rules.specs.Derivations.{Layer, settled, glitch, familyIn, Step, step, claimed, chosen, Derivations, explained, derivation, layerOf, inFamily}
+use Rattle.derivation_steps.specs.Meaning.{claimOf, needsOf, wayOf, LayeredEach, Layered}
 use Rattle.derivation_rules.proofs.Choice.{same-choice}
 use Rattle.derivation_rules.proofs.Derivation.{small, NeedsHeld, needs-held, derivation-unfolds}
 use Rattle.derivations.specs.Written.{Known, Held, HeldEach}
 
--- a record that can stand at a number can stand at a higher one
-placed-higher : {i j : ℕ} {node : _} → i ≤ j → Placed i node → Placed j node
-placed-higher h p = record { cell = p .cell; is = p .is; lower = λ a t. omega (arith, p .lower a t); small = p .small }
-
--- and so can a claim of a node below it
+-- a claim of a node below a number is one of a node below a higher one
 pub held-higher : {value : Netlist} {i j : ℕ} {c : Claim} → Held value i c → i ≤ j → Held value j c
 held-higher h l = record { below = omega (arith, h .below); layer = h .layer; true = h .true }
+
+-- what is explained by one claim more
+pub explained-next : (at : ℕ → Derivations) (claims : List Claim) (k : ℕ) → k < length claims
+    → explained at (map claimOf (take (suc k) claims))
+    ≡ explained at (map claimOf (take k claims)) ++ (let c = getD claims k (record { node = 0; layer = 0; set = 0 }) in at (c .node) (layerOf (c .layer)) (c .set))
+unfolding explained
+explained-next at [] k h = absurd (omega arith)
+explained-next at (c ∷ claims) zero h = append-nil _
+explained-next at (c ∷ claims) (suc k) h = ap (λ (l : List Step). at (c .node) (layerOf (c .layer)) (c .set) ++ l) (explained-next at claims k (omega arith)) ∙ sym (append-assoc (at (c .node) (layerOf (c .layer)) (c .set)) _ _)
 
 -- the families that bytes hold are a netlist's
 held-alike : (n : R.Netlist) → WellFormed n → (work rest : List ℕ) → work ≡ workBytes (families n) ++ rest → (a : ℕ) → a < length (n .nodes) → (ℓ : Layer)
@@ -97,8 +100,7 @@ module _ {value : Netlist} {work : List ℕ} (k : Known value work) where
     set-number = small n formed (layerOf (c .layer)) (c .node) (c .set) in-family
 
     pub record-there : Placed most-nodes (getD (value .nodes) (c .node) blank)
-    record-there =
-        rw (value-entry n (k .formed .is) (c .node) (held .below)) (placed-higher (omega (arith, node-number)) (placed n formed (c .node) there))
+    record-there = placed-later (omega (arith, node-number)) (placed-at (k .formed) (c .node) (held .below))
 
     -- its derivation has a step
     pub steps-some : (m : R.Netlist) → value ≡ flatOf m → 0 < length (derivation m (c .node) (layerOf (c .layer)) (c .set))
@@ -112,20 +114,25 @@ module _ {value : Netlist} {work : List ℕ} (k : Known value work) where
       the-way = is _ (value-entry n (k .formed .is) (c .node) (held .below)) ∙ same-way (c .node) there (layerOf (c .layer)) (c .set)
 
       -- what it needs are claims that are true, of lower nodes
-      pub needs-true : Layered (w .needs) → HeldEach value (c .node) (w .needs)
-      unfolding needsOf Layered HeldEach
-      needs-true layers = go (w .needs) layers (rw (← the-way) at (needs-held n formed (c .node) there (layerOf (c .layer)) (c .set) in-family))
+      pub needs-true : Layered w → HeldEach value (c .node) w
+      needs-true (few, all, layers) = record {
+        few = few;
+        all = all;
+        each = λ i h.
+            go (w .claims) (w .count) i layers (rw (← the-way) at (needs-held n formed (c .node) there (layerOf (c .layer)) (c .set) in-family)) h (omega (arith, all));
+      }
         where
-          go : (needs : Needs) → Layered needs → NeedsHeld n (c .node) (needsOf needs) → HeldEach value (c .node) needs
-          go Nothing layers h = tt
-          go (One d) layer (below, t, _) = true-claim (c .node) d layer below t
-          go (Two d e) (first, second) (below, t, (below′, t′, _)) =
-              (true-claim (c .node) d first below t, true-claim (c .node) e second below′ t′)
+          go : (claims : List Claim) (count i : ℕ) → LayeredEach (take count claims) → NeedsHeld n (c .node) (map claimOf (take count claims)) → i < count
+              → i < length claims → Held value (c .node) (getD claims i (record { node = 0; layer = 0; set = 0 }))
+          go [] count i layers held h l = absurd (omega arith)
+          go (d ∷ claims) zero i layers held h l = absurd (omega arith)
+          go (d ∷ claims) (suc count) zero (layer, _) (below, t, _) h l = true-claim (c .node) d layer below t
+          go (d ∷ claims) (suc count) (suc i) (_, layers) (_, _, held) h l = go claims count i layers held (omega arith) (omega arith)
 
       -- and the claim's derivation is that step and then those of the needs
       pub steps-of : (m : R.Netlist) → value ≡ flatOf m
           → derivation m (c .node) (layerOf (c .layer)) (c .set)
-          ≡ step (c .node) (layerOf (c .layer)) (w .rule) (c .set) ∷ explained (derivation m) (needsOf (w .needs))
+          ≡ step (c .node) (layerOf (c .layer)) (w .rule) (c .set) ∷ explained (derivation m) (needsOf w)
       steps-of m e =
           rw (← one-netlist (k .formed) m e)
           (derivation-unfolds n formed (c .node) there (layerOf (c .layer)) (c .set) in-family

@@ -4,7 +4,7 @@ use Prim.Native.Nat.{ℕ, _+_, _*_, _≤_, _<_}
 use mathlib.Core.Path.{_≡_}
 use mathlib.Core.List.{List, [], _∷_, _++_}
 use lib.Dec.{T}
-use lib.ListN.{length, take}
+use lib.ListN.{length, getD, take}
 use Rattle.rules.specs.Records as R
 use Rattle.rules.specs.Families.{families}
 use Rattle.rules.specs.Checks.{Outcome, answered, andThen, judged, read, nodeCheck, numberCheck, most-work}
@@ -13,8 +13,7 @@ use Rattle.netlists.specs.declared.Netlist.{Netlist}
 use Rattle.netlists.specs.Netlists.{flatOf, Formed}
 use Rattle.listing_lines.specs.Text.{Appended}
 use Rattle.derivation_steps.specs.declared.Claim.{Claim}
-use Rattle.derivation_steps.specs.declared.Needs.{Needs}
-use Rattle.derivation_steps.specs.declared.Needs.the-variants.{Nothing, One, Two}
+use Rattle.derivation_steps.specs.declared.Way.{Way}
 use Rattle.derivation_rules.specs.Derivations.{Step, step-size, stepsOut, claimed, derived, explainable}
 use Rattle.derivation_steps.specs.Meaning.{claimOf}
 use Rattle.derivations.specs.declared.Derived.{Derived}
@@ -33,11 +32,11 @@ pub record Held (value : Netlist) (bound : ℕ) (c : Claim) : Type 0 where
   pub layer : c .layer < 2
   pub true : (n : R.Netlist) → value ≡ flatOf n → T (claimed (families n) (claimOf c))
 
--- each of the claims that a step needs
-unfoldable pub HeldEach : (value : Netlist) (bound : ℕ) → Needs → Type 0
-HeldEach value bound Nothing = Unit
-HeldEach value bound (One c) = Held value bound c
-HeldEach value bound (Two c d) = Held value bound c × Held value bound d
+-- each of the claims that a step needs, of which there are no more than a node has operands
+pub record HeldEach (value : Netlist) (bound : ℕ) (w : Way) : Type 0 where
+  pub few : w .count ≤ R.most-body
+  pub all : length (w .claims) ≡ R.most-body
+  pub each : (k : ℕ) → k < w .count → Held value bound (getD (w .claims) k (record { node = 0; layer = 0; set = 0 }))
 
 -- Steps go behind the first `at` steps of a slice that takes `room` steps: where they fit they stand there,
 -- and `next` steps stand in all; where they do not, `next` tells so.

@@ -17,11 +17,12 @@ ghost use Rattle.derivation_steps.specs.Meaning.{needsOf};
 ghost use Rattle.derivations.specs.Meaning.{derivedOf};
 ghost use Rattle.derivations.specs.Written.{Known, Held, HeldEach, Written, derivableIn, Told, ReadAs};
 use derivation_steps::Claim;
-use derivation_steps::Needs;
 use derivation_steps::STEP;
+use derivation_steps::Way;
 use netlists::Netlist;
 use rules::MOST_WORK;
 use rules::QueryOutcome;
+use rules::Reason;
 use rules::Refusal;
 
 // The most steps that a derivation has.
@@ -57,33 +58,31 @@ fn explain_cell(
     let node = claim.node;
     let way = derivation_steps::choose(work, netlist.nodes[node], claim.layer, claim.set);
     derivation_steps::put_step(steps, at, claim, way.rule);
-    let needs = way.needs;
-    explain_operands(netlist, work, node, needs, steps, at + 1, room)
+    explain_operands(netlist, work, node, way, steps, at + 1, room)
 }
 
-// Explains what a step of a node needs of its operands, the first one's claim first.
+// Explains what a step of a node needs of its operands, claim by claim, the first operand's first.
 fn explain_operands(
     netlist: Netlist,
     work: &[u8],
     node: usize,
-    needs: Needs,
+    way: Way,
     steps: &mut [u8],
     at: usize,
     room: usize,
 ) -> usize
-    requires { ⌜ Known netlist (now work) × HeldEach netlist node needs × (node < netlist .count) ×
+    requires { ⌜ Known netlist (now work) × HeldEach netlist node way × (node < netlist .count) ×
         (step-size * room ≤ length (now steps)) × (room ≤ most-steps) ⌝ }
     ensures { λ r. ⌜ ((n : Records.Netlist) → netlist ≡ flatOf n →
-        Written (now (steps .entry)) (now (steps .exit)) at room r (explained (derivation n) (needsOf needs))) ⌝ }
+        Written (now (steps .entry)) (now (steps .exit)) at room r (explained (derivation n) (needsOf way))) ⌝ }
 {
-    match needs {
-        Needs::Nothing => at,
-        Needs::One(claim) => explain_cell(netlist, work, claim, steps, at, room),
-        Needs::Two(first, second) => {
-            let next = explain_cell(netlist, work, first, steps, at, room);
-            explain_cell(netlist, work, second, steps, next, room)
-        }
+    let mut next = at;
+    let mut told = 0;
+    while told < way.count {
+        next = explain_cell(netlist, work, way.claims[told], steps, next, room);
+        told += 1;
     }
+    next
 }
 
 // How many steps a slice of so many bytes takes: whole ones, and no more than there may be.
@@ -118,11 +117,17 @@ fn explain(netlist: Netlist, work: &[u8], claim: Claim, steps: &mut [u8], room: 
         return Derived::Refused(refusal);
     }
     if !in_family(netlist, work, claim) {
-        return Derived::Refused(Refusal::NotInFamily(claim.set));
+        return Derived::Refused(Refusal {
+            reason: Reason::NotInFamily,
+            place: claim.set,
+        });
     }
     let count = explain_cell(netlist, work, claim, steps, 0, room);
     if room < count {
-        return Derived::Refused(Refusal::TooManySteps(room));
+        return Derived::Refused(Refusal {
+            reason: Reason::TooManySteps,
+            place: room,
+        });
     }
     Derived::Steps(count)
 }

@@ -6,8 +6,8 @@ ghost use Rattle.rules.specs.Records.{most-nodes};
 ghost use Rattle.netlists.specs.Netlists.{blank};
 use crate::say::say;
 use crate::say::say_field;
-use listing_lines::operands_of;
 use netlists::Netlist;
+use records::operand_count;
 use rules::MOST_NODES;
 use rules::Node;
 
@@ -32,11 +32,11 @@ pub fn say_kind(kind: u8) {
 // Prints a node in words: its kind and its operands.
 pub fn say_node(node: Node) {
     say_kind(node.kind);
-    let operands = operands_of(node.kind);
-    if operands > 0 {
-        say_field(node.first as usize);
-    }
-    if operands > 1 {
-        say_field(node.second as usize);
+    let operands = netlists::operands_of(node);
+    let count = operand_count(node.kind);
+    let mut j = 0;
+    while j < count {
+        say_field(operands[j] as usize);
+        j += 1;
     }
 }

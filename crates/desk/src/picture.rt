@@ -9,11 +9,12 @@ use crate::say::say_set;
 use crate::steps::step_at;
 use derivations::Derived;
 use derivations::MOST_BYTES;
-use listing_lines::operands_of;
 use marks::Marks;
 use netlists::Netlist;
+use records::operand_count;
 use rules::Answer;
 use rules::Half;
+use rules::MOST_BODY;
 use rules::MOST_NODES;
 use rules::MOST_WORK;
 use rules::Node;
@@ -81,9 +82,7 @@ fn suspect_path(netlist: Netlist, work: &[u8; MOST_WORK], glitch: Half) -> Path
     let mut steps = [0u8; MOST_BYTES];
     match derivations::derive_held(netlist, work, node, 1, set, &mut steps) {
         Derived::Steps(count) => path_of(&steps, count),
-        Derived::Refused(refusal) => {
-            no_path(refusals::number_of(refusal), refusals::place_of(refusal))
-        }
+        Derived::Refused(refusal) => no_path(refusals::number_of(refusal), refusal.place),
     }
 }
 
@@ -162,13 +161,13 @@ fn say_operand(from: u8, i: usize, thick: bool) {
 }
 
 // The lines of a node's operands.
-fn say_operands(i: usize, node: Node, first: bool, second: bool) {
-    let operands = operands_of(node.kind);
-    if operands > 0 {
-        say_operand(node.first, i, first);
-    }
-    if operands > 1 {
-        say_operand(node.second, i, second);
+fn say_operands(i: usize, node: Node, thick: [bool; MOST_BODY]) {
+    let operands = netlists::operands_of(node);
+    let count = operand_count(node.kind);
+    let mut j = 0;
+    while j < count {
+        say_operand(operands[j], i, thick[j]);
+        j += 1;
     }
 }
 
@@ -181,7 +180,8 @@ fn say_nodes(netlist: Netlist, marks: Marks, path: Path) {
         }
         let node = netlist.nodes[i];
         say_node_line(netlist, i, node, marks.settled[i], marks.glitch[i]);
-        say_operands(i, node, path.first[i], path.second[i]);
+        let thick = [path.first[i], path.second[i]];
+        say_operands(i, node, thick);
         i += 1;
     }
 }
@@ -190,15 +190,21 @@ fn say_nodes(netlist: Netlist, marks: Marks, path: Path) {
 
 // The most registers on any path into a node, itself included, where these are the stages of the lower nodes.
 fn stage_of(node: Node, stages: [usize; MOST_NODES]) -> usize {
-    let first = stage_at(stages, node.first);
-    let second = stage_at(stages, node.second);
-    let kind = node.kind;
-    match kind {
-        2 => 0,
-        3 => first,
-        7 => wrapping_add_usize(first, 1),
-        _ => { if first < second { second } else { first } }
+    let operands = netlists::operands_of(node);
+    let count = operand_count(node.kind);
+    let mut stage = 0;
+    let mut j = 0;
+    while j < count {
+        let lower = stage_at(stages, operands[j]);
+        if stage < lower {
+            stage = lower;
+        }
+        j += 1;
     }
+    if node.kind == 7 {
+        return wrapping_add_usize(stage, 1);
+    }
+    stage
 }
 
 // The stage of a lower node; 0 for a number that is no node's.

@@ -8,6 +8,7 @@ use read_words::Fault;
 use rules::Answer;
 use rules::Half;
 use rules::MOST_VARIABLES;
+use rules::Reason;
 use rules::Refusal;
 
 // The most bytes that are shown of what was found.
@@ -85,25 +86,27 @@ pub fn say_closing(faulty: bool, answer: Answer, made: usize, classes: [u8; MOST
     say_suspect(glitch, classes);
 }
 
-// The reason of a refusal, by its number, in words.
-fn say_reason(number: usize) {
-    match number {
-        1 => say(b"a kind above 7; words are read from a file whose name ends in .txt"),
-        2 => say(b"a variable after a node"),
-        3 => say(b"the eleventh variable or the 201st node"),
-        4 => say(b"the bytes end inside a record"),
-        5 => say(b"a class above 2"),
-        6 => say(b"an input names a variable that is not declared"),
-        7 => say(b"an operand is not a lower node"),
-        8 => say(b"the bytes run out with no end record"),
-        9 => say(b"bytes after the end record"),
-        10 => say(b"fewer entries than nodes"),
-        11 => say(b"work below 256 bytes a node"),
-        12 => say(b"there is no such node"),
-        13 => say(b"the number has a bit of a variable that is not declared"),
-        14 => say(b"another node names this one"),
-        15 => say(b"more steps than 512"),
-        _ => say(b"the set is not in the family"),
+// The reason of a refusal, in words.
+fn say_reason(reason: Reason) {
+    match reason {
+        Reason::UnknownKind => say(
+            b"a kind above 7; words are read from a file whose name ends in .txt",
+        ),
+        Reason::LateVariable => say(b"a variable after a node"),
+        Reason::OverLimit => say(b"the eleventh variable or the 201st node"),
+        Reason::CutShort => say(b"the bytes end inside a record"),
+        Reason::UnknownClass => say(b"a class above 2"),
+        Reason::UndeclaredSet => say(b"an input names a variable that is not declared"),
+        Reason::BadOperand => say(b"an operand is not a lower node"),
+        Reason::NoEnd => say(b"the bytes run out with no end record"),
+        Reason::BytesAfterEnd => say(b"bytes after the end record"),
+        Reason::FewEntries => say(b"fewer entries than nodes"),
+        Reason::ShortWork => say(b"work below 256 bytes a node"),
+        Reason::NoSuchNode => say(b"there is no such node"),
+        Reason::UndeclaredBit => say(b"the number has a bit of a variable that is not declared"),
+        Reason::StillNamed => say(b"another node names this one"),
+        Reason::TooManySteps => say(b"more steps than 512"),
+        Reason::NotInFamily => say(b"the set is not in the family"),
     }
 }
 
@@ -125,9 +128,10 @@ fn say_line(line: usize) {
 
 // Prints a refusal with its reason, and with the line of the block's text that the record stands on, unless that is 0.
 pub fn say_refused(refusal: Refusal, line: usize) {
+    let reason = refusal.reason;
     say_refusal_fields(refusal);
     say(b" # ");
-    say_reason(refusals::number_of(refusal));
+    say_reason(reason);
     say_line(line);
 }
 

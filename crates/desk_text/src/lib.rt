@@ -63,8 +63,7 @@ pub fn refusal_fields(text: &mut [u8; ROOM], refusal: Refusal) -> usize
     ensures most { λ r. ⌜ r ≤ most-text ⌝ }
 {
     let number = refusals::number_of(refusal);
-    let place = refusals::place_of(refusal);
-    put_fields(text, 0, b"refused", &[number, place])
+    put_fields(text, 0, b"refused", &[number, refusal.place])
 }
 
 // ---- an answer

@@ -1,7 +1,7 @@
 -- What the words of a line of edits ask for, and whether a comment is stuck to one, as the functions find it.
 -- Assumes nothing.
-use Prim.Native.Nat.{ℕ, zero, suc, _+_, _-_, _≤_, _<_}
-use mathlib.Core.Path.{_≡_, refl, sym, ap, _∙_}
+use Prim.Native.Nat.{ℕ, _+_, _-_, _≤_, _<_}
+use mathlib.Core.Path.{_≡_, refl}
 use mathlib.Core.Bool.{Bool, false, not}
 use mathlib.Core.List.{List, [], _∷_}
 use native.Mathlib.Omega.{arith}
@@ -9,25 +9,15 @@ use native.Mathlib.Numerals.{add-one}
 use borrow.Author.Tests.{eq-eqb, ne-eqb}
 use lib.ListN.{length, getD, take, drop, length-take, length-drop, drop-of-length-le}
 use lib.Seq.{drop-cons}
+use Rattle.scanner.specs.Scans.{part}
+use Rattle.scanner.specs.Words.{isBlank}
 use Rattle.read_words.specs.declared.Fault.{Fault}
 use Rattle.read_words.specs.Meaning.{IsRecord}
-use Rattle.read_words.specs.Scans.{part}
-use Rattle.read_words.specs.Words.{nothing, wrong, isBlank, recordIn}
+use Rattle.read_words.specs.Words.{nothing, wrong, recordIn}
 use Rattle.edit_rules.specs.Edits.{add}
 use Rattle.edit_lines.specs.Asks.{changes, writes, noEdit, addition, written, stuck}
 
 -- ---- a record
-
--- the first bytes of a list that has them, read one by one
-firsts : (n : ℕ) (bytes : List ℕ) → n ≤ 3 → length (take n bytes) ≡ n → take n (getD bytes 0 0 ∷ getD bytes 1 0 ∷ getD bytes 2 0 ∷ []) ≡ take n bytes
-firsts zero bytes h full = refl
-firsts (suc n) [] h full = absurd (omega arith)
-firsts (suc zero) (a ∷ bytes) h full = refl
-firsts (suc (suc n)) (a ∷ []) h full = absurd (omega arith)
-firsts (suc (suc zero)) (a ∷ b ∷ bytes) h full = refl
-firsts (suc (suc (suc n))) (a ∷ b ∷ []) h full = absurd (omega arith)
-firsts (suc (suc (suc zero))) (a ∷ b ∷ c ∷ bytes) h full = refl
-firsts (suc (suc (suc (suc n)))) (a ∷ b ∷ c ∷ bytes) h full = absurd (omega arith)
 
 module _ (behind : List (List ℕ)) where
   pub adds-nothing : recordIn behind ≡ nothing → noEdit ≡ addition behind
@@ -38,10 +28,9 @@ module _ (behind : List (List ℕ)) where
   unfolding addition
   adds-wrong fault e = rw (e, addition)
 
-  pub adds-record : (n : ℕ) (bytes : List ℕ) → IsRecord (recordIn behind) n bytes
-      → changes (add (take n (getD bytes 0 0 ∷ getD bytes 1 0 ∷ getD bytes 2 0 ∷ []))) ≡ addition behind
+  pub adds-record : (n : ℕ) (bytes : List ℕ) → IsRecord (recordIn behind) n bytes → changes (add (take n bytes)) ≡ addition behind
   unfolding addition
-  adds-record n bytes r = rw (r .is, addition, firsts n bytes (r .few) (ap length (r .front) ∙ sym (r .long)), r .front)
+  adds-record n bytes r = rw (r .is, addition, r .front)
 
 -- ---- a name
 

@@ -1,10 +1,12 @@
 -- Lines of edits and what they ask for, computed. Assumes nothing.
 use mathlib.Core.Path.{_≡_, refl}
 use mathlib.Core.List.{[], _∷_}
-use Rattle.rules.specs.Listing.{word}
-use Rattle.rules.specs.Records.{kindOf, operands, body, recordBytes}
-use Rattle.read_words.specs.Numbers.{allDigits, valueBehind, numberBehind, numberIn}
-use Rattle.read_words.specs.Words.{closed, wordsBehind, words, same, cut, withOperand, withTwo, forms, readBy, recordIn}
+use Rattle.rules.specs.Records.{listed, firstOf, kindOf, body, recordBytes}
+use Rattle.rules.specs.Checks.{notBelow}
+use Rattle.rules.specs.Listing.{word, nameOf}
+use Rattle.scanner.specs.Numbers.{allDigits, valueBehind, numberBehind, numberIn, cut}
+use Rattle.scanner.specs.Words.{closed, wordsBehind, words, same}
+use Rattle.read_words.specs.Words.{withNumbers, withOperands, forms, readBy, recordIn}
 use Rattle.edit_rules.specs.Edits.{add, remove}
 use Rattle.edit_lines.specs.Asks.{none, changes, lists, writes, quits, noEdit, addition, only, removal, written, alone, asked, stuck, unlessStuck, asksIn}
 
@@ -17,7 +19,7 @@ edits : (asksIn (word "add xor 3 4") ≡ changes (add (4 ∷ 3 ∷ 4 ∷ [])))
     × (asksIn (word "quit # at last") ≡ quits)
     × (asksIn (word "  ") ≡ none)
     × (asksIn (word "# add xor 3 4") ≡ none)
-unfolding asksIn unlessStuck stuck asked word words wordsBehind closed same addition only removal written alone recordIn readBy forms withOperand withTwo cut numberIn numberBehind allDigits valueBehind recordBytes kindOf operands body
+unfolding asksIn unlessStuck stuck asked word words wordsBehind closed same addition only removal written alone recordIn readBy forms withNumbers withOperands notBelow nameOf listed firstOf cut numberIn numberBehind allDigits valueBehind recordBytes kindOf body
 edits = (refl, refl, refl, refl, refl, refl, refl, refl)
 
 -- a comment that is stuck to a word: nothing is written, and every other edit stays
@@ -36,5 +38,5 @@ no-edits : (asksIn (word "add") ≡ noEdit)
     × (asksIn (word "add xor 3") ≡ noEdit)
     × (asksIn (word "remove x") ≡ noEdit)
     × (asksIn (word "Quit") ≡ noEdit)
-unfolding asksIn unlessStuck stuck asked word words wordsBehind closed same addition only removal written alone recordIn readBy forms withTwo numberIn numberBehind allDigits valueBehind
+unfolding asksIn unlessStuck stuck asked word words wordsBehind closed same addition only removal written alone recordIn readBy forms withNumbers withOperands nameOf numberIn numberBehind allDigits valueBehind
 no-edits = (refl, refl, refl, refl, refl, refl, refl, refl)

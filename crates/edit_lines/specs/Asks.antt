@@ -5,10 +5,11 @@ use mathlib.Core.Bool.{Bool, true, false, cond, not}
 use mathlib.Core.List.{List, [], _∷_}
 use Rattle.rules.specs.Records.{recordBytes}
 use Rattle.rules.specs.Listing.{word}
-use Rattle.read_words.specs.declared.Number.{Number}
-use Rattle.read_words.specs.declared.Number.the-variants as Number
-use Rattle.read_words.specs.Numbers.{numberIn}
-use Rattle.read_words.specs.Words.{nothing, says, wrong, isBlank, startsComment, words, same, recordIn}
+use Rattle.scanner.specs.declared.Number.{Number}
+use Rattle.scanner.specs.declared.Number.the-variants as Number
+use Rattle.scanner.specs.Numbers.{numberIn}
+use Rattle.scanner.specs.Words.{isBlank, startsComment, words, same}
+use Rattle.read_words.specs.Words.{nothing, says, wrong, recordIn}
 use Rattle.edit_rules.specs.Edits.{Edit, add, remove}
 
 pub data Asks : Type 0 where

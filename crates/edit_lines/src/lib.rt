@@ -5,26 +5,27 @@ ghost use mathlib.Core.Bool.{true, false};
 ghost use mathlib.Core.List.{List};
 ghost use Prim.Native.Nat.{ℕ, _≤_};
 ghost use lib.ListN.{length, drop};
-ghost use Rattle.read_words.specs.Numbers.{numberIn};
-ghost use Rattle.read_words.specs.Scans.{part};
-ghost use Rattle.read_words.specs.Words.{words};
+ghost use Rattle.scanner.specs.Numbers.{numberIn};
+ghost use Rattle.scanner.specs.Scans.{part};
+ghost use Rattle.scanner.specs.Words.{words};
 ghost use Rattle.edit_lines.specs.Asks.{addition, only, removal, written};
 ghost use Rattle.edit_lines.specs.Asks.{alone, asked, stuck, unlessStuck, asksIn};
-ghost use Rattle.edit_lines.specs.Meaning.{asksOf, Within};
+ghost use Rattle.edit_lines.specs.Meaning.{asksBy, asksOf, WithinBy, Within};
 use read_words::Fault;
-use read_words::Number;
-use read_words::Place;
+use read_words::MOST_RECORD;
 use read_words::Worded;
-use read_words::is_blank;
-use read_words::is_word;
-use read_words::next_word;
+use scanner::Number;
+use scanner::Place;
+use scanner::is_blank;
+use scanner::is_word;
+use scanner::next_word;
 
-// What a line asks for: nothing; a new node, by the first so many of three bytes; a node to remove; the listing;
+// What a line asks for: nothing; a new node, by a record of so many bytes; a node to remove; the listing;
 // the block written to the file that a part of the line names; the end of the edits. Or it is no edit:
 // no record of a known form behind `add`, no number behind `remove`, or nothing of that sort at all.
-pub enum Asked {
+pub enum Ask {
     Nothing,
-    Add(usize, u8, u8, u8),
+    Add(usize),
     Remove(usize),
     List,
     Write(usize, usize),
@@ -32,6 +33,12 @@ pub enum Asked {
     NoRecord(Fault),
     NoNumber,
     NoEdit,
+}
+
+// The same, with the bytes that a new node's record begins.
+pub struct Asked {
+    pub ask: Ask,
+    pub own: [u8; MOST_RECORD],
 }
 
 // ---- what stands behind the first word, from `at` on
@@ -54,84 +61,85 @@ fn only_word(line: &[u8], at: usize) -> Place
 }
 
 // A record in words.
-fn added(line: &[u8], at: usize) -> Asked
+fn added(line: &[u8], at: usize, own: &mut [u8; MOST_RECORD]) -> Ask
     requires { ⌜ at ≤ length (now line) ⌝ }
-    ensures { λ r. ⌜ asksOf r (now (line .entry)) ≡ addition (words (drop at (now (line .entry)))) ⌝ }
-    ensures within { λ r. ⌜ Within r (length (now (line .entry))) ⌝ }
+    ensures { λ r. ⌜ asksBy r (now (own .exit)) (now (line .entry)) ≡ addition (words (drop at (now (line .entry)))) ⌝ }
+    ensures within { λ r. ⌜ WithinBy r (length (now (line .entry))) ⌝ }
 {
-    let mut record = [0u8; 3];
-    match read_words::record_of(&line[at..], &mut record) {
-        Worded::Nothing => Asked::NoEdit,
-        Worded::Wrong(fault) => Asked::NoRecord(fault),
-        Worded::Bytes(count) => Asked::Add(count, record[0], record[1], record[2]),
+    match read_words::record_of(&line[at..], own) {
+        Worded::Nothing => Ask::NoEdit,
+        Worded::Wrong(fault) => Ask::NoRecord(fault),
+        Worded::Bytes(count) => Ask::Add(count),
     }
 }
 
 // A node to remove.
-fn removed(line: &[u8], at: usize) -> Asked
+fn removed(line: &[u8], at: usize) -> Ask
     requires { ⌜ at ≤ length (now line) ⌝ }
-    ensures { λ r. ⌜ asksOf r (now (line .entry)) ≡ removal (numberIn (only (words (drop at (now (line .entry)))))) ⌝ }
-    ensures within { λ r. ⌜ Within r (length (now (line .entry))) ⌝ }
+    ensures { λ r. ⌜ ((own : List ℕ) → asksBy r own (now (line .entry)) ≡
+        removal (numberIn (only (words (drop at (now (line .entry))))))) ⌝ }
+    ensures within { λ r. ⌜ WithinBy r (length (now (line .entry))) ⌝ }
 {
     let word = only_word(line, at);
     let from = word.from;
     let to = word.to;
-    match read_words::number_of(&line[from..to]) {
-        Number::Is(node) => Asked::Remove(node),
+    match scanner::number_of(&line[from..to]) {
+        Number::Is(node) => Ask::Remove(node),
         Number::None => {
             if from == to {
-                return Asked::NoEdit;
+                return Ask::NoEdit;
             }
-            Asked::NoNumber
+            Ask::NoNumber
         }
     }
 }
 
 // A file's name.
-fn named(line: &[u8], at: usize) -> Asked
+fn named(line: &[u8], at: usize) -> Ask
     requires { ⌜ at ≤ length (now line) ⌝ }
-    ensures { λ r. ⌜ asksOf r (now (line .entry)) ≡ written (only (words (drop at (now (line .entry))))) ⌝ }
-    ensures within { λ r. ⌜ Within r (length (now (line .entry))) ⌝ }
+    ensures { λ r. ⌜ ((own : List ℕ) → asksBy r own (now (line .entry)) ≡
+        written (only (words (drop at (now (line .entry)))))) ⌝ }
+    ensures within { λ r. ⌜ WithinBy r (length (now (line .entry))) ⌝ }
 {
     let word = only_word(line, at);
     let from = word.from;
     let to = word.to;
     if from == to {
-        return Asked::NoEdit;
+        return Ask::NoEdit;
     }
-    Asked::Write(from, to)
+    Ask::Write(from, to)
 }
 
 // Nothing: then it is what the first word asks for.
-fn unless_more(line: &[u8], at: usize, first: Asked) -> Asked
+fn unless_more(line: &[u8], at: usize, first: Ask) -> Ask
     requires { ⌜ at ≤ length (now line) ⌝ }
-    ensures { λ r. ⌜ asksOf r (now (line .entry)) ≡
-        alone (asksOf first (now (line .entry))) (words (drop at (now (line .entry)))) ⌝ }
-    ensures within { λ r. ⌜ (Within first (length (now (line .entry))) → Within r (length (now (line .entry)))) ⌝ }
+    ensures { λ r. ⌜ ((own : List ℕ) → asksBy r own (now (line .entry)) ≡
+        alone (asksBy first own (now (line .entry))) (words (drop at (now (line .entry))))) ⌝ }
+    ensures within { λ r. ⌜ (WithinBy first (length (now (line .entry))) → WithinBy r (length (now (line .entry)))) ⌝ }
 {
     let more = next_word(line, at);
     if more.from == more.to {
         return first;
     }
-    Asked::NoEdit
+    Ask::NoEdit
 }
 
 // ---- a line
 
 // What its words ask for.
-fn by_words(line: &[u8]) -> Asked
-    ensures { λ r. ⌜ asksOf r (now (line .entry)) ≡ asked (words (now (line .entry))) ⌝ }
-    ensures within { λ r. ⌜ Within r (length (now (line .entry))) ⌝ }
+fn by_words(line: &[u8], own: &mut [u8; MOST_RECORD]) -> Ask
+    ensures { λ r. ⌜ asksBy r (now (own .exit)) (now (line .entry)) ≡ asked (words (now (line .entry))) ⌝ }
+    ensures within { λ r. ⌜ WithinBy r (length (now (line .entry))) ⌝ }
 {
     let name = next_word(line, 0);
     let from = name.from;
     let to = name.to;
     if from == to {
-        return Asked::Nothing;
+        return Ask::Nothing;
     }
     let word = &line[from..to];
     if is_word(word, b"add") {
-        return added(line, to);
+        return added(line, to, own);
     }
     if is_word(word, b"remove") {
         return removed(line, to);
@@ -140,12 +148,12 @@ fn by_words(line: &[u8]) -> Asked
         return named(line, to);
     }
     if is_word(word, b"list") {
-        return unless_more(line, to, Asked::List);
+        return unless_more(line, to, Ask::List);
     }
     if is_word(word, b"quit") {
-        return unless_more(line, to, Asked::Quit);
+        return unless_more(line, to, Ask::Quit);
     }
-    Asked::NoEdit
+    Ask::NoEdit
 }
 
 // Whether a comment is stuck to a word.
@@ -166,13 +174,13 @@ fn is_stuck(line: &[u8]) -> bool
 }
 
 // What is left of it where a comment is stuck to a word.
-fn unless_named(asked: Asked) -> Asked
-    ensures { λ r. ⌜ ((line : List ℕ) → asksOf r line ≡ unlessStuck true (asksOf asked line)) ⌝ }
-    ensures within { λ r. ⌜ ((long : ℕ) → Within asked long → Within r long) ⌝ }
+fn unless_named(ask: Ask) -> Ask
+    ensures { λ r. ⌜ ((own line : List ℕ) → asksBy r own line ≡ unlessStuck true (asksBy ask own line)) ⌝ }
+    ensures within { λ r. ⌜ ((long : ℕ) → WithinBy ask long → WithinBy r long) ⌝ }
 {
-    match asked {
-        Asked::Write(_, _) => Asked::NoEdit,
-        _ => asked,
+    match ask {
+        Ask::Write(_, _) => Ask::NoEdit,
+        _ => ask,
     }
 }
 
@@ -181,9 +189,11 @@ pub fn asked_in(line: &[u8]) -> Asked
     ensures { λ r. ⌜ asksOf r (now (line .entry)) ≡ asksIn (now (line .entry)) ⌝ }
     ensures within { λ r. ⌜ Within r (length (now (line .entry))) ⌝ }
 {
-    let asked = by_words(line);
+    let mut own = [0u8; MOST_RECORD];
+    let ask = by_words(line, &mut own);
     if is_stuck(line) {
-        return unless_named(asked);
+        let left = unless_named(ask);
+        return Asked { ask: left, own };
     }
-    asked
+    Asked { ask, own }
 }

@@ -2,125 +2,108 @@
 -- whose entries behind the node's move down over its own, and which are then those of the netlist without the node.
 -- Assumes nothing.
 use Prim.Native.Nat.{ℕ, zero, suc, _+_, _*_, _-_, _≤_, _<_}
-use mathlib.Core.Path.{_≡_, refl, sym, ap, ap₂, _∙_}
-use mathlib.Core.List.{List, [], _∷_, _++_, map, map-append, append-assoc, append-nil}
+use mathlib.Core.Path.{_≡_, sym, ap, ap₂, _∙_}
+use mathlib.Core.List.{List, [], _∷_, _++_, map, append-assoc, append-nil}
 use native.Mathlib.Omega.{arith}
-use lib.ListN.{length, getD, take, drop, set, length-map}
+use lib.ListN.{length, getD, take, drop, set, length-map, List·getD-eq-default}
 use lib.Seq.{take-append-add, drop-append-add, drop-at, length-take-le, take-take, take-add}
 use Rattle.rules.specs.declared.Node.{Node}
-use Rattle.rules.specs.Records.{Cell, input, NOT, XOR, AND, OR, register, Netlist, WellFormed, kindOf, operands, setOf, most-nodes}
+use Rattle.rules.specs.Records.{Cell, input, Netlist, WellFormed, renamed, most-nodes}
 use Rattle.rules.specs.Families.{Families, families}
 use Rattle.rules.specs.Slices.{entry, nodeBytes, workBytes}
-use Rattle.rules.proofs.Members.{All}
+use Rattle.rules.proofs.Operands.{renamed-stays}
 use Rattle.rules.proofs.Exit.{families-length}
 use Rattle.rules.proofs.Packing.{work-length}
 use Rattle.netlists.specs.declared.Netlist as Value
 use Rattle.netlists.specs.Netlists.{blank, flatOf}
-use Rattle.netlists.proofs.Netlists.{value-count}
-use Rattle.netlists.proofs.Without.{shifted, shifted-none, shifted-next, padded-without, map-take, map-drop}
+use Rattle.netlists.proofs.Netlists.{padded-length, padded-same, flat-entry-at, value-variables, value-count}
+use Rattle.netlists.proofs.Without.{Becoming, none-done, next-done, all-done}
 use Rattle.rules.specs.Lists.{without}
-use Rattle.edit_rules.specs.Edits.{lowered, renumbered, withoutNode}
-use Rattle.edit_parts.specs.Parts.{renumberedEntry, movedDown}
+use Rattle.edit_rules.specs.Edits.{lowered, withoutNode}
+use Rattle.edit_parts.specs.Parts.{movedDown}
 use Rattle.edit_rules.specs.Edits.{HoldsFamilies}
-use Rattle.edit_rules.proofs.Removal.{lowered-low, lowered-high, first-of, second-of, Unused, removed-length, families-removed}
+use Rattle.edit_rules.proofs.Removal.{Other, lowered-low, lowered-high, Unused, removed-length, removed-node, families-removed}
 
--- ---- those of a netlist
+-- ---- node records that move down
 
-module _ (removed : ℕ) where
-  -- a renumbered node's record is the renumbered record
-  pub entry-renumbered : (cell : Cell) → entry (renumbered removed cell) ≡ renumberedEntry removed (entry cell)
-  unfolding entry renumbered kindOf operands setOf
-  entry-renumbered (input s) = rw (lowered-low removed 0 (omega arith))
-  entry-renumbered (NOT a) = rw (lowered-low removed 0 (omega arith))
-  entry-renumbered (XOR a b) = refl
-  entry-renumbered (AND a b) = refl
-  entry-renumbered (OR a b) = refl
-  entry-renumbered (register a) = rw (lowered-low removed 0 (omega arith))
+-- as many as there may be, and beyond the netlist's nodes all are blank
+records-length : (n : Netlist) → length (n .nodes) ≤ most-nodes → length (flatOf n .nodes) ≡ most-nodes
+unfolding flatOf
+records-length n few = padded-length most-nodes blank (map entry (n .nodes)) (omega (arith, length-map (n .nodes) entry))
 
-  entries-renumbered : (cells : List Cell) → map entry (map (renumbered removed) cells) ≡ map (renumberedEntry removed) (map entry cells)
-  entries-renumbered [] = refl
-  entries-renumbered (cell ∷ cells) = ap₂ {C = List Node} (λ e es. e ∷ es) (entry-renumbered cell) (entries-renumbered cells)
+beyond : (n : Netlist) (k : ℕ) → length (n .nodes) ≤ k → getD (flatOf n .nodes) k blank ≡ blank
+unfolding flatOf
+beyond n k h =
+    padded-same most-nodes blank (map entry (n .nodes)) k
+    ∙ List·getD-eq-default (map entry (n .nodes)) blank (omega (arith, length-map (n .nodes) entry))
 
-  -- a node whose operands stand before the one that is removed stays
-  abbrev Low : List ℕ → Type 0
-  Low = All (λ a. a ≤ removed)
+module _ (n : Netlist) (removed : ℕ) where
+  -- the records up to i are those of the netlist without the node
+  abbrev pub Moving : List Node → ℕ → Type 0
+  Moving = Becoming blank (flatOf n .nodes) (flatOf (withoutNode n removed) .nodes)
 
-  low-one : (a : ℕ) → Low (a ∷ []) → lowered removed a ≡ a
-  low-one a all = lowered-low removed a (first-of (λ a. a ≤ removed) a [] all)
+  module _ (formed : WellFormed n) (there : removed < length (n .nodes)) where
+    one-less : length (withoutNode n removed .nodes) ≡ length (n .nodes) - 1
+    one-less = removed-length n removed ∙ lowered-high removed (length (n .nodes)) there
 
-  low-two : (a b : ℕ) → Low (a ∷ b ∷ []) → (lowered removed a ≡ a) × (lowered removed b ≡ b)
-  low-two a b all =
-      (lowered-low removed a (first-of (λ a. a ≤ removed) a (b ∷ []) all), lowered-low removed b (second-of (λ a. a ≤ removed) a b [] all))
+    -- each other node's, renumbered
+    own : (i k : ℕ) → Other removed i → lowered removed i ≡ k → k < length (n .nodes) - 1
+        → getD (flatOf (withoutNode n removed) .nodes) k blank ≡ entry (renamed (lowered removed) (getD (n .nodes) i (input 0)))
+    own i k other follows h =
+        flat-entry-at (withoutNode n removed) k (omega (arith, one-less)) ∙ ap entry (rw follows at (removed-node n removed i other))
 
-  stays : (cell : Cell) → Low (operands cell) → renumbered removed cell ≡ cell
-  unfolding renumbered operands
-  stays (input s) all = refl
-  stays (NOT a) all = ap NOT (low-one a all)
-  stays (XOR a b) all = let (p, q) = low-two a b all in ap₂ XOR p q
-  stays (AND a b) all = let (p, q) = low-two a b all in ap₂ AND p q
-  stays (OR a b) all = let (p, q) = low-two a b all in ap₂ OR p q
-  stays (register a) all = ap register (low-one a all)
+    -- those before the node have lower operands, and so stay
+    pub none-moved : Moving (flatOf n .nodes) removed
+    none-moved =
+        none-done blank _ _ removed (λ k h.
+        flat-entry-at n k (omega arith)
+        ∙ sym (own k k (λ e. omega arith) (lowered-low removed k (omega arith)) (omega arith)
+        ∙ ap entry (renamed-stays (lowered removed) _ (λ a t. lowered-low removed a (omega (arith, formed .lower k (omega arith) a t))))))
 
-  -- and so do the first k nodes, where theirs do
-  front : (k : ℕ) (cells : List Cell) → ((i : ℕ) → i < k → Low (operands (getD cells i (input 0)))) → map (renumbered removed) (take k cells) ≡ take k cells
-  front zero cells low = refl
-  front (suc k) [] low = refl
-  front (suc k) (cell ∷ cells) low =
-      ap₂ {C = List Cell} (λ c cs. c ∷ cs) (stays cell (low 0 (omega arith))) (front k cells (λ i h. low (suc i) (omega arith)))
+    -- the next moves down, with its operands renumbered
+    pub next-moved : (nodes : List Node) (i : ℕ) (e : Node) → removed ≤ i → i + 1 < length (n .nodes)
+        → ((cell : Cell) → getD nodes (i + 1) blank ≡ entry cell → e ≡ entry (renamed (lowered removed) cell)) → Moving nodes i → Moving (set nodes i e) (i + 1)
+    next-moved nodes i e h more made m =
+        let down : lowered removed (i + 1) ≡ i = omega (arith, lowered-high removed (i + 1) (omega arith)) in
+        next-done blank _ _ nodes i e (omega (arith, records-length n (formed .few-nodes), formed .few-nodes))
+        (made (getD (n .nodes) (i + 1) (input 0)) (m .left (i + 1) (omega arith) ∙ flat-entry-at n (i + 1) more)
+        ∙ sym (own (i + 1) i (λ s. omega arith) down (omega arith))) m
 
-module _ (n : Netlist) (formed : WellFormed n) (removed : ℕ) (there : removed < length (n .nodes)) where
-  abbrev entries : List Node
-  entries = map entry (n .nodes)
+    -- once all have moved, and the last is blank, they are those of the netlist without the node
+    all-moved : (nodes : List Node) → Moving nodes (length (n .nodes) - 1) → set nodes (length (n .nodes) - 1) blank ≡ flatOf (withoutNode n removed) .nodes
+    all-moved nodes m =
+        let few = formed .few-nodes in
+        let same = records-length n few in
+        let fewer = records-length (withoutNode n removed) (omega (arith, one-less)) in
+        all-done blank _ _ _ (length (n .nodes) - 1 + 1) (omega arith)
+        (λ k h. beyond n k (omega arith) ∙ sym (beyond (withoutNode n removed) k (omega (arith, one-less))))
+        (next-done blank _ _ nodes (length (n .nodes) - 1) blank (omega arith) (sym (beyond (withoutNode n removed) _ (omega (arith, one-less)))) m)
 
-  -- the records of the nodes before the one that is removed, and renumbered those of the nodes behind it
-  entries-removed : map entry (withoutNode n removed .nodes) ≡ take removed entries ++ map (renumberedEntry removed) (drop (suc removed) entries)
-  unfolding withoutNode without
-  entries-removed =
-      ap (map entry) (map-append (renumbered removed) (take removed (n .nodes)) (drop (suc removed) (n .nodes)))
-      ∙ map-append entry (map (renumbered removed) (take removed (n .nodes))) _
-      ∙ ap₂ _++_
-      (ap (map entry) (front removed removed (n .nodes) (λ i h a t. omega (arith, formed .lower i (omega arith) a t))) ∙ map-take entry removed (n .nodes))
-      (entries-renumbered removed (drop (suc removed) (n .nodes)) ∙ ap (map (renumberedEntry removed)) (map-drop entry (suc removed) (n .nodes)))
+-- ---- a block by value
 
-  pub removed-records : set (shifted (renumberedEntry removed) blank (flatOf n .nodes) removed (length (n .nodes) - 1 - removed)) (length (n .nodes) - 1) blank
-      ≡ flatOf (withoutNode n removed) .nodes
-  unfolding flatOf
-  removed-records =
-      let many = length-map (n .nodes) entry in
-      rw (entries-removed, ← many)
-      (padded-without (renumberedEntry removed) blank (rw (lowered-low removed 0 (omega arith))) most-nodes entries (omega (arith, formed .few-nodes)) removed (omega arith))
+-- all else is as it was, and of each netlist that it is of the records up to i have moved
+pub record Reached (block shorter : Value.Netlist) (removed i : ℕ) : Type 0 where
+  pub variables : shorter .variables ≡ block .variables
+  pub classes : shorter .classes ≡ block .classes
+  pub moving : (n : Netlist) → WellFormed n → block ≡ flatOf n → Moving n removed (shorter .nodes) i
 
--- ---- a block by value, whose node records move down
-
--- with these node records; and with one node less, and the last record blank
-abbrev pub with : Value.Netlist → List Node → Value.Netlist
-with block nodes = record { variables = block .variables; count = block .count; classes = block .classes; nodes = nodes }
-
+-- with one node less, and the last record blank
 abbrev pub shortened : Value.Netlist → (last : ℕ) → Value.Netlist
 shortened block last = record { variables = block .variables; count = last; classes = block .classes; nodes = set (block .nodes) last blank }
 
--- the records up to i have moved
-abbrev pub Reached : (block shorter : Value.Netlist) (removed i : ℕ) → Type 0
-Reached block shorter removed i = shorter ≡ with block (shifted (renumberedEntry removed) blank (block .nodes) removed (i - removed))
-
-pub none-moved : (block : Value.Netlist) (removed : ℕ) → Reached block block removed removed
-none-moved block removed = ap (with block) (shifted-none (renumberedEntry removed) blank (block .nodes) removed)
-
-pub next-moved : (block shorter : Value.Netlist) (removed i : ℕ) (e : Node) → removed ≤ i → Reached block shorter removed i
-    → e ≡ renumberedEntry removed (getD (shorter .nodes) (i + 1) blank) → Reached block (with shorter (set (shorter .nodes) i e)) removed (i + 1)
-next-moved block shorter removed i e h reached made =
-    rw (made, reached) (ap (with block) (shifted-next (renumberedEntry removed) blank (block .nodes) removed i h))
-
-pub all-moved : (block shorter : Value.Netlist) (removed i : ℕ) → removed < block .count → i ≡ block .count - 1 → Reached block shorter removed i
+pub shortened-formed : (block shorter : Value.Netlist) (removed i : ℕ) → removed < block .count → i ≡ block .count - 1 → Reached block shorter removed i
     → (n : Netlist) → WellFormed n → block ≡ flatOf n → shortened shorter (block .count - 1) ≡ flatOf (withoutNode n removed)
 unfolding flatOf withoutNode
-all-moved block shorter removed i there end reached n formed is =
-    rw (reached, end, is)
-    (ap₂ (λ (count : ℕ) (nodes : List Node). record { variables = length (n .variables); count = count; classes = flatOf n .classes; nodes = nodes })
-    fewer (removed-records n formed removed (omega (arith, value-count n is))))
-  where
-    fewer : length (n .nodes) - 1 ≡ length (withoutNode n removed .nodes)
-    fewer = omega (arith, removed-length n removed, lowered-high removed (length (n .nodes)) (omega (arith, value-count n is)))
+shortened-formed block shorter removed i there end reached n formed is =
+    let count = value-count n is in
+    let inside : removed < length (n .nodes) = omega arith in
+    let last : block .count - 1 ≡ length (n .nodes) - 1 = omega arith in
+    let variables : shorter .variables ≡ length (n .variables) = reached .variables ∙ value-variables n is in
+    let fewer : block .count - 1 ≡ length (withoutNode n removed .nodes) = omega (arith, one-less n removed formed inside) in
+    let classes : shorter .classes ≡ flatOf n .classes = reached .classes ∙ ap (λ (t : Value.Netlist). t .classes) is in
+    let nodes : set (shorter .nodes) (block .count - 1) blank ≡ flatOf (withoutNode n removed) .nodes =
+    rw last (all-moved n removed formed inside (shorter .nodes) (rw (end, last) at (reached .moving n formed is))) in
+    rw (nodes, variables, classes, fewer)
 
 -- ---- families that move down
 

@@ -9,16 +9,11 @@ use Rattle.rules.specs.Checks.{Outcome, answered, refused}
 use Rattle.rules.specs.Paper.{numberOf, placeOf}
 use Rattle.edit_parts.specs.declared.Offer.{Offer}
 use Rattle.edit_parts.specs.declared.Offer.the-variants as Offer
-use Rattle.edit_rules.specs.Edits.{lowered}
 
 -- what is offered: a node record, or a refusal
 abbrev pub offeredOf : Offer → Outcome Node
 offeredOf (Offer.Node e) = answered e
 offeredOf (Offer.Refused r) = refused (numberOf r) (placeOf r)
-
--- a node record whose operands follow a node that is removed
-abbrev pub renumberedEntry : (removed : ℕ) → Node → Node
-renumberedEntry removed e = record { kind = e .kind; first = lowered removed (e .first); second = lowered removed (e .second); set = e .set }
 
 -- the work bytes once the families of node `removed`, of so many nodes, are removed: those behind it move down,
 -- and the last 256 bytes stay

@@ -3,18 +3,20 @@
 // families move. `edit_steps` uses it.
 ghost use mathlib.Core.Path.{_≡_};
 ghost use Prim.Native.Nat.{_+_, _*_, _<_, _≤_};
-ghost use lib.ListN.{length, getD};
+ghost use lib.ListN.{length, getD, drop};
 ghost use Rattle.rules.specs.Records as Records;
-ghost use Rattle.rules.specs.Records.{Cell, WellFormed, most-nodes};
+ghost use Rattle.rules.specs.Records.{Cell, WellFormed, renamed, most-nodes};
 ghost use Rattle.rules.specs.Slices.{entry};
 ghost use Rattle.rules.specs.Checks.{answered, andThen};
 ghost use Rattle.netlists.specs.Netlists.{flatOf};
 ghost use Rattle.edit_rules.specs.Edits as Edits;
 ghost use Rattle.edit_rules.specs.Edits.{judgedNode, withoutNode};
-ghost use Rattle.edit_parts.specs.Parts.{offeredOf, renumberedEntry, movedDown};
+ghost use Rattle.edit_parts.specs.Parts.{offeredOf, movedDown};
 use netlists::Netlist;
-use records::Found;
+use rules::MOST_BODY;
 use rules::Node;
+use rules::QueryOutcome;
+use rules::Reason;
 use rules::Refusal;
 
 // ---- a new node
@@ -31,24 +33,29 @@ pub fn offered(bytes: &[u8], variables: usize, nodes: usize) -> Offer
     requires { ⌜ nodes ≤ most-nodes ⌝ }
     ensures { λ r. ⌜ offeredOf r ≡ andThen
         (judgedNode (length (now (bytes .entry))) variables nodes
-        (getD (now (bytes .entry)) 0 0) (getD (now (bytes .entry)) 1 0) (getD (now (bytes .entry)) 2 0))
+        (getD (now (bytes .entry)) 0 0) (drop 1 (now (bytes .entry))))
         (λ cell. answered (entry cell)) ⌝ }
 {
-    let k = records::byte_behind(bytes, 0, 0);
-    let b = records::byte_behind(bytes, 0, 1);
-    let c = records::byte_behind(bytes, 0, 2);
+    let own = records::bytes_at(bytes, 0);
+    let kind = own.kind;
     if 0 < bytes.len() {
-        if k < 2 {
-            return Offer::Refused(Refusal::UnknownKind(nodes));
+        if kind < 2 {
+            return Offer::Refused(Refusal {
+                reason: Reason::UnknownKind,
+                place: nodes,
+            });
         }
     }
-    match records::judge(nodes + bytes.len(), variables, nodes, nodes, k, b, c) {
-        Found::Refused(refusal) => Offer::Refused(refusal),
-        Found::Record(kind, first, second) => {
+    match records::judge(nodes + bytes.len(), variables, nodes, nodes, own) {
+        QueryOutcome::Refused(refusal) => Offer::Refused(refusal),
+        QueryOutcome::Answered => {
             if netlists::size_of(kind) < bytes.len() {
-                return Offer::Refused(Refusal::BytesAfterEnd(nodes));
+                return Offer::Refused(Refusal {
+                    reason: Reason::BytesAfterEnd,
+                    place: nodes,
+                });
             }
-            Offer::Node(netlists::entry_of(kind, first, second))
+            Offer::Node(netlists::entry_of(own))
         }
     }
 }
@@ -59,13 +66,15 @@ pub fn offered(bytes: &[u8], variables: usize, nodes: usize) -> Offer
 fn uses(node: Node, i: usize) -> bool
     ensures { λ r. ⌜ ((cell : Cell) → node ≡ entry cell → r ≡ Edits.uses i cell) ⌝ }
 {
-    let kind = node.kind;
-    let first = (node.first as usize) == i;
-    match kind {
-        2 => false,
-        3 | 7 => first,
-        _ => first || (node.second as usize) == i,
+    let operands = netlists::operands_of(node);
+    let count = records::operand_count(node.kind);
+    let mut used = false;
+    let mut j = 0;
+    while j < MOST_BODY {
+        used = used | ((j < count) & ((operands[j] as usize) == i));
+        j += 1;
     }
+    used
 }
 
 // The lowest node that uses node `i`, or the number of nodes where none does.
@@ -94,16 +103,17 @@ fn lowered(operand: u8, removed: usize) -> u8
     operand
 }
 
-// A node record whose operands follow. Where the kind has no operand the field is 0, and stays so.
+// A node record whose operands follow. Beyond those that the kind has stands 0, and stays.
 fn renumbered(node: Node, removed: usize) -> Node
-    ensures { λ r. ⌜ r ≡ renumberedEntry removed node ⌝ }
+    ensures { λ r. ⌜ ((cell : Cell) → node ≡ entry cell → r ≡ entry (renamed (Edits.lowered removed) cell)) ⌝ }
 {
-    Node {
-        kind: node.kind,
-        first: lowered(node.first, removed),
-        second: lowered(node.second, removed),
-        set: node.set,
+    let mut operands = netlists::operands_of(node);
+    let mut j = 0;
+    while j < MOST_BODY {
+        operands[j] = lowered(operands[j], removed);
+        j += 1;
     }
+    netlists::node_of(node.kind, operands, node.set)
 }
 
 // The block without a node: higher nodes move down by one, and operands follow.

@@ -33,14 +33,14 @@ record Stands (v n : ℕ) (cell : Cell) : Type 0 where
   below : badOperand n (node cell) ≡ false
 
 -- so it is where the node is offered there: its rows are passed
-module _ (total v n k b c : ℕ) (cell : Cell) (e : judgedNode total v n k b c ≡ answered cell) where
+module _ (total v n k : ℕ) (body : List ℕ) (cell : Cell) (e : judgedNode total v n k body ≡ answered cell) where
   offered-stands : Stands v n cell
   unfolding judgedNode
   offered-stands =
       let p = passes _ _ _ e in
       let (known, above) = neither _ _ (p 1) in
-      let (one, says) = says-node k b c (ltb-false k 2 above) (ltb-false last-kind k known) in
-      let same : said k b c ≡ node cell = says ∙ ap node (rw says at (answer _ _ _ e)) in
+      let (one, says) = says-node k body (ltb-false k 2 above) (ltb-false last-kind k known) in
+      let same : said k body ≡ node cell = says ∙ ap node (rw says at (answer _ _ _ e)) in
       record { room = rw same at (p 2); declared = rw same at (p 4); below = rw same at (p 5) }
 
   pub offered-room : n < most-nodes
@@ -58,7 +58,7 @@ module _ (total v n k b c : ℕ) (cell : Cell) (e : judgedNode total v n k b c �
 -- the netlist with it obeys the record rules
 pub offered-well-formed : (n : Netlist) (bytes : List ℕ) (cell : Cell) → WellFormed n → offered n bytes ≡ answered cell → WellFormed (withNode n cell)
 offered-well-formed n bytes cell formed e =
-    let f = offered-stands _ _ _ _ _ _ cell e in
+    let f = offered-stands _ _ _ _ _ cell e in
     node-formed n cell formed (record { ordered = refl; room = f .room; declared = f .declared; below = f .below })
 
 -- ---- what the nodes report

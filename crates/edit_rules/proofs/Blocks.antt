@@ -11,8 +11,8 @@ use lib.ListN.{getD, replicate}
 use Rattle.rules.specs.declared.NodeRecord.{NodeRecord}
 use Rattle.rules.specs.Lists.{member, insert, union, count, without, tabulate}
 use Rattle.rules.specs.Tables.{table}
-use Rattle.rules.specs.Records.{secret, mask, Cell, input, NOT, XOR, AND, OR, register, Netlist, said, size, recordBytes, body, operands, setOf, writtenOut, variablesOut, nodesOut, kindOf, classByte, most-nodes}
-use Rattle.rules.specs.Values.{exclusiveOr, valueRule, values, feedingRule, feedings, feeding, same, howMany, settings, next, others, make, matches, giving, CountsAgree}
+use Rattle.rules.specs.Records.{secret, mask, NOT, XOR, AND, OR, register, listed, firstOf, renamedAll, fromOperands, Cell, input, gate, Netlist, said, size, recordBytes, body, operands, renamed, setOf, writtenOut, variablesOut, nodesOut, kindOf, classByte, most-nodes}
+use Rattle.rules.specs.Values.{exclusiveOr, valueOf, valueRule, values, isPoint, joined, feedingRule, feedings, feeding, same, howMany, settings, next, others, make, matches, giving, CountsAgree}
 use Rattle.rules.specs.Families.{tested, clear, suspectAt, Finding, Findings}
 use Rattle.rules.specs.Checks.{Outcome, answered, refused, andThen, judged, overLimit, undeclared, undeclaredSet, notBelow, badOperand, read, slicesFit, nodeCheck, most-work}
 use Rattle.rules.specs.Slices.{entry, markNumber, nodeRecord, nodeRecords, filled, nodesAfter}
@@ -21,25 +21,25 @@ use Rattle.rules.proofs.Each.{Each}
 use Rattle.rules.proofs.Blocks.{replyTo, _and_}
 use Rattle.rules.proofs.BlockCounts.{all-zero, p9}
 use Rattle.rules.proofs.BlockOutputs.{fields}
-use Rattle.edit_rules.specs.Edits.{Edit, add, remove, judgedNode, lowered, renumbered, withoutNode, uses, lowestUser, removedIfUnused, fits, edited, otherwise, netlistAfter, replyAfter, recordsAfter, OpenBlock, AsChecked}
+use Rattle.edit_rules.specs.Edits.{Edit, add, remove, judgedNode, lowered, withoutNode, uses, lowestUser, removedIfUnused, fits, edited, otherwise, netlistAfter, replyAfter, recordsAfter, OpenBlock, AsChecked}
 
 -- block A before its last gate
 abbrev pub before-a : Netlist
-before-a = record { variables = secret ∷ mask ∷ mask ∷ []; nodes = input 3 ∷ input 2 ∷ input 4 ∷ XOR 0 2 ∷ [] }
+before-a = record { variables = secret ∷ mask ∷ mask ∷ []; nodes = input 3 ∷ input 2 ∷ input 4 ∷ gate XOR (0, (2, tt)) ∷ [] }
 
 -- a gate of each kind and a register; node 4 is used by none, node 3 by nodes 5 and 6, by the second twice
 abbrev pub gates : Netlist
 gates = record {
   variables = secret ∷ mask ∷ [];
-  nodes = input 3 ∷ input 2 ∷ NOT 0 ∷ XOR 0 1 ∷ AND 2 1 ∷ OR 3 2 ∷ AND 3 3 ∷ register 5 ∷ NOT 7 ∷ [];
+  nodes = input 3 ∷ input 2 ∷ gate NOT (0, tt) ∷ gate XOR (0, (1, tt)) ∷ gate AND (2, (1, tt)) ∷ gate OR (3, (2, tt)) ∷ gate AND (3, (3, tt)) ∷ gate register (5, tt) ∷ gate NOT (7, tt) ∷ [];
 }
 
 -- ---- what an edit comes to
 
 -- to unfold it is to compute it
 unfoldable pub editedTo : Netlist → Edit → (entries work : ℕ) → Outcome Netlist
-unfolding member said size recordBytes body operands setOf andThen judged overLimit undeclared undeclaredSet notBelow badOperand slicesFit nodeCheck
-    judgedNode lowered renumbered without withoutNode uses lowestUser removedIfUnused fits edited
+unfolding member said size recordBytes body listed firstOf renamedAll renamed operands setOf andThen judged overLimit undeclared undeclaredSet notBelow badOperand slicesFit nodeCheck
+    judgedNode lowered without withoutNode uses lowestUser removedIfUnused fits edited
 editedTo n e entries work = edited n e entries work
 
 pub record Case : Type 0 where
@@ -75,7 +75,7 @@ inputs count = shared (replicate count (input 3))
 abbrev pub additions : List Case
 additions =
     roomy before-a (add (4 ∷ 3 ∷ 1 ∷ [])) (answered p9)
-    ∷ roomy p9 (add (2 ∷ 7 ∷ 0 ∷ [])) (answered (masked (input 3 ∷ input 2 ∷ input 4 ∷ XOR 0 2 ∷ XOR 3 1 ∷ input 7 ∷ [])))
+    ∷ roomy p9 (add (2 ∷ 7 ∷ 0 ∷ [])) (answered (masked (input 3 ∷ input 2 ∷ input 4 ∷ gate XOR (0, (2, tt)) ∷ gate XOR (3, (1, tt)) ∷ input 7 ∷ [])))
     ∷ roomy p9 (add []) (refused 8 5)
     ∷ roomy p9 (add (0 ∷ [])) (refused 1 5)
     ∷ roomy p9 (add (1 ∷ 0 ∷ [])) (refused 1 5)
@@ -103,8 +103,8 @@ removals =
     ∷ roomy p9 (remove 0) (refused 14 3)
     ∷ roomy gates (remove 3) (refused 14 5)
     ∷ roomy gates (remove 4)
-    (answered (shared (input 3 ∷ input 2 ∷ NOT 0 ∷ XOR 0 1 ∷ OR 3 2 ∷ AND 3 3 ∷ register 4 ∷ NOT 6 ∷ [])))
-    ∷ roomy (shared (input 1 ∷ input 2 ∷ NOT 1 ∷ [])) (remove 0) (answered (shared (input 2 ∷ NOT 0 ∷ [])))
+    (answered (shared (input 3 ∷ input 2 ∷ gate NOT (0, tt) ∷ gate XOR (0, (1, tt)) ∷ gate OR (3, (2, tt)) ∷ gate AND (3, (3, tt)) ∷ gate register (4, tt) ∷ gate NOT (6, tt) ∷ [])))
+    ∷ roomy (shared (input 1 ∷ input 2 ∷ gate NOT (1, tt) ∷ [])) (remove 0) (answered (shared (input 2 ∷ gate NOT (0, tt) ∷ [])))
     ∷ roomy (shared (input 1 ∷ [])) (remove 0) (answered (shared []))
     ∷ short p9 (remove 5) 0 0 (refused 12 5)
     ∷ short p9 (remove 3) 4 0 (refused 10 5)
@@ -142,12 +142,12 @@ a-read = refl
 -- On the feeding points of node 4, beside secret 0 one mask setting gives the pattern of zeros,
 -- and beside secret 1 none does.
 pub counts-differ : (giving p9 (feeding p9 4) all-zero [] (false ∷ []) ≡ 1) × (giving p9 (feeding p9 4) all-zero [] (true ∷ []) ≡ 0)
-unfolding member insert union count table xor exclusiveOr valueRule values feedingRule feedings feeding same howMany settings next others make matches giving
+unfolding member insert union count table xor exclusiveOr valueOf fromOperands valueRule values isPoint kindOf operands listed joined feedingRule feedings feeding same howMany settings next others make matches giving
 counts-differ = (refl, refl)
 
 -- so what is said of one probe is false of the block after that addition
 pub added-probe : ¬ OneProbe (writtenOut (netlistAfter before-a (add (4 ∷ 3 ∷ 1 ∷ [])) most-nodes most-work))
-unfolding editedTo otherwise netlistAfter tested OneProbe CountsAgree
+unfolding editedTo otherwise netlistAfter tested kindOf OneProbe CountsAgree
 added-probe probe =
     let (one, none) = counts-differ in
     let same-count = probe p9 a-read 4 (record { there = omega arith; isTested = tt }) [] (false ∷ []) (true ∷ []) all-zero in
@@ -156,9 +156,9 @@ added-probe probe =
 -- ---- a node that is used
 
 -- Without node 0, which its NOT uses, the NOT would be that of node 1: its value would be another.
-pub used-changes : (values (shared (input 1 ∷ input 2 ∷ NOT 0 ∷ [])) (true ∷ false ∷ []) ≡ true ∷ false ∷ false ∷ [])
-    × (values (withoutNode (shared (input 1 ∷ input 2 ∷ NOT 0 ∷ [])) 0) (true ∷ false ∷ []) ≡ false ∷ true ∷ [])
-unfolding table xor exclusiveOr valueRule values lowered renumbered without withoutNode
+pub used-changes : (values (shared (input 1 ∷ input 2 ∷ gate NOT (0, tt) ∷ [])) (true ∷ false ∷ []) ≡ true ∷ false ∷ false ∷ [])
+    × (values (withoutNode (shared (input 1 ∷ input 2 ∷ gate NOT (0, tt) ∷ [])) 0) (true ∷ false ∷ []) ≡ false ∷ true ∷ [])
+unfolding table xor exclusiveOr valueOf fromOperands valueRule values lowered renamedAll renamed without withoutNode
 used-changes = (refl, refl)
 
 -- ---- marks after an edit
@@ -166,7 +166,7 @@ used-changes = (refl, refl)
 -- input 0 is the bare secret and has no mark; NOT 0 is marked in both layers and XOR 0 1 for glitches alone;
 -- NOT 1, which none uses, in neither
 abbrev two-marked : Netlist
-two-marked = shared (input 1 ∷ input 3 ∷ NOT 1 ∷ NOT 0 ∷ XOR 0 1 ∷ [])
+two-marked = shared (input 1 ∷ input 3 ∷ gate NOT (1, tt) ∷ gate NOT (0, tt) ∷ gate XOR (0, (1, tt)) ∷ [])
 
 -- Without NOT 1 the marks of the two nodes behind it move down with them, and the freed last entry keeps what it held;
 -- the last gate of block A is marked where it is added, and nothing else is written.

@@ -43,7 +43,7 @@ without-made : (n : Netlist) (i entries work : ℕ) → WellFormed n → Room en
 without-made n i entries work formed room unused =
     let fewer : length (withoutNode n i .nodes) ≤ length (n .nodes) = omega (arith, removed-length n i, lowered-most i (length (n .nodes))) in
     record {
-      obeys = removed-well-formed n i formed unused;
+      obeys = removed-well-formed n i unused formed;
       room = record { enough-entries = omega (arith, room .enough-entries); enough-work = omega (arith, room .enough-work) };
     }
 

@@ -8,7 +8,7 @@ use mathlib.Core.List.{List, [], _∷_, _++_}
 use native.Mathlib.Omega.{arith}
 use lib.ListN.{length, getD, replicate}
 use Rattle.rules.specs.Lists.{tabulate}
-use Rattle.rules.specs.Records.{secret, mask, input, XOR, register, Netlist, empty, writtenOut, variablesOut, nodesOut}
+use Rattle.rules.specs.Records.{secret, mask, XOR, register, input, gate, Netlist, empty, writtenOut, variablesOut, nodesOut}
 use Rattle.rules.specs.Checks.{Outcome, answered, refused}
 use Rattle.rules.specs.Slices.{entry, markNumber, nodeRecord, nodeRecords, packed, familyBytes, nodeBytes, workBytes, filled, nodesAfter, workAfter}
 use Rattle.rules.specs.Blocks.{P9}
@@ -53,7 +53,7 @@ pub mending-outcomes : outcomes (afterOpening arrays (P9 .bytes) (lent 5 1500)) 
     ≡ refused 10 5
     ∷ refused 11 1280
     ∷ answered before-a
-    ∷ answered (record { variables = secret ∷ mask ∷ mask ∷ []; nodes = input 3 ∷ input 2 ∷ input 4 ∷ XOR 0 2 ∷ register 3 ∷ [] })
+    ∷ answered (record { variables = secret ∷ mask ∷ mask ∷ []; nodes = input 3 ∷ input 2 ∷ input 4 ∷ gate XOR (0, (2, tt)) ∷ gate register (3, tt) ∷ [] })
     ∷ refused 10 6
     ∷ answered p10
     ∷ []

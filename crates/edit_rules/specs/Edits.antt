@@ -10,8 +10,8 @@ use lib.Dec.{leb, ltb}
 use lib.ListN.{length, getD, take, drop}
 use Rattle.rules.specs.declared.NodeRecord.{NodeRecord}
 use Rattle.rules.specs.Lists.{member, without}
-use Rattle.rules.specs.Records.{Cell, input, NOT, XOR, AND, OR, register, Record, end, variable, node}
-use Rattle.rules.specs.Records.{Netlist, empty, WellFormed, withNode, last-kind, said, size, operands, writtenOut}
+use Rattle.rules.specs.Records.{Cell, input, Record, end, variable, node}
+use Rattle.rules.specs.Records.{Netlist, empty, WellFormed, withNode, last-kind, said, size, operands, renamed, writtenOut}
 use Rattle.rules.specs.Families.{families, Findings, findings}
 use Rattle.rules.specs.Checks.{Outcome, answered, refused, andThen, check, judged}
 use Rattle.rules.specs.Checks.{overLimit, undeclaredSet, badOperand, slicesFit, admitted, nodeCheck}
@@ -31,11 +31,11 @@ cellOf end = input 0
 cellOf (variable c) = input 0
 cellOf (node cell) = cell
 
--- The record of kind k with the body b, c, of `total` bytes, is judged as the next of a file, after v variables and n
+-- The record of kind k with this body, of `total` bytes, is judged as the next of a file, after v variables and n
 -- nodes: none get 8, kind 0 or 1 gets 1, surplus bytes get 9. The place of each is the number that the node would have.
-unfoldable pub judgedNode : (total v n k b c : ℕ) → Outcome Cell
-judgedNode total v n k b c =
-    let r = said k b c in
+unfoldable pub judgedNode : (total v n k : ℕ) (body : List ℕ) → Outcome Cell
+judgedNode total v n k body =
+    let r = said k body in
     judged
     (check 8 (leb total 0) n
     ∷ check 1 (ltb last-kind k || ltb k 2) n
@@ -49,8 +49,7 @@ judgedNode total v n k b c =
 
 -- the node that a record's bytes offer to a netlist, or the refusal
 abbrev pub offered : Netlist → (bytes : List ℕ) → Outcome Cell
-offered n bytes =
-    judgedNode (length bytes) (length (n .variables)) (length (n .nodes)) (getD bytes 0 0) (getD bytes 1 0) (getD bytes 2 0)
+offered n bytes = judgedNode (length bytes) (length (n .variables)) (length (n .nodes)) (getD bytes 0 0) (drop 1 bytes)
 
 -- ---- a node is removed
 
@@ -58,16 +57,8 @@ offered n bytes =
 unfoldable pub lowered : (removed a : ℕ) → ℕ
 lowered removed a = cond (ltb removed a) (a - 1) a
 
-unfoldable pub renumbered : (removed : ℕ) → Cell → Cell
-renumbered removed (input s) = input s
-renumbered removed (NOT a) = NOT (lowered removed a)
-renumbered removed (XOR a b) = XOR (lowered removed a) (lowered removed b)
-renumbered removed (AND a b) = AND (lowered removed a) (lowered removed b)
-renumbered removed (OR a b) = OR (lowered removed a) (lowered removed b)
-renumbered removed (register a) = register (lowered removed a)
-
 unfoldable pub withoutNode : Netlist → (removed : ℕ) → Netlist
-withoutNode n removed = record { variables = n .variables; nodes = map (renumbered removed) (without removed (n .nodes)) }
+withoutNode n removed = record { variables = n .variables; nodes = map (renamed (lowered removed)) (without removed (n .nodes)) }
 
 -- whether a node uses node i
 unfoldable pub uses : (i : ℕ) → Cell → Bool

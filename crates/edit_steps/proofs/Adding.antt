@@ -20,9 +20,9 @@ use Rattle.rules.specs.Checks.{Outcome, answered, refused, andThen, slicesFit}
 use Rattle.rules.specs.Paper.{numberOf, placeOf}
 use Rattle.rules.proofs.Marks.{layer-marks-length}
 use Rattle.netlists.specs.declared.Netlist as Value
-use Rattle.netlists.specs.Netlists.{flatOf}
+use Rattle.netlists.specs.Netlists.{flatOf, Placed}
 use Rattle.netlists.proofs.Netlists.{value-count}
-use Rattle.nodes.specs.Work.{soFar, withFamilies, Placed}
+use Rattle.nodes.specs.Work.{soFar, withFamilies}
 use Rattle.nodes.proofs.Nodes.{nodesDone, next-done, all-done}
 use Rattle.suspects.specs.Suspects.{reportsIn}
 use Rattle.suspects.proofs.Search.{reports-are}
@@ -42,9 +42,9 @@ use Rattle.edit_steps.specs.Changes.{stateIn}
 use Rattle.edit_steps.specs.Changes.{Adds, Changes}
 
 -- a node that is offered can stand at its number
-pub offered-placed : (total v n k b c : ℕ) (cell : Cell) → judgedNode total v n k b c ≡ answered cell → v ≤ most-variables → Placed n (entry cell)
-offered-placed total v n k b c cell e few =
-    record { cell = cell; is = refl; lower = offered-lower total v n k b c cell e; small = offered-small total v n k b c cell e few }
+pub offered-placed : (total v n k : ℕ) (body : List ℕ) (cell : Cell) → judgedNode total v n k body ≡ answered cell → v ≤ most-variables → Placed n (entry cell)
+offered-placed total v n k body cell e few =
+    record { cell = cell; is = refl; lower = offered-lower total v n k body cell e; small = offered-small total v n k body cell e few }
 
 -- the netlist with a node more has one more node
 one-more : (n : Netlist) (cell : Cell) {count : ℕ} → count ≡ length (n .nodes) → count + 1 ≡ length (withNode n cell .nodes)
@@ -127,7 +127,7 @@ module _ (block : Value.Netlist) (marks : Marks) (e : Node) (entries : ℕ) (exa
 
 -- what is offered to a block by value: it goes by its counts
 abbrev pub offeredTo : Value.Netlist → (bytes : List ℕ) → Outcome Cell
-offeredTo block bytes = judgedNode (length bytes) (block .variables) (block .count) (getD bytes 0 0) (getD bytes 1 0) (getD bytes 2 0)
+offeredTo block bytes = judgedNode (length bytes) (block .variables) (block .count) (getD bytes 0 0) (drop 1 bytes)
 
 module _ (block : Value.Netlist) (marks : Marks) (bytes : List ℕ) where
   -- of a netlist that has these

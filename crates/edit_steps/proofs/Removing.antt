@@ -9,7 +9,7 @@ use lib.ListN.{length}
 use borrow.Author.Tests.{lt-ltb, le-ltb, le-leb, lt-leb}
 use Rattle.rules.specs.declared.QueryOutcome.{QueryOutcome}
 use Rattle.rules.specs.declared.QueryOutcome.the-variants as Query
-use Rattle.rules.specs.declared.Refusal.the-variants.{StillNamed}
+use Rattle.rules.specs.declared.Reason.the-variants.{StillNamed}
 use Rattle.rules.specs.declared.Reply.the-variants.{Refused}
 use Rattle.rules.specs.Lists.{without}
 use Rattle.rules.specs.Records.{Netlist, WellFormed, most-nodes}
@@ -33,13 +33,13 @@ use Rattle.edit_rules.proofs.Removal.{Unused, marks-removed}
 
 -- a node is removed, where `by` is the lowest node that uses it
 module _ (block : Value.Netlist) (marks : Marks) (removed by : ℕ) (lowest : (n : Netlist) → block ≡ flatOf n → by ≡ lowestUser removed (n .nodes)) where
-  pub still-used : (examined : Examined) (before : List ℕ) → by < block .count → examined .reply ≡ Refused (StillNamed by)
+  pub still-used : (examined : Examined) (before : List ℕ) → by < block .count → examined .reply ≡ Refused (record { reason = StillNamed; place = by })
       → NothingKept examined → RemovesUnused block marks removed examined before before
   unfolding removedIfUnused judged
   still-used examined before named r none = record {
     contained = contained-refused (block .count) examined before none;
     made = λ n formed is known holds.
-        rw (← (lowest n is), ← (value-count n is), lt-ltb by (block .count) named) (refusal (StillNamed by) 14 by examined before refl refl r none);
+        rw (← (lowest n is), ← (value-count n is), lt-ltb by (block .count) named) (refusal (record { reason = StillNamed; place = by }) 14 by examined before refl refl r none);
   }
 
   pub removed-unused : (value : Value.Netlist) (fewer : Marks) (examined : Examined) (before after : List ℕ) → block .count ≤ by → removed < block .count
@@ -58,7 +58,7 @@ module _ (block : Value.Netlist) (marks : Marks) (removed by : ℕ) (lowest : (n
       own : (n : Netlist) → block ≡ flatOf n → marks ≡ marksOf n → Unused removed (n .nodes) → fewer ≡ marksOf (withoutNode n removed)
       own n is known none = unfold marksOf in
           (are-without _ _ (layer-marks-length _ n ∙ sym (value-count n is)) (layer-marks-length _ n ∙ sym (value-count n is)) known
-          ∙ ap₂ marksIn (sym (marks-removed (λ F. F .settled) n removed none)) (sym (marks-removed (λ F. F .glitch) n removed none)))
+          ∙ ap₂ marksIn (sym (marks-removed n removed none (λ F. F .settled))) (sym (marks-removed n removed none (λ F. F .glitch))))
 
       made : (n : Netlist) → WellFormed n → block ≡ flatOf n → marks ≡ marksOf n → HoldsFamilies n before
           → Examines (answered (withoutNode n removed)) examined before after

@@ -8,8 +8,7 @@ ghost use Prim.Native.Nat.{_*_, _<_, _≤_};
 ghost use lib.ListN.{length};
 ghost use Rattle.rules.specs.Records as Records;
 ghost use Rattle.rules.specs.Records.{most-nodes};
-ghost use Rattle.netlists.specs.Netlists.{flatOf};
-ghost use Rattle.nodes.specs.Work.{Placed};
+ghost use Rattle.netlists.specs.Netlists.{flatOf, Placed};
 ghost use Rattle.edit_rules.specs.Edits as Edits;
 ghost use Rattle.edit_rules.specs.Meaning.{editOf};
 ghost use Rattle.edit_steps.specs.Changes.{stateIn, Limited, Adds, RemovesUnused, Changes};
@@ -23,6 +22,7 @@ use rules::MOST_NODES;
 use rules::MOST_VARIABLES;
 use rules::Node;
 use rules::QueryOutcome;
+use rules::Reason;
 use rules::Refusal;
 
 // A block by value, and its marks.
@@ -96,7 +96,10 @@ fn remove_if_unused(
 {
     let count = block.count;
     if by < count {
-        return checker::refused(Refusal::StillNamed(by));
+        return checker::refused(Refusal {
+            reason: Reason::StillNamed,
+            place: by,
+        });
     }
     edit_parts::move_down(work, removed, count);
     let fewer = marks::without_marks(marks, removed, count);
@@ -117,7 +120,10 @@ fn remove_node(
     let count = block.count;
     let by = edit_parts::lowest_user(block, removed);
     if count <= removed {
-        return checker::refused(Refusal::NoSuchNode(removed));
+        return checker::refused(Refusal {
+            reason: Reason::NoSuchNode,
+            place: removed,
+        });
     }
     match checker::slices_fit(count, entries, work.len()) {
         QueryOutcome::Refused(refusal) => checker::refused(refusal),
@@ -137,10 +143,16 @@ pub fn change(loaded: Loaded, edit: Edit, bytes: &[u8], entries: usize, work: &m
     let block = loaded.block;
     let marks = loaded.marks;
     if MOST_VARIABLES < block.variables {
-        return checker::refused(Refusal::OverLimit(block.count));
+        return checker::refused(Refusal {
+            reason: Reason::OverLimit,
+            place: block.count,
+        });
     }
     if MOST_NODES < block.count {
-        return checker::refused(Refusal::OverLimit(block.count));
+        return checker::refused(Refusal {
+            reason: Reason::OverLimit,
+            place: block.count,
+        });
     }
     match edit {
         Edit::Add => add_node(block, marks, bytes, entries, work),

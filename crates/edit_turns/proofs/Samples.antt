@@ -3,11 +3,13 @@
 use mathlib.Core.Path.{_≡_, refl, sym}
 use mathlib.Core.Bool.{Bool, true, false, false≢true}
 use mathlib.Core.List.{List, [], _∷_}
-use Rattle.rules.specs.Listing.{word}
-use Rattle.rules.specs.Records.{kindOf}
+use Rattle.rules.specs.Records.{listed, firstOf, kindOf}
+use Rattle.rules.specs.Checks.{notBelow}
+use Rattle.rules.specs.Listing.{word, nameOf}
 use Rattle.rules.proofs.BlockCounts.{p9, p10}
-use Rattle.read_words.specs.Numbers.{allDigits, valueBehind, numberBehind, numberIn}
-use Rattle.read_words.specs.Words.{closed, wordsBehind, words, same, cut, withOperand, withOne, withTwo, forms, readBy, recordIn}
+use Rattle.scanner.specs.Numbers.{allDigits, valueBehind, numberBehind, numberIn, cut}
+use Rattle.scanner.specs.Words.{closed, wordsBehind, words, same}
+use Rattle.read_words.specs.Words.{withNumbers, withOperands, forms, readBy, recordIn}
 use Rattle.edit_rules.specs.Edits.{otherwise, netlistAfter}
 use Rattle.edit_rules.proofs.Blocks.{editedTo}
 use Rattle.edit_lines.specs.Asks.{addition, only, removal, written, alone, asked, stuck, unlessStuck, asksIn}
@@ -15,7 +17,7 @@ use Rattle.edit_turns.specs.Turns.{Standing, begun, oneMore, turnedAway,
 
 -- to unfold it is to compute it
 unfoldable ran : Standing → List Event → Standing
-unfolding editedTo word kindOf allDigits valueBehind numberBehind numberIn closed wordsBehind words same cut withOperand withOne withTwo forms readBy recordIn
+unfolding editedTo word kindOf allDigits valueBehind numberBehind numberIn closed wordsBehind words same cut withNumbers withOperands notBelow nameOf listed firstOf forms readBy recordIn
     otherwise netlistAfter addition only removal written alone asked stuck unlessStuck asksIn
     begun oneMore turnedAway afterEdit failed afterAsks afterLine unlessWritten afterEvent afterEvents
 ran s events = afterEvents s events

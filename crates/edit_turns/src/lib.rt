@@ -6,7 +6,7 @@ ghost use mathlib.Core.List.{List};
 ghost use Prim.Native.Nat.{ℕ, _≤_};
 ghost use lib.ListN.{length, take};
 ghost use Rattle.rules.specs.Records as Records;
-ghost use Rattle.rules.specs.Records.{most-nodes};
+ghost use Rattle.rules.specs.Records.{most-nodes, most-record};
 ghost use Rattle.rules.specs.Families.{findings};
 ghost use Rattle.rules.specs.Checks.{answered, refused, admitted, most-work};
 ghost use Rattle.rules.specs.Slices.{reply};
@@ -18,10 +18,12 @@ ghost use Rattle.edit_lines.specs.Meaning.{asksOf, Within};
 ghost use Rattle.edit_turns.specs.Turns.{Standing, begun, oneMore, failed};
 ghost use Rattle.edit_turns.specs.Meaning.{Stands, Answers, turnedOf, unchangedOf};
 use checker::Examined;
+use edit_lines::Ask;
 use edit_lines::Asked;
 use edit_rules::Edit;
 use marks::Marks;
 use netlists::Netlist;
+use read_words::MOST_RECORD;
 use rules::Answer;
 use rules::Half;
 use rules::MOST_WORK;
@@ -147,8 +149,14 @@ fn turned(turn: Turn, changed: Examined) -> Turn
 }
 
 // Makes an edit, with so many bytes of a record.
-fn change(turn: Turn, edit: Edit, bytes: &[u8; 3], count: usize, work: &mut [u8; MOST_WORK]) -> Told
-    requires { ⌜ count ≤ 3 ⌝ }
+fn change(
+    turn: Turn,
+    edit: Edit,
+    bytes: &[u8; MOST_RECORD],
+    count: usize,
+    work: &mut [u8; MOST_WORK],
+) -> Told
+    requires { ⌜ count ≤ most-record ⌝ }
     ensures { λ r. ⌜ ((s : Standing) → Stands s turn (now (work .entry)) →
         Answers s (changes (editOf edit (take count (now (bytes .entry))))) r (now (work .exit))) ⌝ }
 {
@@ -176,22 +184,18 @@ fn answer_to(turn: Turn, asked: Asked, line: &[u8], work: &mut [u8; MOST_WORK]) 
     ensures { λ r. ⌜ ((s : Standing) → Stands s turn (now (work .entry)) →
         Answers s (asksOf asked (now (line .entry))) r (now (work .exit))) ⌝ }
 {
-    match asked {
-        Asked::Add(count, kind, first, second) => {
-            let record = [kind, first, second];
-            change(turn, Edit::Add, &record, count, work)
-        }
-        Asked::Remove(node) => {
-            let none = [0u8; 3];
-            change(turn, Edit::Remove(node), &none, 0, work)
-        }
-        Asked::NoRecord(_) => unchanged(at_fault(turn)),
-        Asked::NoNumber => unchanged(at_fault(turn)),
-        Asked::NoEdit => unchanged(at_fault(turn)),
-        Asked::Nothing => unchanged(turn),
-        Asked::List => unchanged(turn),
-        Asked::Write(_, _) => unchanged(turn),
-        Asked::Quit => unchanged(turn),
+    let ask = asked.ask;
+    let own = asked.own;
+    match ask {
+        Ask::Add(count) => change(turn, Edit::Add, &own, count, work),
+        Ask::Remove(node) => change(turn, Edit::Remove(node), &own, 0, work),
+        Ask::NoRecord(_) => unchanged(at_fault(turn)),
+        Ask::NoNumber => unchanged(at_fault(turn)),
+        Ask::NoEdit => unchanged(at_fault(turn)),
+        Ask::Nothing => unchanged(turn),
+        Ask::List => unchanged(turn),
+        Ask::Write(_, _) => unchanged(turn),
+        Ask::Quit => unchanged(turn),
     }
 }
 

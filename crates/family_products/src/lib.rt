@@ -1,6 +1,6 @@
 // The list of a family's sets, and the product of two families: the sets of each are listed, and each pair of them is
 // tried once and counted. Families are parts of a slice of bytes; a function writes to one part of it or to a slice of
-// sets, and what it makes a family from is in lower parts. Used by `nodes` and `pair_search`, and by test programs.
+// sets, and what it makes a family from is in lower parts. Used by `nodes` and `pair_tests`, and by test programs.
 ghost use mathlib.Core.Path.{_≡_};
 ghost use mathlib.Core.Logic.{_↔_};
 ghost use mathlib.Core.List.{List, _++_, map};

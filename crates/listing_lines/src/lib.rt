@@ -7,7 +7,7 @@ ghost use mathlib.Core.Path.{_≡_};
 ghost use mathlib.Core.List.{[], _∷_, _++_};
 ghost use Prim.Native.Nat.{_+_, _*_, _<_, _≤_};
 ghost use lib.ListN.{length};
-ghost use Rattle.rules.specs.Records.{Cell, kindOf, operands, most-variables, most-nodes, most-sets};
+ghost use Rattle.rules.specs.Records.{Cell, kindOf, most-variables, most-nodes, most-sets};
 ghost use Rattle.rules.specs.Listing.{word, decimal, line, kindName, halfLine, most-line, most-text};
 ghost use Rattle.rules.specs.Paper.{numberOf, placeOf, findingOf};
 ghost use Rattle.listing_lines.specs.Text.{Room, Appended, Short, foundText, most-name, spelled};
@@ -100,18 +100,6 @@ pub fn name_of(kind: u8) -> Name
     }
 }
 
-// How many operands a kind has; a kind that is no node's has none.
-pub fn operands_of(kind: u8) -> usize
-    ensures { λ r. ⌜ ((cell : Cell) → kind ≡ kindOf cell → r ≡ length (operands cell)) ⌝ }
-    ensures none { λ r. ⌜ (kind < 2 → r ≡ 0) × (7 < kind → r ≡ 0) ⌝ }
-{
-    match kind {
-        3 | 7 => 1,
-        4 | 5 | 6 => 2,
-        _ => 0,
-    }
-}
-
 // A name.
 pub fn put_name(text: &mut [u8], at: usize, name: Name) -> usize
     requires { ⌜ Room (now text) at (name .size) × (name .size ≤ length (name .letters)) ⌝ }
@@ -133,7 +121,7 @@ pub fn put_refusal(text: &mut [u8], refusal: Refusal) -> usize
 {
     let number = put_word(text, 0, b"refused");
     let place = put_field(text, number, refusals::number_of(refusal));
-    let end = put_field(text, place, refusals::place_of(refusal));
+    let end = put_field(text, place, refusal.place);
     put_byte(text, end, 10)
 }
 

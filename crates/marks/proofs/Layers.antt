@@ -4,7 +4,7 @@
 use Prim.Native.Nat.{ℕ, zero, suc, _+_, _-_, _≤_, _<_}
 use mathlib.Core.Path.{_≡_, refl, sym, ap, ap₂, subst, _∙_}
 use mathlib.Core.Logic.{_≢_, ⊎-elim}
-use mathlib.Core.List.{List, [], _∷_, _++_, map, map-id, map-append}
+use mathlib.Core.List.{List, [], _∷_, _++_, map}
 use mathlib.Core.Option.{Option, none, some}
 use native.Mathlib.Numerals.{add-one}
 use native.Mathlib.Omega.{arith}
@@ -19,7 +19,7 @@ use Rattle.rules.proofs.Halves.{NoneBefore, Lowest, lowest-says}
 use Rattle.rules.proofs.Marks.{mark-written, layer-marks-length, marks-told}
 use Rattle.netlists.specs.Netlists.{padded}
 use Rattle.netlists.proofs.Netlists.{padded-same, made-set}
-use Rattle.netlists.proofs.Without.{shifted, padded-without, map-take, map-drop}
+use Rattle.netlists.proofs.Without.{without-before, without-behind, without-count, Becoming, none-done, next-done, all-done}
 use Rattle.suspects.specs.Suspects.{reportsIn, foundFrom}
 use Rattle.suspects.proofs.Search.{reports-are}
 use Rattle.marks.specs.Marks.{flatMarks, marksIn, marksOf}
@@ -133,16 +133,33 @@ last-found reports from A e =
 
 -- ---- marks that move down
 
-pub removed-marks : (reports : List (Option ℕ)) (removed last : ℕ) → length reports ≡ suc last → length reports ≤ most-nodes → removed ≤ last
-    → set (shifted (λ m. m) 0 (flatMarks reports) removed (last - removed)) last 0 ≡ flatMarks (without removed reports)
-unfolding flatMarks without
-removed-marks reports removed last many few there =
-    let same = length-map reports markNumber in
-    let end : length (map markNumber reports) - 1 ≡ last = omega arith in
-    rw (← end) (padded-without (λ m. m) 0 refl most-nodes (map markNumber reports) (omega arith) removed (omega arith))
-    ∙ ap (padded most-nodes 0)
-    (ap₂ _++_ (sym (map-take markNumber removed reports)) (map-id _ ∙ sym (map-drop markNumber (suc removed) reports))
-    ∙ sym (map-append markNumber (take removed reports) (drop (suc removed) reports)))
+module _ (reports : List (Option ℕ)) (removed : ℕ) where
+  -- those up to i are the marks without that of the node that is removed
+  abbrev pub Moved : List ℕ → ℕ → Type 0
+  Moved = Becoming 0 (flatMarks reports) (flatMarks (without removed reports))
+
+  pub none-moved : Moved (flatMarks reports) removed
+  none-moved =
+      none-done 0 _ _ removed (λ k h.
+      flat-at reports k ∙ ap markNumber (sym (without-before none removed reports k h)) ∙ sym (flat-at (without removed reports) k))
+
+  -- from there on each is the mark behind
+  behind : (i : ℕ) → removed ≤ i → getD (flatMarks reports) (suc i) 0 ≡ getD (flatMarks (without removed reports)) i 0
+  behind i h =
+      flat-at reports (suc i) ∙ ap markNumber (sym (without-behind none removed reports i h)) ∙ sym (flat-at (without removed reports) i)
+
+  module _ (few : length reports ≤ most-nodes) where
+    pub next-moved : (marks : List ℕ) (i : ℕ) → removed ≤ i → i < most-nodes → Moved marks i → Moved (set marks i (getD marks (i + 1) 0)) (i + 1)
+    next-moved marks i h l m = next-done 0 _ _ marks i _ (omega (arith, flat-length reports few)) (m .left (i + 1) (omega arith) ∙ rw add-one (behind i h)) m
+
+    pub all-moved : (marks : List ℕ) (last : ℕ) → length reports ≡ suc last → removed ≤ last → Moved marks last → set marks last 0 ≡ flatMarks (without removed reports)
+    unfolding markNumber
+    all-moved marks last many there m =
+        let same = flat-length reports few in
+        let fewer = flat-length (without removed reports) (omega (arith, without-count removed reports)) in
+        let none-at : (k : ℕ) → suc last ≤ k → getD (flatMarks reports) k 0 ≡ 0 = λ k h. flat-at reports k ∙ ap markNumber (List·getD-eq-default reports none {n = k} (omega arith)) in
+        all-done 0 _ _ _ (last + 1) (omega arith) (λ k h. none-at k (omega arith) ∙ sym (none-at (suc k) (omega arith)) ∙ behind k (omega arith))
+        (next-done 0 _ _ marks last 0 (omega arith) (sym (none-at (suc last) (omega arith)) ∙ behind last there) m)
 
 -- ---- the marks of a netlist
 

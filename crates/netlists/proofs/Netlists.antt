@@ -2,28 +2,35 @@
 -- and no two netlists have the same one. By laws of padded lists of any length, so that no array is unfolded.
 -- And what follows of one record that was found, and of a file that was read, where it is answered and where
 -- it is refused. Assumes nothing.
-use Prim.Native.Nat.{ℕ, zero, suc, _+_, _-_, _≤_, _<_}
+use Prim.Native.Nat.{ℕ, zero, suc, _+_, _*_, _-_, _≤_, _<_}
 use mathlib.Core.Path.{_≡_, refl, sym, ap, subst, _∙_}
-use mathlib.Core.List.{List, [], _∷_, _++_, map, map-append}
+use mathlib.Core.Bool.{cond}
+use mathlib.Core.List.{List, [], _∷_, _++_, map, map-append, append-nil}
 use native.Mathlib.Nat.{sub-zero}
+use native.Mathlib.Decide.{ℕ-discrete}
 use native.Mathlib.Omega.{arith}
-use lib.ListN.{length, getD, take, set, replicate, length-append, length-map, List·getD-append}
-use lib.Seq.{append-snoc, set-append-seam, take-at}
+use lib.Dec.{eqb}
+use lib.ListN.{length, getD, take, set, replicate, length-append, length-map, length-replicate, List·getD-append}
+use lib.Seq.{append-snoc, set-append-seam, take-at, ext-getD}
+use borrow.Author.Tests.{ne-eqb}
 use Rattle.rules.specs.declared.Node.{Node}
 use Rattle.rules.specs.declared.Refusal.{Refusal}
 use Rattle.rules.specs.declared.QueryOutcome.{QueryOutcome}
 use Rattle.rules.specs.declared.QueryOutcome.the-variants as Query
-use Rattle.rules.specs.Records.{Class, public, Cell, input, NOT, XOR, AND, OR, register, Record, end, variable, node, Netlist, WellFormed, withVariable, withNode, said, classOf, classByte, kindOf, operands, setOf, most-variables, most-nodes}
-use Rattle.rules.specs.Slices.{entry}
+use Rattle.rules.specs.Records.{Class, public, kindNumber, operandCount, listed, firstOf, Cell, input, gate, Record, end, variable, node, Netlist, WellFormed, withVariable, withNode, said, classOf, classByte, kindOf, operands, setOf, most-variables, most-nodes, most-body, last-kind}
+use Rattle.rules.specs.Slices.{nodeOf, entry}
 use Rattle.rules.specs.Checks.{Outcome, answered, refused, andThen, judgedRecord, read, most-work}
 use Rattle.rules.specs.Paper.{numberOf, placeOf, queryOf}
 use Rattle.rules.proofs.Members.{all-at}
-use Rattle.rules.proofs.Records.{answer, class-of-byte}
+use Rattle.rules.proofs.Bounds.{set-small}
+use Rattle.rules.proofs.Operands.{first-listed, first-same, known, few-operands}
+use Rattle.rules.proofs.Records.{answer, class-of-byte, says-gate}
 use Rattle.rules.proofs.Reading.{read-well-formed}
-use Rattle.records.specs.Found.{RecordBytes, foundIf}
+use Rattle.records.specs.declared.RecordBytes.{RecordBytes}
+use Rattle.records.specs.Found.{acceptedIf}
 use Rattle.netlists.specs.declared.Netlist.{Netlist as Flat}
 use Rattle.netlists.specs.declared.ReadFile.{ReadFile}
-use Rattle.netlists.specs.Netlists.{padded, blank, flatOf, Formed, Ready, kept, Reads}
+use Rattle.netlists.specs.Netlists.{padded, blank, flatOf, Formed, Ready, Placed, kept, Reads}
 
 -- ---- padded lists
 
@@ -40,6 +47,14 @@ module _ {ℓ} {A : Type ℓ} (k : ℕ) (rest : A) where
       let before : k - length xs ≡ suc left = omega arith in
       let after : k - length (xs ++ (v ∷ [])) ≡ left = omega (arith, length-append xs (v ∷ [])) in
       rw (before, after) (set-append-seam xs rest (replicate left rest) v ∙ sym (append-snoc xs v (replicate left rest)))
+
+  pub padded-length : (xs : List A) → length xs ≤ k → length (padded k rest xs) ≡ k
+  unfolding padded
+  padded-length xs h = omega (arith, length-append xs (replicate (k - length xs) rest), length-replicate (k - length xs) rest)
+
+  pub padded-first : (xs : List A) → take (length xs) (padded k rest xs) ≡ xs
+  unfolding padded
+  padded-first xs = take-at xs (replicate (k - length xs) rest) (length xs) refl
 
   padded-at : (xs : List A) (i : ℕ) (d : A) → i < length xs → getD (padded k rest xs) i d ≡ getD xs i d
   unfolding padded
@@ -98,30 +113,47 @@ pub flat-entry-at : (n : Netlist) (i : ℕ) → i < length (n .nodes) → getD (
 unfolding flatOf
 flat-entry-at n i h = made-at entry most-nodes blank (n .nodes) i (input 0) h
 
+-- the operand fields of a node's record: they are its operands, with 0 beyond them
+abbrev pub fields : Node → List ℕ
+fields e = e .first ∷ e .second ∷ []
+
+pub operand-fields : (k s : ℕ) (l : List ℕ) (j : ℕ) → j < most-body → getD (fields (nodeOf k l s)) j 0 ≡ getD l j 0
+operand-fields k s l zero h = refl
+operand-fields k s l (suc zero) h = refl
+operand-fields k s l (suc (suc j)) h = absurd (omega arith)
+
+pub fields-padded : (cell : Cell) → fields (entry cell) ≡ padded most-body 0 (operands cell)
+unfolding entry
+fields-padded cell =
+    ext-getD 0 _ _ (sym (padded-length most-body 0 (operands cell) (few-operands cell)))
+    (λ j h. operand-fields (kindOf cell) (setOf cell) (operands cell) j h ∙ sym (padded-same most-body 0 (operands cell) j))
+
+pub node-same : (k s : ℕ) (l m : List ℕ) → ((j : ℕ) → j < most-body → getD l j 0 ≡ getD m j 0) → nodeOf k l s ≡ nodeOf k m s
+node-same k s l m e = rw (e 0 (omega arith), e 1 (omega arith))
+
 -- a node is read back off its record
+nodeIn : Record → Cell
+nodeIn end = input 0
+nodeIn (variable c) = input 0
+nodeIn (node cell) = cell
+
 cellOf : Node → Cell
-cellOf e =
-    getD
-    (input 0
-    ∷ input 0
-    ∷ input (e .set)
-    ∷ NOT (e .first)
-    ∷ XOR (e .first) (e .second)
-    ∷ AND (e .first) (e .second)
-    ∷ OR (e .first) (e .second)
-    ∷ register (e .first)
-    ∷ [])
-    (e .kind)
-    (input 0)
+cellOf e = cond (eqb (e .kind) 2) (input (e .set)) (nodeIn (said (e .kind) (fields e)))
 
 cell-back : (c : Cell) → cellOf (entry c) ≡ c
-unfolding cellOf entry kindOf operands setOf
+unfolding cellOf nodeIn entry kindOf operands setOf
 cell-back (input s) = refl
-cell-back (NOT a) = refl
-cell-back (XOR a b) = refl
-cell-back (AND a b) = refl
-cell-back (OR a b) = refl
-cell-back (register a) = refl
+cell-back (gate kind ops) =
+    let l = listed (operandCount kind) ops in
+    rw (ne-eqb (kindNumber kind) 2 (λ e. omega (arith, known kind .above)), known kind .says (fields (nodeOf (kindNumber kind) l 0)))
+    (ap (gate kind)
+    (first-same (operandCount kind) _ (l ++ [])
+    (λ j h. operand-fields (kindNumber kind) 0 l j (omega (arith, known kind .few)) ∙ ap (λ (m : List ℕ). getD m j 0) (sym (append-nil l)))
+    ∙ first-listed (operandCount kind) ops []))
+
+-- so no two nodes have the same record
+pub entry-one : (c d : Cell) → entry c ≡ entry d → c ≡ d
+entry-one c d e = sym (cell-back c) ∙ ap cellOf e ∙ cell-back d
 
 -- no two netlists have the same flat form
 flat-injective : (n m : Netlist) → flatOf n ≡ flatOf m → n ≡ m
@@ -198,55 +230,49 @@ module _ {value : Flat} (f : Formed value) where
   pub well-formed : (n : Netlist) → value ≡ flatOf n → WellFormed n
   well-formed n e = subst (λ (m : Netlist). WellFormed m) (one-netlist n e) (f .obeys)
 
-  -- both operand fields of a node's record are numbers of nodes; where the kind has no such operand the field is 0
-  pub operands-below : (i : ℕ) → i < value .count → (getD (value .nodes) i blank .first < most-nodes) × (getD (value .nodes) i blank .second < most-nodes)
-  unfolding entry
-  operands-below i h = rw (value-entry (f .netlist) (f .is) i h) (below 0, below 1)
-    where
-      own : List ℕ
-      own = operands (getD (f .netlist .nodes) i (input 0))
+  -- each node can stand at its number
+  pub placed-at : (i : ℕ) → i < value .count → Placed i (getD (value .nodes) i blank)
+  placed-at i h =
+      let here : i < length (f .netlist .nodes) = omega (arith, value-count (f .netlist) (f .is)) in
+      record { cell = _; is = value-entry (f .netlist) (f .is) i h; lower = f .obeys .lower i here; small = set-small (f .netlist) (f .obeys) i here }
 
-      here : i < length (f .netlist .nodes)
-      here = omega (arith, value-count (f .netlist) (f .is))
+-- the operands of a node that can stand at a number are lower, and so is 0 where the number is not 0 itself
+pub placed-operand : {i : ℕ} {node : Node} (p : Placed i node) → 0 < i → (j : ℕ) → getD (operands (p .cell)) j 0 < i
+placed-operand {i} p some = all-at (λ a. a < i) (operands (p .cell)) 0 (p .lower) some
 
-      below : (k : ℕ) → getD own k 0 < most-nodes
-      below = all-at (λ a. a < most-nodes) own 0 (λ a t. omega (arith, f .obeys .lower i here a t, few-nodes)) (omega arith)
+pub placed-later : {i j : ℕ} {node : Node} → i ≤ j → Placed i node → Placed j node
+placed-later h p = record { cell = p .cell; is = p .is; lower = λ a t. omega (arith, p .lower a t); small = p .small }
 
 -- ---- one record of a file
 
--- kind 0 says the end, kind 1 a variable, and a kind from 2 to 7 a node
-pub says-end : (k b c : ℕ) → k ≡ 0 → said k b c ≡ end
+-- kind 0 says the end, kind 1 a variable, and a kind from 2 to the last a node
+pub says-end : (k : ℕ) (body : List ℕ) → k ≡ 0 → said k body ≡ end
 unfolding said
-says-end k b c e = rw e
+says-end k body e = rw e
 
-pub says-variable : (k b c : ℕ) → k ≡ 1 → said k b c ≡ variable (classOf b)
+pub says-variable : (k : ℕ) (body : List ℕ) → k ≡ 1 → said k body ≡ variable (classOf (getD body 0 0))
 unfolding said
-says-variable k b c e = rw e
+says-variable k body e = rw e
 
-pub says-node : (k b c : ℕ) → 2 ≤ k → k ≤ 7 → (cell : Cell) × (said k b c ≡ node cell)
-unfolding said
-says-node zero b c p q = absurd (omega arith)
-says-node (suc zero) b c p q = absurd (omega arith)
-says-node (suc (suc zero)) b c p q = (_, refl)
-says-node (suc (suc (suc zero))) b c p q = (_, refl)
-says-node (suc (suc (suc (suc zero)))) b c p q = (_, refl)
-says-node (suc (suc (suc (suc (suc zero))))) b c p q = (_, refl)
-says-node (suc (suc (suc (suc (suc (suc zero)))))) b c p q = (_, refl)
-says-node (suc (suc (suc (suc (suc (suc (suc zero))))))) b c p q = (_, refl)
-says-node (suc (suc (suc (suc (suc (suc (suc (suc k)))))))) b c p q = absurd (omega arith)
+pub says-node : (k : ℕ) (body : List ℕ) → 2 ≤ k → k ≤ last-kind → (cell : Cell) × (said k body ≡ node cell)
+says-node k body above below = go (ℕ-discrete k 2)
+  where
+    go : Dec (k ≡ 2) → (cell : Cell) × (said k body ≡ node cell)
+    go (yes e) = (input (getD body 0 0 + 256 * getD body 1 0), unfold said in (rw e))
+    go (no other) = let (kind, number, says) = says-gate k body (omega arith) below in (gate kind (firstOf (operandCount kind) body), says)
 
--- where a record is found, the rules accept one, and the bytes found are those that they judge
-pub found-record : (total v n here k b c : ℕ) (found : RecordBytes) (o : Outcome Record) → judgedRecord total v n here k b c ≡ o
-    → answered found ≡ foundIf o k b c → (o ≡ answered (said k b c)) × (found ≡ record { kind = k; first = b; second = c })
-unfolding foundIf andThen judgedRecord
-found-record total v n here k b c found (answered r) e f = (ap answered (sym (answer _ _ _ e)), cc)
-found-record total v n here k b c found (refused number place) e f = (cc, cc)
-
--- where a refusal is found, it is theirs
-pub found-refusal : (o : Outcome Record) (k b c number place : ℕ) → refused number place ≡ foundIf o k b c → refused number place ≡ o
-unfolding foundIf andThen
-found-refusal (answered r) k b c number place e = cc
-found-refusal (refused i p) k b c number place e = cc
+-- where a record is found, the rules accept it, and the bytes found are those that they judge
+pub found-record : (total v n here k : ℕ) (body : List ℕ) (own own′ : RecordBytes) (told : QueryOutcome) → told ≡ Query.Answered
+    → andThen (queryOf told) (λ _. answered own) ≡ andThen (acceptedIf (judgedRecord total v n here k body)) (λ _. answered own′)
+    → (judgedRecord total v n here k body ≡ answered (said k body)) × (own ≡ own′)
+unfolding acceptedIf andThen judgedRecord
+found-record total v n here k body own own′ told is e = go (judgedRecord total v n here k body) refl (rw is at e)
+  where
+    go : (o : Outcome Record) → judgedRecord total v n here k body ≡ o
+        → andThen (queryOf Query.Answered) (λ _. answered own) ≡ andThen (acceptedIf o) (λ _. answered own′)
+        → (o ≡ answered (said k body)) × (own ≡ own′)
+    go (answered r) e f = (ap answered (sym (answer _ _ _ e)), cc)
+    go (refused number place) e f = (cc, cc)
 
 -- ---- a file that was read
 

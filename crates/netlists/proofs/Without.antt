@@ -1,122 +1,62 @@
--- A padded list without an entry, as a loop leaves it that moves the entries behind that one down by one: entries that
--- move down over a gap, from the first to the last; and that what is made of a list's entries is made of its parts.
--- Of any entries, so that nodes, marks and bytes cite one law. Assumes nothing.
-use Prim.Native.Nat.{ℕ, zero, suc, _+_, _-_, _≤_, _<_}
-use mathlib.Core.Path.{_≡_, refl, sym, ap, _∙_}
-use mathlib.Core.List.{List, [], _∷_, _++_, map, map-append}
-use native.Mathlib.Numerals.{add-one}
+-- A list without an entry: what stands before that one and behind it. And an array whose entries become those of
+-- another, one after the other, as a loop leaves it: of any entries, so that nodes, marks and operands cite one law.
+-- Assumes nothing.
+use Prim.Native.Nat.{ℕ, zero, suc, _+_, _-_, _≤_, _<_, min}
+use mathlib.Core.Path.{_≡_, refl, _∙_}
+use mathlib.Core.Logic.{⊎-elim}
+use mathlib.Core.List.{List, [], _∷_}
 use native.Mathlib.Omega.{arith}
-use lib.ListN.{length, getD, take, drop, set, replicate, length-append, length-map, length-drop, List·getD-map}
-use lib.Seq.{paste, paste-zero, paste-suc, drop-paste, getD-drop, take-append-le, drop-append-le, take-at, drop-at, set-at, drop-cons, length-take-le}
-use Rattle.netlists.specs.Netlists.{padded}
+use lib.ListN.{length, getD, take, drop, set, length-append, length-take, length-drop, length-set}
+use lib.Seq.{ext-getD, getD-set-same, getD-set-other}
+use Rattle.rules.specs.Lists.{without}
+use Rattle.rules.proofs.Tests.{lt-or-le}
+use Rattle.records.proofs.Turns.{one-more}
 
--- ---- entries that move down
+-- ---- a list without an entry
 
--- The entries of `old` from `at` on become those of `new`, one after the other, each read off the entry `gap`
--- further on: that one still stands.
-module _ {A : Type 0} (old : List A) (at : ℕ) (new : List A) (gap : ℕ) (f : A → A) (d : A) where
-  pub moved-next : (j : ℕ) → at + j < length old → j < length new → getD new j d ≡ f (getD old (at + j + gap) d)
-      → set (paste old at new j) (at + j) (f (getD (paste old at new j) (at + j + gap) d)) ≡ paste old at new (suc j)
-  moved-next j h l e =
-      ap (λ (x : A). set (paste old at new j) (at + j) (f x)) stands ∙ rw (← e) (paste-suc old at new j d h l)
-    where
-      stands : getD (paste old at new j) (at + j + gap) d ≡ getD old (at + j + gap) d
-      stands =
-          sym (getD-drop (at + j) (paste old at new j) gap d)
-          ∙ ap (λ (xs : List A). getD xs gap d) (drop-paste old at new j (omega arith) (omega arith)) ∙ getD-drop (at + j) old gap d
+module _ {A : Type 0} (d : A) where
+  pub without-before : (i : ℕ) (xs : List A) (k : ℕ) → k < i → getD (without i xs) k d ≡ getD xs k d
+  unfolding without
+  without-before zero xs k h = absurd (omega arith)
+  without-before (suc i) [] k h = refl
+  without-before (suc i) (x ∷ xs) zero h = refl
+  without-before (suc i) (x ∷ xs) (suc k) h = without-before i xs k (omega arith)
 
--- ---- a padded list without an entry
+  pub without-behind : (i : ℕ) (xs : List A) (k : ℕ) → i ≤ k → getD (without i xs) k d ≡ getD xs (suc k) d
+  unfolding without
+  without-behind zero [] k h = refl
+  without-behind zero (x ∷ xs) k h = refl
+  without-behind (suc i) [] k h = refl
+  without-behind (suc i) (x ∷ xs) zero h = absurd (omega arith)
+  without-behind (suc i) (x ∷ xs) (suc k) h = without-behind i xs k (omega arith)
 
--- Those behind the entry that is removed move down by one, each as f makes it, and the last becomes
--- what the list is padded with.
-module _ {A : Type 0} (f : A → A) (rest : A) where
-  -- a list, of whatever length, once k of them have moved
-  unfoldable pub shifted : List A → (removed k : ℕ) → List A
-  shifted old removed zero = old
-  shifted old removed (suc k) = set (shifted old removed k) (removed + k) (f (getD (shifted old removed k) (removed + k + 1) rest))
+pub without-count : {A : Type 0} (i : ℕ) (xs : List A) → length (without i xs) ≡ min i (length xs) + (length xs - suc i)
+unfolding without
+without-count i xs = omega (arith, length-append (take i xs) (drop (suc i) xs), length-take i xs, length-drop (suc i) xs)
 
-  pub shifted-none : (old : List A) (removed : ℕ) → old ≡ shifted old removed (removed - removed)
-  unfolding shifted
-  shifted-none old removed = let none : removed - removed ≡ 0 = omega arith in rw none
+-- ---- an array that becomes another
 
-  pub shifted-next : (old : List A) (removed i : ℕ) → removed ≤ i
-      → set (shifted old removed (i - removed)) i (f (getD (shifted old removed (i - removed)) (i + 1) rest)) ≡ shifted old removed (i + 1 - removed)
-  unfolding shifted
-  shifted-next old removed i h =
-      let more : i + 1 - removed ≡ suc (i - removed) = omega arith in
-      let here : removed + (i - removed) ≡ i = omega arith in
-      rw (more, here)
+module _ {A : Type 0} (rest : A) (old new : List A) where
+  -- the entries up to i are the new ones, and the others still the old
+  pub record Becoming (now : List A) (i : ℕ) : Type 0 where
+    pub many : length now ≡ length old
+    pub done : (k : ℕ) → k < i → getD now k rest ≡ getD new k rest
+    pub left : (k : ℕ) → i ≤ k → getD now k rest ≡ getD old k rest
 
-  module _ (still : f rest ≡ rest) (old : List A) (removed : ℕ) where
-    abbrev behind : List A
-    behind = map f (drop (removed + 1) old)
+  -- at first, where those before i stay
+  pub none-done : (i : ℕ) → ((k : ℕ) → k < i → getD old k rest ≡ getD new k rest) → Becoming old i
+  none-done i same = record { many = refl; done = same; left = λ k h. refl }
 
-    shifted-paste : (k : ℕ) → removed + k < length old → shifted old removed k ≡ paste old removed behind k
-    unfolding shifted
-    shifted-paste zero h = paste-zero old removed behind
-    shifted-paste (suc k) h = rw (shifted-paste k (omega arith)) (moved-next old removed behind 1 f rest k (omega arith) enough next)
-      where
-        enough : k < length behind
-        enough = omega (arith, length-map (drop (removed + 1) old) f, length-drop (removed + 1) old)
+  -- one entry more
+  pub next-done : (now : List A) (i : ℕ) (e : A) → i < length old → e ≡ getD new i rest → Becoming now i → Becoming (set now i e) (i + 1)
+  next-done now i e h is b = record {
+    many = length-set now i e ∙ b .many;
+    done =
+        one-more (λ k. getD (set now i e) k rest ≡ getD new k rest) i (λ k l. getD-set-other now i k e rest (λ s. omega arith) ∙ b .done k l)
+        (getD-set-same now i e rest (omega (arith, b .many)) ∙ is);
+    left = λ k l. getD-set-other now i k e rest (λ s. omega arith) ∙ b .left k (omega arith);
+  }
 
-        next : getD behind k rest ≡ f (getD old (removed + k + 1) rest)
-        next =
-            ap (getD behind k) (sym still) ∙ List·getD-map f (drop (removed + 1) old) k rest
-            ∙ ap f (getD-drop (removed + 1) old k rest ∙ ap (λ (i : ℕ). getD old i rest) (omega arith))
-
-  module _ (still : f rest ≡ rest) (most : ℕ) (xs : List A) (few : length xs ≤ most) (removed : ℕ) (there : removed < length xs) where
-    abbrev last : ℕ
-    last = length xs - 1
-
-    abbrev moved : List A
-    moved = map f (drop (suc removed) xs)
-
-    abbrev others : List A
-    others = take removed xs ++ moved
-
-    abbrev rests : List A
-    rests = replicate (most - length xs) rest
-
-    abbrev old : List A
-    old = xs ++ rests
-
-    moved-length : length moved ≡ last - removed
-    moved-length = omega (arith, length-map (drop (suc removed) xs) f, length-drop (suc removed) xs)
-
-    others-length : length others ≡ last
-    others-length = omega (arith, length-append (take removed xs) moved, length-take-le removed xs (omega arith), moved-length)
-
-    -- once all have moved, the last entry is left over
-    pasted : paste old removed (behind still old removed) (last - removed) ≡ others ++ drop last old
-    pasted =
-        let end : removed + (last - removed) ≡ last = omega arith in
-        rw (end, take-append-le removed xs rests (omega arith), add-one removed, drop-append-le (suc removed) xs rests (omega arith), map-append)
-        (ap (λ (l : List A). (take removed xs ++ l) ++ drop last old) (take-at moved _ (last - removed) moved-length))
-
-    pub padded-without : set (shifted (padded most rest xs) removed (last - removed)) last rest ≡ padded most rest others
-    unfolding padded
-    padded-without =
-        rw (shifted-paste still old removed (last - removed) (omega (arith, many)), pasted, fewer)
-        (ap (λ (l : List A). set (others ++ l) last rest) left ∙ set-at others (getD old last rest) rests rest last others-length)
-      where
-        many : length old ≡ length xs + length rests
-        many = length-append xs rests
-
-        fewer : most - length others ≡ suc (most - length xs)
-        fewer = omega (arith, others-length)
-
-        left : drop last old ≡ getD old last rest ∷ rests
-        left = drop-cons old last rest (omega (arith, many)) ∙ ap (λ (l : List A). getD old last rest ∷ l) (drop-at xs rests (suc last) (omega arith))
-
--- ---- what is made of the entries
-
-module _ {A B : Type 0} (f : A → B) where
-  pub map-take : (k : ℕ) (xs : List A) → map f (take k xs) ≡ take k (map f xs)
-  map-take zero xs = refl
-  map-take (suc k) [] = refl
-  map-take (suc k) (x ∷ xs) = ap (λ (ys : List B). f x ∷ ys) (map-take k xs)
-
-  pub map-drop : (k : ℕ) (xs : List A) → map f (drop k xs) ≡ drop k (map f xs)
-  map-drop zero xs = refl
-  map-drop (suc k) [] = refl
-  map-drop (suc k) (x ∷ xs) = map-drop k xs
+  -- at last, where those from i on stay
+  pub all-done : (now : List A) (i : ℕ) → length old ≡ length new → ((k : ℕ) → i ≤ k → getD old k rest ≡ getD new k rest) → Becoming now i → now ≡ new
+  all-done now i same stay b = ext-getD rest now new (b .many ∙ same) (λ k h. ⊎-elim (b .done k) (λ l. b .left k l ∙ stay k l) (lt-or-le k i))

@@ -1,12 +1,14 @@
 -- Netlists by value, and a file that was read. Cited by this crate's contracts and its callers'. Assumes nothing.
-use Prim.Native.Nat.{ℕ, _*_, _-_, _≤_}
+use Prim.Native.Nat.{ℕ, _*_, _-_, _≤_, _<_}
 use mathlib.Core.Path.{_≡_}
-use mathlib.Core.List.{List, _++_, map}
+use mathlib.Core.List.{List, [], _++_, map}
+use lib.Dec.{T}
 use lib.ListN.{length, replicate}
 use Rattle.rules.specs.declared.Node.{Node}
+use Rattle.rules.specs.Lists.{member}
 use Rattle.rules.specs.Records as R
 use Rattle.rules.specs.Records.{empty, most-variables, most-nodes, classByte}
-use Rattle.rules.specs.Slices.{entry}
+use Rattle.rules.specs.Slices.{nodeOf, entry}
 use Rattle.rules.specs.Checks.{Outcome, answered, refused, andThen}
 use Rattle.rules.specs.Paper.{queryOf}
 use Rattle.netlists.specs.declared.Netlist.{Netlist}
@@ -18,7 +20,7 @@ padded k rest xs = xs ++ replicate (k - length xs) rest
 
 -- no node's record
 abbrev pub blank : Node
-blank = record { kind = 0; first = 0; second = 0; set = 0 }
+blank = nodeOf 0 [] 0
 
 -- a netlist by value: beyond the counts all is 0
 unfoldable pub flatOf : R.Netlist → Netlist
@@ -46,6 +48,14 @@ pub record Sized (value : Netlist) (work : ℕ) : Type 0 where
   pub variables : value .variables ≤ most-variables
   pub nodes : value .count ≤ most-nodes
   pub room : 256 * value .count ≤ work
+
+-- a node record that can stand at number i: that of a node whose operands are lower and whose set is
+-- one of the variables there may be
+pub record Placed (i : ℕ) (n : Node) : Type 0 where
+  pub cell : R.Cell
+  pub is : n ≡ entry cell
+  pub lower : (a : ℕ) → T (member a (R.operands cell)) → a < i
+  pub small : R.setOf cell < R.most-sets
 
 -- the netlist that is kept of an outcome: the empty one on a refusal
 unfoldable pub kept : Outcome R.Netlist → R.Netlist

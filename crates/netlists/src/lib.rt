@@ -2,18 +2,24 @@
 // the refusal. Reads the netlist bytes and writes to no lent slice. Used by all that works on a netlist:
 // the checker's crates from `nodes` to `pairs`, the edits, the queries, the derivations, the listing and the desk.
 ghost use mathlib.Core.Path.{_≡_};
-ghost use Prim.Native.Nat.{ℕ, _+_, _<_, _≤_};
-ghost use Rattle.rules.specs.Records.{Cell, said, size, node, empty, withNode, most-nodes, last-kind, most-record};
+ghost use mathlib.Core.Bool.{cond};
+ghost use mathlib.Core.List.{List};
+ghost use Prim.Native.Nat.{ℕ, _+_, _*_, _<_, _≤_};
+ghost use lib.ListN.{getD};
+ghost use Rattle.rules.specs.Records.{Cell, said, size, node, operands, listed, firstOf, empty, withNode};
+ghost use Rattle.rules.specs.Records.{most-nodes, last-kind, most-body, most-record};
 ghost use Rattle.rules.specs.Records as Records;
-ghost use Rattle.rules.specs.Slices.{entry};
+ghost use Rattle.rules.specs.Slices.{nodeOf, entry};
 ghost use Rattle.rules.specs.Checks as Checks;
 ghost use Rattle.rules.specs.Paper.{numberOf, placeOf};
-ghost use Rattle.netlists.specs.Netlists.{blank, flatOf, Reads};
-use records::Found;
+ghost use Rattle.netlists.specs.Netlists.{padded, blank, flatOf, Formed, Reads};
+use records::RecordBytes;
+use rules::MOST_BODY;
 use rules::MOST_NODES;
 use rules::MOST_VARIABLES;
 use rules::Node;
 use rules::QueryOutcome;
+use rules::Reason;
 use rules::Refusal;
 
 // The most records of a file: the variables and nodes that there may be, and the end.
@@ -33,16 +39,30 @@ pub struct ReadFile {
     pub netlist: Netlist,
 }
 
+// The operands of a node, in their order; 0 where its kind has none.
+pub fn operands_of(node: Node) -> [u8; MOST_BODY]
+    ensures { λ r. ⌜ ((cell : Cell) → node ≡ entry cell → r ≡ padded most-body 0 (operands cell)) ⌝ }
+{
+    [node.first, node.second]
+}
+
+// The node of a kind with these operands and this set.
+pub fn node_of(kind: u8, operands: [u8; MOST_BODY], set: u16) -> Node
+    ensures { λ r. ⌜ r ≡ nodeOf kind operands set ⌝ }
+{
+    Node {
+        kind,
+        first: operands[0],
+        second: operands[1],
+        set,
+    }
+}
+
 // The node of no record, in which every field is 0: what stands beyond the count.
 pub fn blank_node() -> Node
     ensures { λ r. ⌜ r ≡ blank ⌝ }
 {
-    Node {
-        kind: 0,
-        first: 0,
-        second: 0,
-        set: 0,
-    }
+    node_of(0, [0u8; MOST_BODY], 0)
 }
 
 // The netlist of no records: no variable, no node, and 0 in every entry.
@@ -71,57 +91,61 @@ pub fn with_node(netlist: Netlist, last: Node) -> Netlist
     longer
 }
 
-// The node by value whose record has kind `k` and the body `b`, `c`. What its kind has none of is 0.
-pub fn entry_of(k: u8, b: u8, c: u8) -> Node
-    ensures { λ r. ⌜ ((cell : Cell) → said k b c ≡ node cell → r ≡ entry cell) ⌝ }
+// A byte, or 0 where it is not kept.
+fn byte_if(kept: bool, byte: u8) -> u8
+    ensures { λ r. ⌜ r ≡ cond kept byte 0 ⌝ }
 {
-    if k == 2 {
-        return Node {
-            kind: 2,
-            first: 0,
-            second: 0,
-            set: (b as u16) + 256 * (c as u16),
-        };
+    if kept {
+        return byte;
     }
-    if k == 3 {
-        return Node {
-            kind: 3,
-            first: b,
-            second: 0,
-            set: 0,
-        };
-    }
-    if k == 7 {
-        return Node {
-            kind: 7,
-            first: b,
-            second: 0,
-            set: 0,
-        };
-    }
-    Node {
-        kind: k,
-        first: b,
-        second: c,
-        set: 0,
-    }
+    0
 }
 
-// How many bytes the record of a variable or node of kind `k` has: at most three, for any `k`.
-pub fn size_of(k: u8) -> usize
-    ensures { λ r. ⌜ ((b c : ℕ) → 0 < k → k ≤ last-kind → r ≡ size (said k b c)) ⌝ }
+// The first `count` bytes of a body, and 0 beyond them.
+fn first_of(body: [u8; MOST_BODY], count: usize) -> [u8; MOST_BODY]
+    requires { ⌜ count ≤ most-body ⌝ }
+    ensures { λ r. ⌜ ((j : ℕ) → j < most-body → getD r j 0 ≡ getD (listed count (firstOf count body)) j 0) ⌝ }
+{
+    let mut first = [0u8; MOST_BODY];
+    let mut j = 0;
+    while j < MOST_BODY {
+        first[j] = byte_if(j < count, body[j]);
+        j += 1;
+    }
+    first
+}
+
+// The number of a set, of its two bytes.
+fn set_of(low: u8, high: u8) -> u16
+    ensures { λ r. ⌜ r ≡ low + 256 * high ⌝ }
+{
+    (low as u16) + 256 * (high as u16)
+}
+
+// The node by value that a record's bytes say. What its kind has none of is 0.
+pub fn entry_of(own: RecordBytes) -> Node
+    ensures { λ r. ⌜ ((cell : Cell) → said (own .kind) (own .body) ≡ node cell → r ≡ entry cell) ⌝ }
+{
+    let kind = own.kind;
+    let body = own.body;
+    if kind == 2 {
+        return node_of(2, [0u8; MOST_BODY], set_of(body[0], body[1]));
+    }
+    let count = records::operand_count(kind);
+    let operands = first_of(body, count);
+    node_of(kind, operands, 0)
+}
+
+// How many bytes the record of a variable or node of this kind has: at most as many as the longest, for any kind.
+pub fn size_of(kind: u8) -> usize
+    ensures { λ r. ⌜ ((body : List ℕ) → 0 < kind → kind ≤ last-kind → r ≡ size (said kind body)) ⌝ }
     ensures few { λ r. ⌜ r ≤ most-record ⌝ }
 {
-    if k == 1 {
-        return 2;
+    match kind {
+        1 => 2,
+        2 => 3,
+        _ => 1 + records::operand_count(kind),
     }
-    if k == 3 {
-        return 2;
-    }
-    if k == 7 {
-        return 2;
-    }
-    3
 }
 
 // What is read where the bytes are answered with this netlist.
@@ -144,36 +168,52 @@ pub fn refused(refusal: Refusal) -> ReadFile
     }
 }
 
-// Reads netlist bytes: their netlist, or the first refusal by the record rules. A variable or a node goes behind those
-// before it, in place; the end record ends the reading, and so does a refusal.
-pub fn read(bytes: &[u8]) -> ReadFile
-    ensures { λ r. ⌜ Reads r (Checks.read (now (bytes .entry))) ⌝ }
+// Reads netlist bytes behind the variables and nodes of a netlist: that netlist with theirs, or the first refusal by
+// the record rules. A variable or a node goes behind those before it, in place; the end record ends the reading, and so
+// does a refusal.
+pub fn read_from(start: Netlist, bytes: &[u8]) -> ReadFile
+    requires { ⌜ Formed start ⌝ }
+    ensures { λ r. ⌜ ((n : Records.Netlist) → start ≡ flatOf n → Reads r (Checks.readFrom n (now (bytes .entry)))) ⌝ }
 {
-    let mut netlist = no_records();
+    let mut netlist = start;
     let mut here = 0;
     let mut records: usize = 0;
     while records < MOST_RECORDS {
-        match records::next_record(bytes, here, netlist.variables, netlist.count) {
-            Found::Refused(refusal) => {
-                return refused(refusal);
-            }
-            Found::Record(k, b, c) => {
-                if k == 0 {
-                    return answered(netlist);
-                }
-                records += 1;
-                here += size_of(k);
-                if k == 1 {
-                    let at = netlist.variables;
-                    netlist.classes[at] = b;
-                    netlist.variables = at + 1;
-                } else {
-                    let at = netlist.count;
-                    netlist.nodes[at] = entry_of(k, b, c);
-                    netlist.count = at + 1;
-                }
-            }
+        let found = records::next_record(bytes, here, netlist.variables, netlist.count);
+        let outcome = found.outcome;
+        let own = found.own;
+        let QueryOutcome::Answered = outcome else {
+            return ReadFile {
+                outcome,
+                netlist: no_records(),
+            };
+        };
+        let kind = own.kind;
+        if kind == 0 {
+            return answered(netlist);
+        }
+        records += 1;
+        here += size_of(kind);
+        if kind == 1 {
+            let body = own.body;
+            let at = netlist.variables;
+            netlist.classes[at] = body[0];
+            netlist.variables = at + 1;
+        } else {
+            let at = netlist.count;
+            netlist.nodes[at] = entry_of(own);
+            netlist.count = at + 1;
         }
     }
-    refused(Refusal::NoEnd(bytes.len()))
+    refused(Refusal {
+        reason: Reason::NoEnd,
+        place: bytes.len(),
+    })
+}
+
+// Reads netlist bytes: their netlist, or the first refusal by the record rules.
+pub fn read(bytes: &[u8]) -> ReadFile
+    ensures { λ r. ⌜ Reads r (Checks.read (now (bytes .entry))) ⌝ }
+{
+    read_from(no_records(), bytes)
 }

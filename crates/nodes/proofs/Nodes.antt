@@ -7,21 +7,22 @@ use mathlib.Core.List.{List, [], _∷_, _++_, append-assoc, append-nil}
 use native.Mathlib.Nat.{zero-add, le-refl}
 use native.Mathlib.Omega.{arith}
 use lib.Dec.{T}
-use lib.ListN.{length, getD, take, drop, length-append, length-drop}
+use lib.ListN.{length, getD, take, drop, length-append, length-drop, take-append-drop}
 use lib.Seq.{take-all, take-at, drop-append-add, drop-drop, getD-take}
 use Rattle.rules.specs.Lists.{member, insert, union}
 use Rattle.rules.specs.Tables.{table}
-use Rattle.rules.specs.Records.{Cell, input, NOT, XOR, AND, OR, register, Netlist, WellFormed, operands}
-use Rattle.rules.specs.Families.{Family, spread, Families, constant, settledRule, glitchRule, familiesRule, families, familiesAt}
-use Rattle.rules.specs.Slices.{entry, familyBytes, nodeBytes, workBytes}
-use Rattle.rules.proofs.Lists.{member-head, member-tail, member-insert, member-union}
-use Rattle.rules.proofs.Bounds.{set-small, families-small}
+use Rattle.rules.specs.Records.{Cell, input, Netlist, WellFormed, operands}
+use Rattle.rules.specs.Families.{Family, Families, constant, familiesRule, families, familiesAt}
+use Rattle.rules.specs.Slices.{familyBytes, nodeBytes, workBytes}
+use Rattle.rules.proofs.Lists.{member-insert, member-union}
+use Rattle.rules.proofs.Entries.{KeepsRelation, BothRelated, rules-related}
+use Rattle.rules.proofs.Bounds.{families-small}
 use Rattle.rules.proofs.Tables.{table-length, first-length, first-next, table-take}
 use Rattle.rules.proofs.Packing.{tabulate-at, tabulate-same, family-length, work-length}
 use Rattle.families.specs.Parts.{HasPart, withFamily}
 use Rattle.families.proofs.Parts.{with-same, with-there}
 use Rattle.families.proofs.Work.{Alike, alike-product, settled-alike, glitch-alike}
-use Rattle.nodes.specs.Work.{familiesIn, soFar, withFamilies, Placed}
+use Rattle.nodes.specs.Work.{familiesIn, soFar, withFamilies, HoldsFirst}
 
 -- ---- families with the same sets
 
@@ -31,43 +32,22 @@ alike-insert {F} {G} h = record { same = λ A. rw (member-insert A 0 F, member-i
 alike-union : {F G F′ G′ : Family} → Alike F F′ → Alike G G′ → Alike (union F G) (union F′ G′)
 alike-union {F} {G} {F′} {G′} p q = record { same = λ A. rw (member-union A F G, member-union A F′ G′, p .same A, q .same A) }
 
-alike-spread : {F G F′ G′ : Family} → Alike F F′ → Alike G G′ → Alike (spread F G) (spread F′ G′)
-unfolding spread
-alike-spread p q = alike-insert (alike-union p (alike-union q (alike-product p q)))
+keeps-alike : KeepsRelation (λ F G. Alike F G)
+keeps-alike = record {
+  added = λ F G. alike-insert;
+  joined = λ F G F′ G′. alike-union;
+  multiplied = λ F G F′ G′. alike-product;
+}
 
 -- both families of a node
-record BothAlike (F G : Families) : Type 0 where
-  settled : Alike (F .settled) (G .settled)
-  glitch : Alike (F .glitch) (G .glitch)
-
--- those of some nodes, in two tables
-abbrev AlikeAt : (done other : List Families) → (nodes : List ℕ) → Type 0
-AlikeAt done other nodes = (a : ℕ) → T (member a nodes) → BothAlike (getD done a constant) (getD other a constant)
-
-pair : (done other : List Families) (a b : ℕ) → AlikeAt done other (a ∷ b ∷ [])
-    → BothAlike (getD done a constant) (getD other a constant) × BothAlike (getD done b constant) (getD other b constant)
-pair done other a b h = (h a (member-head a (b ∷ [])), h b (member-tail b a (b ∷ []) (member-head b [])))
+abbrev BothAlike : (F G : Families) → Type 0
+BothAlike = BothRelated (λ F G. Alike F G)
 
 -- the rules see no more of the operands' families
-rules-alike : (done other : List Families) (cell : Cell) → AlikeAt done other (operands cell)
+rules-alike : (done other : List Families) (cell : Cell)
+    → ((a : ℕ) → T (member a (operands cell)) → BothAlike (getD done a constant) (getD other a constant))
     → BothAlike (familiesRule done cell) (familiesRule other cell)
-unfolding familiesRule settledRule glitchRule operands
-rules-alike done other (input s) h = record { settled = record { same = λ A. refl }; glitch = record { same = λ A. refl } }
-rules-alike done other (NOT a) h =
-    let p = h a (member-head a []) in
-    record { settled = p .settled; glitch = alike-insert (p .glitch) }
-rules-alike done other (XOR a b) h =
-    let (p, q) = pair done other a b h in
-    record { settled = alike-product (p .settled) (q .settled); glitch = alike-spread (p .glitch) (q .glitch) }
-rules-alike done other (AND a b) h =
-    let (p, q) = pair done other a b h in
-    record { settled = alike-spread (p .settled) (q .settled); glitch = alike-spread (p .glitch) (q .glitch) }
-rules-alike done other (OR a b) h =
-    let (p, q) = pair done other a b h in
-    record { settled = alike-spread (p .settled) (q .settled); glitch = alike-spread (p .glitch) (q .glitch) }
-rules-alike done other (register a) h =
-    let p = h a (member-head a []) in
-    record { settled = p .settled; glitch = p .settled }
+rules-alike done other cell h = rules-related (λ F G. Alike F G) keeps-alike done other cell (record { same = λ A. refl }) h
 
 -- ---- the families of the nodes below i
 
@@ -145,9 +125,10 @@ firstFamilies n k = table familiesRule [] (take k (n .nodes))
 unfoldable pub nodesDone : Netlist → (before : List ℕ) → (k : ℕ) → List ℕ
 nodesDone n before k = workBytes (firstFamilies n k) ++ drop (256 * k) before
 
-pub none-done : (n : Netlist) (before : List ℕ) → nodesDone n before 0 ≡ before
-unfolding nodesDone table workBytes
-none-done n before = refl
+pub first-done : (n : Netlist) (before : List ℕ) (k : ℕ) → HoldsFirst n k before → nodesDone n before k ≡ before
+unfolding nodesDone families
+first-done n before k held =
+    rw (← table-take familiesRule (n .nodes) k, ← held) (take-append-drop (256 * k) before)
 
 pub done-length : (n : Netlist) (before : List ℕ) (k : ℕ) → k ≤ length (n .nodes) → 256 * k ≤ length before
     → length (nodesDone n before k) ≡ length before
@@ -162,10 +143,6 @@ done-length n before k h room =
     )
 
 module _ (n : Netlist) (formed : WellFormed n) where
-  -- each node can stand at its number
-  pub placed : (i : ℕ) → i < length (n .nodes) → Placed i (entry (getD (n .nodes) i (input 0)))
-  placed i h = record { cell = getD (n .nodes) i (input 0); is = refl; lower = formed .lower i h; small = set-small n formed i h }
-
   first-at : (k a : ℕ) → a < k → getD (firstFamilies n k) a constant ≡ familiesAt n a
   unfolding familiesAt families
   first-at k a h = rw (← table-take familiesRule (n .nodes) k) (getD-take k (table familiesRule [] (n .nodes)) a constant h)

@@ -1,98 +1,73 @@
--- A node record by its kind: which of its fields are numbers of lower nodes, and what the rules make of the families of
+-- A node record by its kind: its operand fields are numbers of lower nodes, and what the rules make of the families of
 -- those. Each rule is one test of the kind, by cases on the node that the record is of. Assumes nothing.
 use Prim.Native.Nat.{ℕ, _+_, _*_, _<_}
-use mathlib.Core.Path.{_≡_, refl, ap, ap₂, _∙_}
+use mathlib.Core.Path.{_≡_, refl, sym, ap, _∙_, subst}
 use mathlib.Core.Logic.{_⊎_, inl, inr}
-use mathlib.Core.Bool.{false, cond, _||_}
+use mathlib.Core.Bool.{cond}
 use mathlib.Core.List.{List, [], _∷_}
-use borrow.Author.Tests.{eqb-false, ne-eqb}
+use borrow.Author.Tests.{ne-eqb}
 use native.Mathlib.Omega.{arith}
 use lib.Dec.{T, eqb}
 use lib.ListN.{getD}
 use Rattle.rules.specs.declared.Node.{Node}
 use Rattle.rules.specs.Lists.{member, insert}
-use Rattle.rules.specs.Records.{Cell, input, NOT, XOR, AND, OR, register, kindOf, operands, setOf, most-sets}
-use Rattle.rules.specs.Families.{Family, product, spread, Families, constant, settledRule, glitchRule}
+use Rattle.rules.specs.Records.{Kind, NOT, XOR, AND, OR, register, operandCount, listed, Rule, fromOperands, Cell, input, gate, kindOf, operands, setOf, most-sets, most-body}
+use Rattle.rules.specs.Families.{Family, product, spread, Families, constant, settledOf, glitchOf, familyRule, settledRule, glitchRule}
 use Rattle.rules.specs.Slices.{entry}
-use Rattle.rules.proofs.Lists.{member-head, member-tail}
+use Rattle.rules.proofs.Members.{all-at, entry-member}
+use Rattle.rules.proofs.Operands.{listed-length, from-same, known}
+use Rattle.netlists.specs.Netlists.{Placed}
+use Rattle.netlists.proofs.Netlists.{padded-same, fields, fields-padded, entry-one}
 use Rattle.families.specs.Parts.{familyAt}
-use Rattle.nodes.specs.Work.{familiesIn, soFar, Placed}
+use Rattle.nodes.specs.Work.{familiesIn, soFar}
 use Rattle.nodes.proofs.Nodes.{so-far-at}
 
 -- ---- the fields that are operands
 
-abbrev firstOf : Cell → ℕ
-firstOf cell = getD (operands cell) 0 0
+-- each is a lower node; where the kind has none the field is 0, which is lower too, since every kind but an input
+-- has an operand
+fields-lower : (i : ℕ) (cell : Cell) → (kindOf cell ≡ 2 → ⊥) → ((a : ℕ) → T (member a (operands cell)) → a < i) → (j : ℕ) → getD (operands cell) j 0 < i
+unfolding kindOf operands
+fields-lower i (input s) other lower j = absurd (other refl)
+fields-lower i (gate kind ops) other lower j = all-at (λ a. a < i) l 0 lower some j
+  where
+    l : List ℕ
+    l = listed (operandCount kind) ops
 
-abbrev secondOf : Cell → ℕ
-secondOf cell = getD (operands cell) 1 0
+    some : 0 < i
+    some = omega (arith, lower (getD l 0 0) (entry-member l 0 0 (omega (arith, listed-length (operandCount kind) ops, known kind .some))))
 
--- of every kind but an input
+-- a kind with one operand is no input's
 pub one-operand : {kind : ℕ} → (kind ≡ 3) ⊎ (kind ≡ 7) → kind ≡ 2 → ⊥
 one-operand (inl e) z = omega arith
 one-operand (inr e) z = omega arith
-
-has-first : (cell : Cell) → (kindOf cell ≡ 2 → ⊥) → T (member (firstOf cell) (operands cell))
-unfolding kindOf operands
-has-first (input s) h = absurd (h refl)
-has-first (NOT a) h = member-head a []
-has-first (XOR a b) h = member-head a (b ∷ [])
-has-first (AND a b) h = member-head a (b ∷ [])
-has-first (OR a b) h = member-head a (b ∷ [])
-has-first (register a) h = member-head a []
-
--- of a gate with two operands
-pub record TwoOperands (kind : ℕ) : Type 0 where
-  pub input : kind ≡ 2 → ⊥
-  pub not : kind ≡ 3 → ⊥
-  pub register : kind ≡ 7 → ⊥
-
-two-operands : (kind : ℕ) → eqb kind 2 ≡ false → eqb kind 3 ≡ false → eqb kind 7 ≡ false → TwoOperands kind
-two-operands k p q r = record { input = eqb-false k 2 p; not = eqb-false k 3 q; register = eqb-false k 7 r }
-
-has-second : (cell : Cell) → TwoOperands (kindOf cell) → T (member (secondOf cell) (operands cell))
-unfolding kindOf operands
-has-second (input s) h = absurd (h .input refl)
-has-second (NOT a) h = absurd (h .not refl)
-has-second (XOR a b) h = member-tail b a (b ∷ []) (member-head b [])
-has-second (AND a b) h = member-tail b a (b ∷ []) (member-head b [])
-has-second (OR a b) h = member-tail b a (b ∷ []) (member-head b [])
-has-second (register a) h = absurd (h .register refl)
 
 module _ {i : ℕ} {node : Node} (p : Placed i node) where
   pub placed-set : node .set < most-sets
   unfolding entry
   placed-set = rw (p .is) (p .small)
 
-  pub placed-first : (node .kind ≡ 2 → ⊥) → node .first < i
+  pub placed-operands : (node .kind ≡ 2 → ⊥) → (j : ℕ) → getD (fields node) j 0 < i
   unfolding entry
-  placed-first h = rw (p .is) (p .lower (firstOf (p .cell)) (has-first (p .cell) (λ e. h (ap kind (p .is) ∙ e))))
-    where
-      kind : Node → ℕ
-      kind n = n .kind
-
-  pub placed-second : TwoOperands (node .kind) → node .second < i
-  unfolding entry
-  placed-second h = rw (p .is) (p .lower (secondOf (p .cell)) (has-second (p .cell) (rw (p .is) at h)))
+  placed-operands other j =
+      let same : getD (fields node) j 0 ≡ getD (operands (p .cell)) j 0 =
+      ap (λ (n : Node). getD (fields n) j 0) (p .is) ∙ ap (λ (l : List ℕ). getD l j 0) (fields-padded (p .cell)) ∙ padded-same most-body 0 (operands (p .cell)) j in
+      rw same (fields-lower i (p .cell) (rw (p .is) at other) (p .lower) j)
 
 -- ---- the rules, by the record's kind
 
 -- of a gate with two operands
-abbrev gateBy : (kind : ℕ) → Family → Family → Family
+abbrev pub gateBy : (kind : ℕ) → Family → Family → Family
 gateBy kind F G = cond (eqb kind 4) (product F G) (spread F G)
 
--- from the families of its operands, which `F` gives; for the glitch family their settled ones, which `F` gives,
--- and their glitch ones, `G`
-unfoldable settledBy : Node → (F : ℕ → Family) → Family
-settledBy n F =
-    cond (eqb (n .kind) 2) (n .set ∷ [])
-    (cond (eqb (n .kind) 3 || eqb (n .kind) 7) (F (n .first)) (gateBy (n .kind) (F (n .first)) (F (n .second))))
-
-unfoldable glitchBy : Node → (F G : ℕ → Family) → Family
-glitchBy n F G =
-    cond (eqb (n .kind) 2) (n .set ∷ [])
-    (cond (eqb (n .kind) 3) (insert 0 (G (n .first)))
-    (cond (eqb (n .kind) 7) (F (n .first)) (gateBy 5 (G (n .first)) (G (n .second)))))
+-- the settled and the glitch family, from the settled families of its operands, which `F` gives, and their glitch
+-- ones, `G`
+unfoldable familiesBy : Node → (F G : ℕ → Family) → Families
+familiesBy n F G =
+    cond (eqb (n .kind) 2) (record { settled = n .set ∷ []; glitch = n .set ∷ [] })
+    (cond (eqb (n .kind) 3) (record { settled = F (n .first); glitch = insert 0 (G (n .first)) })
+    (cond (eqb (n .kind) 7) (record { settled = F (n .first); glitch = F (n .first) })
+    (record { settled = gateBy (n .kind) (F (n .first)) (F (n .second)); glitch = gateBy 5 (G (n .first)) (G (n .second)) })))
 
 abbrev settledIn : List ℕ → (node : ℕ) → Family
 settledIn bytes a = familyAt bytes (2 * a)
@@ -100,72 +75,75 @@ settledIn bytes a = familyAt bytes (2 * a)
 abbrev glitchIn : List ℕ → (node : ℕ) → Family
 glitchIn bytes a = familyAt bytes (2 * a + 1)
 
-module _ (bytes : List ℕ) {i : ℕ} where
-  -- the families of the operands are in the bytes
-  at-first : (cell : Cell) → Placed i (entry cell) → (kindOf cell ≡ 2 → ⊥)
-      → getD (soFar bytes i) (firstOf cell) constant ≡ familiesIn bytes (firstOf cell)
-  unfolding entry
-  at-first cell p h = so-far-at bytes i (firstOf cell) (placed-first p h)
+module _ (bytes : List ℕ) where
+  -- by a column of the table, from the families in the bytes
+  abbrev ruleIn : ((kind : Kind) → Rule Families Family (operandCount kind)) → Cell → Family
+  ruleIn column (input s) = s ∷ []
+  ruleIn column (gate kind ops) = fromOperands (operandCount kind) (column kind) (familiesIn bytes) ops
 
-  at-both : {A : Type 0} (f : Families → Families → A) (cell : Cell) → Placed i (entry cell) → TwoOperands (kindOf cell)
-      → f (getD (soFar bytes i) (firstOf cell) constant) (getD (soFar bytes i) (secondOf cell) constant)
-      ≡ f (familiesIn bytes (firstOf cell)) (familiesIn bytes (secondOf cell))
-  unfolding entry
-  at-both f cell p h = ap₂ f (at-first cell p (h .input)) (so-far-at bytes i (secondOf cell) (placed-second p h))
+  rule-in : (column : (kind : Kind) → Rule Families Family (operandCount kind)) (i : ℕ) (cell : Cell)
+      → ((a : ℕ) → T (member a (operands cell)) → a < i) → familyRule column (soFar bytes i) cell ≡ ruleIn column cell
+  unfolding familyRule operands
+  rule-in column i (input s) lower = refl
+  rule-in column i (gate kind ops) lower =
+      from-same (operandCount kind) (column kind) (λ a. getD (soFar bytes i) a constant) (familiesIn bytes) ops (λ a t. so-far-at bytes i a (lower a t))
 
-  settled-by : (cell : Cell) → Placed i (entry cell) → settledRule (soFar bytes i) cell ≡ settledBy (entry cell) (settledIn bytes)
-  unfolding settledRule settledBy entry kindOf operands setOf
-  settled-by (input s) p = refl
-  settled-by (NOT a) p = ap (λ F. F .settled) (at-first (NOT a) p (eqb-false 3 2 refl))
-  settled-by (XOR a b) p = at-both (λ F G. product (F .settled) (G .settled)) (XOR a b) p (two-operands 4 refl refl refl)
-  settled-by (AND a b) p = at-both (λ F G. spread (F .settled) (G .settled)) (AND a b) p (two-operands 5 refl refl refl)
-  settled-by (OR a b) p = at-both (λ F G. spread (F .settled) (G .settled)) (OR a b) p (two-operands 6 refl refl refl)
-  settled-by (register a) p = ap (λ F. F .settled) (at-first (register a) p (eqb-false 7 2 refl))
+  abbrev familiesOf : Cell → Families
+  familiesOf cell = record { settled = ruleIn settledOf cell; glitch = ruleIn glitchOf cell }
 
-  glitch-by : (cell : Cell) → Placed i (entry cell) → glitchRule (soFar bytes i) cell ≡ glitchBy (entry cell) (settledIn bytes) (glitchIn bytes)
-  unfolding glitchRule glitchBy entry kindOf operands setOf
-  glitch-by (input s) p = refl
-  glitch-by (NOT a) p = ap (λ F. insert 0 (F .glitch)) (at-first (NOT a) p (eqb-false 3 2 refl))
-  glitch-by (XOR a b) p = at-both (λ F G. spread (F .glitch) (G .glitch)) (XOR a b) p (two-operands 4 refl refl refl)
-  glitch-by (AND a b) p = at-both (λ F G. spread (F .glitch) (G .glitch)) (AND a b) p (two-operands 5 refl refl refl)
-  glitch-by (OR a b) p = at-both (λ F G. spread (F .glitch) (G .glitch)) (OR a b) p (two-operands 6 refl refl refl)
-  glitch-by (register a) p = ap (λ F. F .settled) (at-first (register a) p (eqb-false 7 2 refl))
+  families-by : (cell : Cell) → familiesOf cell ≡ familiesBy (entry cell) (settledIn bytes) (glitchIn bytes)
+  unfolding settledOf glitchOf fromOperands familiesBy entry kindOf operands listed setOf
+  families-by (input s) = refl
+  families-by (gate NOT (a, ops)) = refl
+  families-by (gate XOR (a, (b, ops))) = refl
+  families-by (gate AND (a, (b, ops))) = refl
+  families-by (gate OR (a, (b, ops))) = refl
+  families-by (gate register (a, ops)) = refl
 
 -- in each arm of a match on the kind
 module _ (bytes : List ℕ) {i : ℕ} {node : Node} (p : Placed i node) (cell : Cell) (e : node ≡ entry cell) where
-  settled-is : settledRule (soFar bytes i) cell ≡ settledBy node (settledIn bytes)
-  settled-is = rw e (settled-by bytes cell (rw e at p))
+  lower : (a : ℕ) → T (member a (operands cell)) → a < i
+  lower = subst (λ (c : Cell). (a : ℕ) → T (member a (operands c)) → a < i) (entry-one (p .cell) cell (sym (p .is) ∙ e)) (p .lower)
 
-  glitch-is : glitchRule (soFar bytes i) cell ≡ glitchBy node (settledIn bytes) (glitchIn bytes)
-  glitch-is = rw e (glitch-by bytes cell (rw e at p))
+  abbrev by : Families
+  by = familiesBy node (settledIn bytes) (glitchIn bytes)
+
+  families-is : familiesOf bytes cell ≡ by
+  families-is = rw e (families-by bytes cell)
+
+  settled-is : settledRule (soFar bytes i) cell ≡ by .settled
+  settled-is = rule-in bytes settledOf i cell lower ∙ ap (λ (F : Families). F .settled) families-is
+
+  glitch-is : glitchRule (soFar bytes i) cell ≡ by .glitch
+  glitch-is = rule-in bytes glitchOf i cell lower ∙ ap (λ (F : Families). F .glitch) families-is
 
   pub settled-input : node .kind ≡ 2 → settledRule (soFar bytes i) cell ≡ node .set ∷ []
-  unfolding settledBy
+  unfolding familiesBy
   settled-input k = settled-is ∙ rw k
 
   pub settled-copy : (node .kind ≡ 3) ⊎ (node .kind ≡ 7) → settledRule (soFar bytes i) cell ≡ familyAt bytes (2 * node .first)
-  unfolding settledBy
+  unfolding familiesBy
   settled-copy (inl k) = settled-is ∙ rw k
   settled-copy (inr k) = settled-is ∙ rw k
 
-  pub settled-gate : TwoOperands (node .kind)
+  pub settled-gate : (node .kind ≡ 2 → ⊥) → ((node .kind ≡ 3) ⊎ (node .kind ≡ 7) → ⊥)
       → settledRule (soFar bytes i) cell ≡ gateBy (node .kind) (familyAt bytes (2 * node .first)) (familyAt bytes (2 * node .second))
-  unfolding settledBy
-  settled-gate h = settled-is ∙ rw (ne-eqb (node .kind) 2 (h .input), ne-eqb (node .kind) 3 (h .not), ne-eqb (node .kind) 7 (h .register))
+  unfolding familiesBy
+  settled-gate x y = settled-is ∙ rw (ne-eqb (node .kind) 2 x, ne-eqb (node .kind) 3 (λ k. y (inl k)), ne-eqb (node .kind) 7 (λ k. y (inr k)))
 
   pub glitch-input : node .kind ≡ 2 → glitchRule (soFar bytes i) cell ≡ node .set ∷ []
-  unfolding glitchBy
+  unfolding familiesBy
   glitch-input k = glitch-is ∙ rw k
 
   pub glitch-not : node .kind ≡ 3 → glitchRule (soFar bytes i) cell ≡ insert 0 (familyAt bytes (2 * node .first + 1))
-  unfolding glitchBy
+  unfolding familiesBy
   glitch-not k = glitch-is ∙ rw k
 
   pub glitch-register : node .kind ≡ 7 → glitchRule (soFar bytes i) cell ≡ familyAt bytes (2 * node .first)
-  unfolding glitchBy
+  unfolding familiesBy
   glitch-register k = glitch-is ∙ rw k
 
-  pub glitch-gate : TwoOperands (node .kind)
+  pub glitch-gate : (node .kind ≡ 2 → ⊥) → (node .kind ≡ 3 → ⊥) → (node .kind ≡ 7 → ⊥)
       → glitchRule (soFar bytes i) cell ≡ gateBy 5 (familyAt bytes (2 * node .first + 1)) (familyAt bytes (2 * node .second + 1))
-  unfolding glitchBy
-  glitch-gate h = glitch-is ∙ rw (ne-eqb (node .kind) 2 (h .input), ne-eqb (node .kind) 3 (h .not), ne-eqb (node .kind) 7 (h .register))
+  unfolding familiesBy
+  glitch-gate x y z = glitch-is ∙ rw (ne-eqb (node .kind) 2 x, ne-eqb (node .kind) 3 y, ne-eqb (node .kind) 7 z)

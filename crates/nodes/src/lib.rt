@@ -11,9 +11,9 @@ ghost use Rattle.rules.specs.Records as Records;
 ghost use Rattle.rules.specs.Records.{Cell};
 ghost use Rattle.rules.specs.Families.{product, spread, settledRule, glitchRule, familiesRule, families};
 ghost use Rattle.rules.specs.Slices.{entry, workBytes};
-ghost use Rattle.netlists.specs.Netlists.{flatOf, Ready};
+ghost use Rattle.netlists.specs.Netlists.{flatOf, Ready, Placed};
 ghost use Rattle.families.specs.Parts.{HasPart, familyAt, withFamily};
-ghost use Rattle.nodes.specs.Work.{soFar, withFamilies, Placed};
+ghost use Rattle.nodes.specs.Work.{soFar, withFamilies, HoldsFirst};
 use netlists::Netlist;
 use rules::Node;
 
@@ -61,16 +61,16 @@ fn glitch_family(work: &mut [u8], i: usize, node: Node)
     let into = 2 * i + 1;
     let kind = node.kind;
     let settled = 2 * (node.first as usize);
-    let first = settled + 1;
-    let second = 2 * (node.second as usize) + 1;
+    let glitch = settled + 1;
+    let other = 2 * (node.second as usize) + 1;
     match kind {
         2 => families::single(work, into, node.set as usize),
         3 => {
-            families::copy(work, into, first);
+            families::copy(work, into, glitch);
             families::insert(work, into, 0);
         }
         7 => families::copy(work, into, settled),
-        _ => gate_family(work, into, 5, first, second),
+        _ => gate_family(work, into, 5, glitch, other),
     }
 }
 
@@ -84,16 +84,27 @@ pub fn node_families(work: &mut [u8], i: usize, node: Node)
     glitch_family(work, i, node);
 }
 
+// Writes the families of the nodes from number `from` on, in file order, behind those of the nodes below it, which the
+// work bytes hold. The bytes beyond are as they were.
+pub fn families_from(netlist: Netlist, work: &mut [u8], from: usize)
+    requires { ⌜ Ready netlist (length (now work)) × (from ≤ netlist .count)
+        × ((n : Records.Netlist) → netlist ≡ flatOf n → HoldsFirst n from (now work)) ⌝ }
+    ensures { λ _. ⌜ ((n : Records.Netlist) → netlist ≡ flatOf n →
+        now (work .exit) ≡ workBytes (families n) ++ drop (length (workBytes (families n))) (now (work .entry))) ⌝ }
+{
+    let count = netlist.count;
+    let mut i = from;
+    while i < count {
+        node_families(work, i, netlist.nodes[i]);
+        i += 1;
+    }
+}
+
 // Writes the families of all nodes at the front of the work bytes, in file order. The bytes beyond are as they were.
 pub fn all_families(netlist: Netlist, work: &mut [u8])
     requires { ⌜ Ready netlist (length (now work)) ⌝ }
     ensures { λ _. ⌜ ((n : Records.Netlist) → netlist ≡ flatOf n →
         now (work .exit) ≡ workBytes (families n) ++ drop (length (workBytes (families n))) (now (work .entry))) ⌝ }
 {
-    let count = netlist.count;
-    let mut i = 0;
-    while i < count {
-        node_families(work, i, netlist.nodes[i]);
-        i += 1;
-    }
+    families_from(netlist, work, 0);
 }

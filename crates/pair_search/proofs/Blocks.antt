@@ -7,8 +7,8 @@ use mathlib.Core.List.{List, [], _∷_}
 use native.Mathlib.Omega.{arith}
 use Rattle.rules.specs.Lists.{member, insert, union, count}
 use Rattle.rules.specs.Tables.{table}
-use Rattle.rules.specs.Records.{secret, mask, input, register, Netlist, most-nodes}
-use Rattle.rules.specs.Values.{exclusiveOr, valueRule, values, feedingRule, feedings, feeding, same, howMany, settings, next, others, make, matches, giving, CountsAgree}
+use Rattle.rules.specs.Records.{secret, mask, register, fromOperands, input, gate, kindOf, Netlist, most-nodes}
+use Rattle.rules.specs.Values.{exclusiveOr, valueOf, valueRule, values, isPoint, feedingRule, feedings, feeding, same, howMany, settings, next, others, make, matches, giving, CountsAgree}
 use Rattle.rules.specs.Families.{tested, familiesAt, clear, suspectAt, Finding}
 use Rattle.rules.specs.Checks.{Outcome, answered, refused, read, most-work}
 use Rattle.rules.specs.Blocks.{P1, P2, P9, P10, P13, P13-NOT}
@@ -96,7 +96,7 @@ replies = refl and refl and refl and refl and refl and refl and refl and refl an
 
 -- the netlist that the bytes of the two shares are
 abbrev pub two-shares : Netlist
-two-shares = record { variables = secret ∷ mask ∷ []; nodes = input 3 ∷ input 2 ∷ register 0 ∷ register 1 ∷ [] }
+two-shares = record { variables = secret ∷ mask ∷ []; nodes = input 3 ∷ input 2 ∷ gate register (0, tt) ∷ gate register (1, tt) ∷ [] }
 
 pub shares-read : read shares ≡ answered two-shares
 unfolding replyTo
@@ -106,12 +106,12 @@ shares-read = refl
 -- and beside secret 1 none does.
 pub counts-differ : (giving two-shares (union (feeding two-shares 2) (feeding two-shares 3)) all-zero [] (false ∷ []) ≡ 1)
     × (giving two-shares (union (feeding two-shares 2) (feeding two-shares 3)) all-zero [] (true ∷ []) ≡ 0)
-unfolding member insert union count table xor exclusiveOr valueRule values feedingRule feedings feeding same howMany settings next others make matches giving
+unfolding member insert union count table xor kindOf exclusiveOr valueOf fromOperands valueRule values isPoint feedingRule feedings feeding same howMany settings next others make matches giving
 counts-differ = (refl, refl)
 
 -- so what is said of two probes is false of its bytes
 pub shares-probes : ¬ TwoProbes shares
-unfolding tested TwoProbes CountsAgree
+unfolding kindOf tested TwoProbes CountsAgree
 shares-probes probes =
     let (one, none) = counts-differ in
     let registers = probes two-shares shares-read 2 3 (record { there = omega arith; isTested = tt }) (record { there = omega arith; isTested = tt }) in

@@ -1,7 +1,7 @@
 // The search over the pairs of tested nodes, under a limit. A pair is suspect if the product of its two glitch families
 // holds a suspect set; the pairs are looked at in their order, by the higher node and then by the lower, and counted.
-// Reads the work bytes, makes each product in bytes of its own and writes to no lent slice. Used by `pairs`,
-// and for its types by the desk, test programs and the benchmark.
+// Reads the work bytes and writes to no lent slice. Used by `pairs`, and for its types by the desk, test programs and
+// the benchmark.
 ghost use mathlib.Core.Path.{_≡_};
 ghost use mathlib.Core.Bool.{cond};
 ghost use mathlib.Core.List.{List, [], _∷_};
@@ -10,24 +10,17 @@ ghost use lib.ListN.{length};
 ghost use Rattle.rules.specs.Records as Records;
 ghost use Rattle.rules.specs.Records.{Class};
 ghost use Rattle.netlists.specs.Netlists.{flatOf, Ready};
-ghost use Rattle.families.specs.Parts.{HasPart, familyAt, withFamily};
-ghost use Rattle.suspects.specs.Suspects.{reportOf};
+ghost use Rattle.families.specs.Parts.{HasPart};
+ghost use Rattle.pair_tests.specs.Tests.{ByClass};
 ghost use Rattle.pair_search.specs.Pairs.{row, noPair, searchFrom};
 ghost use Rattle.pair_search.specs.Meaning.{searchedOf};
-ghost use Rattle.pair_search.specs.Work.{ByClass, reportIn, over};
-use families::PART;
+ghost use Rattle.pair_search.specs.Work.{reportBetween, reportIn, over};
 use families::SETS;
 use netlists::Netlist;
+use pair_tests::Terms;
 
 // The layer of the glitch families: that of node i is part 2 × i + 1.
 const GLITCH: usize = 1;
-
-// What a search goes by: which variables are secrets and which are masks, as sets, and the limit on pairs.
-struct Terms {
-    secrets: usize,
-    masks: usize,
-    limit: usize,
-}
 
 // What a search over pairs finds.
 pub enum Found {
@@ -47,35 +40,6 @@ pub struct Search {
     pub looked: usize,
 }
 
-// Copies the family of a part of the work bytes into a part of `scratch`.
-fn take_family(scratch: &mut [u8], into: usize, work: &[u8], from: usize)
-    requires { ⌜ HasPart (now scratch) into × HasPart (now work) from ⌝ }
-    ensures { λ _. ⌜ now (scratch .exit) ≡
-        withFamily (now (scratch .entry)) into (familyAt (now (work .entry)) from) ⌝ }
-{
-    let a = PART * into;
-    let b = PART * from;
-    let mut k = 0;
-    while k < PART {
-        scratch[a + k] = work[b + k];
-        k += 1;
-    }
-}
-
-// The set that the pair of nodes `i` and `j` reports, or `SETS` if it is clear.
-// The product is made in bytes of its own.
-fn pair_set(work: &[u8], i: usize, j: usize, terms: Terms) -> usize
-    requires { ⌜ HasPart (now work) (2 * i + 1) × HasPart (now work) (2 * j + 1) ⌝ }
-    ensures { λ r. ⌜ ((variables : List Class) → ByClass terms variables →
-        reportOf r ≡ reportIn variables (now (work .entry)) (record { i = i; j = j })) ⌝ }
-{
-    let mut scratch = [0u8; 3 * PART];
-    take_family(&mut scratch, 0, work, 2 * i + GLITCH);
-    take_family(&mut scratch, 1, work, 2 * j + GLITCH);
-    family_products::multiply(&mut scratch, 2, 0, 1);
-    suspects::first_suspect(&scratch, 2, terms.secrets, terms.masks)
-}
-
 // The state of a search after `looked` pairs, all of them clear.
 pub fn no_pair(looked: usize) -> Search
     ensures { λ r. ⌜ searchedOf r ≡ record { found = noPair; looked = looked } ⌝ }
@@ -86,13 +50,22 @@ pub fn no_pair(looked: usize) -> Search
     }
 }
 
-// Looks at the pair of nodes `i` and `j` after `looked` pairs that were clear. Where they are not both tested (`both`)
-// it is no pair, and where the limit is spent it is not looked at.
-fn look(work: &[u8], i: usize, j: usize, both: bool, terms: Terms, looked: usize) -> Search
-    requires { ⌜ HasPart (now work) (2 * i + 1) × HasPart (now work) (2 * j + 1) ⌝ }
+// Looks at the pair of node `i` of one block and node `j` of another, or of the same, by the work bytes of each, after
+// `looked` pairs that were clear. Where they are not both tested (`both`) it is no pair, and where the limit is spent
+// it is not looked at.
+pub fn look(
+    first: &[u8],
+    i: usize,
+    second: &[u8],
+    j: usize,
+    both: bool,
+    terms: Terms,
+    looked: usize,
+) -> Search
+    requires { ⌜ HasPart (now first) (2 * i + 1) × HasPart (now second) (2 * j + 1) ⌝ }
     ensures { λ r. ⌜ ((variables : List Class) → ByClass terms variables →
-        searchedOf r ≡ searchFrom (reportIn variables (now (work .entry))) (terms .limit) looked
-        (cond both (record { i = i; j = j } ∷ []) [])) ⌝ }
+        searchedOf r ≡ searchFrom (reportBetween variables (now (first .entry)) (now (second .entry))) (terms .limit)
+        looked (cond both (record { i = i; j = j } ∷ []) [])) ⌝ }
 {
     let limit = terms.limit;
     if !both {
@@ -105,7 +78,7 @@ fn look(work: &[u8], i: usize, j: usize, both: bool, terms: Terms, looked: usize
         };
     }
     let position = looked + 1;
-    let set = pair_set(work, i, j, terms);
+    let set = pair_tests::pair_set(first, 2 * i + GLITCH, second, 2 * j + GLITCH, terms);
     if set >= SETS {
         return no_pair(position);
     }
@@ -142,7 +115,7 @@ fn search_row(netlist: Netlist, work: &[u8], j: usize, terms: Terms, looked: usi
     while i < j {
         let lower = netlist.nodes[i];
         let both = tested & suspects::is_tested(lower.kind);
-        so_far = look(work, i, j, both, terms, so_far.looked);
+        so_far = look(work, i, work, j, both, terms, so_far.looked);
         if is_over(so_far) {
             break;
         }

@@ -1,13 +1,7 @@
 -- What the reply means loses nothing: a reply with pairs is determined by what it says. Assumes nothing.
-use Prim.Native.Nat.{ℕ}
 use mathlib.Core.Path.{_≡_, refl, sym, ap, ap₂, _∙_}
-use native.Mathlib.Omega.{arith}
-use Rattle.rules.specs.declared.Answer.{Answer}
-use Rattle.rules.specs.declared.Reply.the-variants as Reply
-use Rattle.rules.specs.Families.{Findings}
-use Rattle.rules.specs.Checks.{Outcome, answered, refused}
-use Rattle.rules.specs.Paper.{numberOf, placeOf, findingsOf}
-use Rattle.rules.proofs.Paper.{same-reply}
+use Rattle.rules.specs.Paper.{findingsOf}
+use Rattle.rules.proofs.Paper.{same-refusal, same-answer}
 use Rattle.pair_search.specs.declared.Found.{Found}
 use Rattle.pair_search.specs.declared.Found.the-variants.{Single, NoPair, Pair, Spent}
 use Rattle.pair_search.specs.declared.Search.{Search}
@@ -36,20 +30,11 @@ same-search s t e =
     ap₂ (λ f k. record { found = f; looked = k })
     (sym (found-told (s .found)) ∙ ap (λ (x : Searched). foundOf (x .found)) e ∙ found-told (t .found)) (ap (λ (x : Searched). x .looked) e)
 
-same-answer : (a b : Answer) → findingsOf a ≡ findingsOf b → a ≡ b
-same-answer a b e =
-    let same = same-reply (Reply.Answered a) (Reply.Answered b) (ap {B = Outcome Findings} answered e) in
-    cc
-
 -- a reply by what it says
 pub same-pairs-reply : (r q : PairsReply) → pairsReplyOf r ≡ pairsReplyOf q → r ≡ q
-same-pairs-reply (Refused r) (Refused q) e =
-    let number : numberOf r ≡ numberOf q = cc in
-    let place : placeOf r ≡ placeOf q = cc in
-    let same = same-reply (Reply.Refused r) (Reply.Refused q) (ap₂ {C = Outcome Findings} refused number place) in
-    ap Refused cc
-same-pairs-reply (Refused r) (Answered b) e = let z : _≡_ {A = ℕ} 0 1 = cc in absurd (omega arith)
-same-pairs-reply (Answered a) (Refused q) e = let z : _≡_ {A = ℕ} 0 1 = cc in absurd (omega arith)
+same-pairs-reply (Refused r) (Refused q) e = ap Refused (same-refusal r q e)
+same-pairs-reply (Refused r) (Answered b) e = cc
+same-pairs-reply (Answered a) (Refused q) e = cc
 same-pairs-reply (Answered a) (Answered b) e =
     let said : _≡_ {A = PairFindings} (record { answer = findingsOf (a .answer); searched = searchedOf (a .search) }) (record { answer = findingsOf (b .answer); searched = searchedOf (b .search) }) = cc in
     ap Answered

@@ -10,6 +10,7 @@ ghost use Rattle.netlists.specs.Netlists.{flatOf, Reads};
 use netlists::Netlist;
 use netlists::ReadFile;
 use rules::QueryOutcome;
+use rules::Reason;
 use rules::Refusal;
 
 // Whether a netlist has a node: answered, or refusal 12.
@@ -17,7 +18,10 @@ pub fn judge_node(netlist: Netlist, node: usize) -> QueryOutcome
     ensures { λ r. ⌜ ((n : Records.Netlist) → netlist ≡ flatOf n → queryOf r ≡ judged (nodeCheck node n ∷ []) tt) ⌝ }
 {
     if netlist.count <= node {
-        return QueryOutcome::Refused(Refusal::NoSuchNode(node));
+        return QueryOutcome::Refused(Refusal {
+            reason: Reason::NoSuchNode,
+            place: node,
+        });
     }
     QueryOutcome::Answered
 }
@@ -32,7 +36,10 @@ pub fn judge(netlist: Netlist, node: usize, number: usize) -> QueryOutcome
         return outcome;
     };
     if records::undeclared_bit(netlist.variables, number) {
-        return QueryOutcome::Refused(Refusal::UndeclaredBit(number));
+        return QueryOutcome::Refused(Refusal {
+            reason: Reason::UndeclaredBit,
+            place: number,
+        });
     }
     outcome
 }

@@ -1,60 +1,17 @@
--- The lines of a text, as a loop takes them, and the block that they say so far. Assumes nothing.
-use Prim.Native.Nat.{ℕ, suc, _+_, _-_, _≤_, _<_, min, max}
-use mathlib.Core.Path.{_≡_, refl, sym, ap, _∙_}
-use mathlib.Core.Bool.{Bool, true, false}
-use mathlib.Core.List.{List, [], _∷_, _++_, append-nil, append-assoc}
-use native.Mathlib.Decide.{decLe}
+-- The block that the lines of a text say so far, as a loop takes them. Assumes nothing.
+use Prim.Native.Nat.{ℕ, _+_, _≤_, min, max}
+use mathlib.Core.Path.{_≡_, refl, ap, _∙_}
+use mathlib.Core.List.{List, [], _∷_, _++_}
 use native.Mathlib.Numerals.{add-one}
 use native.Mathlib.Omega.{arith}
-use lib.Dec.{eqb}
-use lib.ListN.{length, take, drop, set, length-append, length-drop, drop-of-length-le}
-use lib.Seq.{sets, length-sets, drop-drop}
+use lib.ListN.{length, take, drop, set, length-append, drop-of-length-le}
+use lib.Seq.{sets, length-sets}
 use Rattle.rules.specs.Records.{Record, recordBytes}
-use Rattle.read_words.specs.declared.Stop.the-variants as Stop
+use Rattle.scanner.specs.Words.{closed, linesBehind, linesOf, words}
 use Rattle.read_words.specs.declared.Fault.{Fault}
-use Rattle.read_words.specs.Scans.{first, stopsAt, part}
-use Rattle.read_words.specs.Words.{closed, linesBehind, linesOf, words, nothing, says, wrong, recordIn, wrongIn, blockBehind, blockIn}
+use Rattle.read_words.specs.Words.{nothing, says, wrong, recordIn, wrongIn, blockBehind, blockIn}
 use Rattle.read_words.specs.Meaning.{IsRecord, stored, IsBlock, IsWrong}
 use Rattle.read_words.proofs.Stores.{sets-cut, sets-front, sets-next}
-
--- ---- one line
-
--- a line that has begun goes on up to the first line feed
-abbrev GoesOn : (begun text : List ℕ) → Type 0
-GoesOn begun text =
-    let end = first (stopsAt Stop.LineEnd) text in
-    linesBehind begun text ≡ (begun ++ take end text) ∷ linesOf (drop (suc end) text)
-
-goes-on-at : (begun : List ℕ) (letter : ℕ) (text : List ℕ) → GoesOn (begun ++ (letter ∷ [])) text → (b : Bool) → eqb letter 10 ≡ b
-    → GoesOn begun (letter ∷ text)
-unfolding linesBehind linesOf first stopsAt
-goes-on-at begun letter text more true e = rw (e, append-nil)
-goes-on-at begun letter text more false e = rw e (more ∙ rw append-assoc)
-
-goes-on : (text begun : List ℕ) → 0 < length begun + length text → GoesOn begun text
-unfolding linesBehind linesOf first stopsAt closed
-goes-on [] [] h = absurd (omega arith)
-goes-on [] (letter ∷ begun) h = rw append-nil
-goes-on (letter ∷ text) begun h =
-    goes-on-at begun letter text (goes-on text (begun ++ (letter ∷ [])) (omega (arith, length-append begun (letter ∷ [])))) _ refl
-
-drop-cut : (i : ℕ) (l : List ℕ) → drop (min i (length l)) l ≡ drop i l
-drop-cut i l = either (decLe i (length l))
-  where
-    either : Dec (i ≤ length l) → drop (min i (length l)) l ≡ drop i l
-    either (yes h) = let inside : min i (length l) ≡ i = omega arith in rw inside
-    either (no h) = drop-of-length-le l {i = min i (length l)} (omega arith) ∙ sym (drop-of-length-le l {i = i} (omega arith))
-
-pub line-found : (text : List ℕ) (at end : ℕ) → at < length text → end ≡ at + first (stopsAt Stop.LineEnd) (drop at text)
-    → linesOf (drop at text) ≡ part at end text ∷ linesOf (drop (min (end + 1) (length text)) text)
-unfolding linesOf
-line-found text at end h e =
-    let n = first (stopsAt Stop.LineEnd) (drop at text) in
-    let long : end - at ≡ n = omega arith in
-    let place : end + 1 ≡ at + suc n = omega arith in
-    goes-on (drop at text) [] (omega (arith, length-drop at text)) ∙ rw (drop-cut, long, place, drop-drop)
-
--- ---- the block so far
 
 module _ (bytes lines : List ℕ) (k : ℕ) (this : List ℕ) (rest : List (List ℕ)) where
   by-nothing : recordIn (words this) ≡ nothing → blockBehind bytes lines k (this ∷ rest) ≡ blockBehind bytes lines (k + 1) rest

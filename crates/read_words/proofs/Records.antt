@@ -1,79 +1,85 @@
 -- What stands behind a record's word, as the functions test it: how many numbers there are, and what each is.
 -- Assumes nothing.
 use Prim.Native.Nat.{ℕ, zero, suc, _+_, _*_, _/_, _%_, _^_, _≤_, _<_}
-use mathlib.Core.Path.{_≡_, refl, sym, ap}
-use mathlib.Core.Bool.{true, false}
-use mathlib.Core.List.{List, [], _∷_}
+use mathlib.Core.Path.{_≡_, refl, sym, ap, _∙_}
+use mathlib.Core.Bool.{true, false, cond, _||_}
+use mathlib.Core.List.{List, [], _∷_, map, map-append}
 use native.Mathlib.Nat.{one-mul, mod-eq-of-lt, div-one, div-div-eq-div-mul, pow-succ', two-pow-succ}
+use native.Mathlib.Numerals.{add-one}
 use native.Mathlib.Omega.{arith}
-use borrow.Author.Tests.{lt-ltb, le-ltb}
-use lib.ListN.{length, getD, take}
+use borrow.Author.Tests.{eq-eqb, ne-eqb, le-leb, lt-leb, lt-ltb, le-ltb}
+use lib.Dec.{leb}
+use lib.ListN.{length, getD, take, drop, set, length-map, drop-of-length-le}
 use lib.Pow.{pow-lt}
-use Rattle.rules.specs.Records.{Cell, input, NOT, XOR, AND, OR, register, Record, end, variable, node, odd, operands, kindOf, body, recordBytes}
+use lib.Seq.{drop-cons, take-suc, take-all, take-at, length-take-le}
+use Rattle.rules.specs.Records.{Kind, kindNumber, operandCount, listed, firstOf, gate, node, odd, kindOf, body, recordBytes, size, most-record}
+use Rattle.rules.specs.Checks.{notBelow}
+use Rattle.rules.proofs.Operands.{listed-first}
+use Rattle.rules.proofs.Records.{size-most}
+use Rattle.netlists.specs.Netlists.{padded}
+use Rattle.netlists.proofs.Netlists.{padded-set}
+use Rattle.scanner.specs.Numbers.{numberIn, cut}
 use Rattle.read_words.specs.declared.Fault.{Fault}
 use Rattle.read_words.specs.declared.Fault.the-variants as Fault
-use Rattle.read_words.specs.declared.Line.the-variants as Line
-use Rattle.read_words.specs.Numbers.{numberIn}
-use Rattle.read_words.specs.Words.{Said, nothing, says, wrong, cut, alone, withOperand, withOne, withTwo, withVariables, forms, readBy, recordIn}
-use Rattle.read_words.specs.Meaning.{lineOf, IsRecord}
+use Rattle.read_words.specs.declared.Line.{Line}
+use Rattle.read_words.specs.declared.Worded.the-variants as Worded
+use Rattle.read_words.specs.Words.{Said, nothing, says, wrong, numberFault, withNumbers, operandIn, withOperands, withVariables, forms, readBy, recordIn}
+use Rattle.read_words.specs.Meaning.{shortLine, lineOf, IsRecord, TellsRecord}
 
--- ---- a record by value
+-- ---- how many numbers
 
-pub line-says : (r : Record) (bytes : List ℕ) → recordBytes r ≡ bytes
-    → lineOf (says r) ≡ Line.Record (length bytes) (getD bytes 0 0) (getD bytes 1 0) (getD bytes 2 0)
-unfolding lineOf
-line-says r bytes e = rw e
+module _ (count : ℕ) (numbers : List (List ℕ)) (said : Said) where
+  pub so-many : length numbers ≡ count → withNumbers count numbers said ≡ said
+  unfolding withNumbers
+  so-many e = rw (eq-eqb (length numbers) count e)
 
--- ---- none, one or two numbers
+  pub not-so-many : (length numbers ≡ count → ⊥) → withNumbers count numbers said ≡ wrong (numberFault count)
+  unfolding withNumbers
+  not-so-many e = rw (ne-eqb (length numbers) count e)
 
-pub no-number : (r : Record) (numbers : List (List ℕ)) → length numbers ≡ 0 → alone r numbers ≡ says r
-unfolding alone
-no-number r [] h = refl
-no-number r (number ∷ numbers) h = absurd (omega arith)
+-- ---- operands
 
-pub some-number : (r : Record) (numbers : List (List ℕ)) → (length numbers ≡ 0 → ⊥) → alone r numbers ≡ wrong Fault.NoNumber
-unfolding alone
-some-number r [] h = absurd (h refl)
-some-number r (number ∷ numbers) h = refl
+-- a gate or a register with as many numbers as it has operands
+pub so-many-operands : (kind : Kind) (numbers : List (List ℕ)) → length numbers ≡ operandCount kind
+    → let ops = map operandIn numbers in
+    withOperands kind numbers ≡ cond (notBelow 256 ops) (wrong Fault.Operand) (says (node (gate kind (firstOf (operandCount kind) ops))))
+unfolding withOperands
+so-many-operands kind numbers e = so-many (operandCount kind) numbers _ e
 
-pub one-number : (cell : ℕ → Cell) (numbers : List (List ℕ)) → length numbers ≡ 1
-    → withOne cell numbers ≡ withOperand (λ a. says (node (cell a))) (getD numbers 0 [])
-unfolding withOne
-one-number cell [] h = absurd (omega arith)
-one-number cell (first ∷ []) h = refl
-one-number cell (first ∷ second ∷ numbers) h = absurd (omega arith)
+-- the operands are looked at one by one
+module _ (numbers : List (List ℕ)) (j : ℕ) (h : j < length numbers) where
+  -- whether one is none
+  next-below : notBelow 256 (map operandIn (drop j numbers)) ≡ (leb 256 (operandIn (getD numbers j [])) || notBelow 256 (map operandIn (drop (j + 1) numbers)))
+  unfolding notBelow
+  next-below = rw (add-one, drop-cons numbers j [] h)
 
-pub not-one : (cell : ℕ → Cell) (numbers : List (List ℕ)) → (length numbers ≡ 1 → ⊥) → withOne cell numbers ≡ wrong Fault.OneNumber
-unfolding withOne
-not-one cell [] h = refl
-not-one cell (first ∷ []) h = absurd (h refl)
-not-one cell (first ∷ second ∷ numbers) h = refl
+  pub no-operand : 255 < operandIn (getD numbers j []) → notBelow 256 (map operandIn (drop j numbers)) ≡ true
+  no-operand l = rw (le-leb 256 (operandIn (getD numbers j [])) l) at next-below
 
-pub two-numbers : (cell : ℕ → ℕ → Cell) (numbers : List (List ℕ)) → length numbers ≡ 2
-    → withTwo cell numbers ≡ withOperand (λ a. withOperand (λ b. says (node (cell a b))) (getD numbers 1 [])) (getD numbers 0 [])
-unfolding withTwo
-two-numbers cell [] h = absurd (omega arith)
-two-numbers cell (first ∷ []) h = absurd (omega arith)
-two-numbers cell (first ∷ second ∷ []) h = refl
-two-numbers cell (first ∷ second ∷ third ∷ numbers) h = absurd (omega arith)
+  pub one-operand : operandIn (getD numbers j []) ≤ 255 → notBelow 256 (map operandIn (drop j numbers)) ≡ notBelow 256 (map operandIn (drop (j + 1) numbers))
+  one-operand l = rw (lt-leb 256 (operandIn (getD numbers j [])) (omega arith)) at next-below
 
-pub not-two : (cell : ℕ → ℕ → Cell) (numbers : List (List ℕ)) → (length numbers ≡ 2 → ⊥) → withTwo cell numbers ≡ wrong Fault.TwoNumbers
-unfolding withTwo
-not-two cell [] h = refl
-not-two cell (first ∷ []) h = refl
-not-two cell (first ∷ second ∷ []) h = absurd (h refl)
-not-two cell (first ∷ second ∷ third ∷ numbers) h = refl
+  -- the bytes so far, with that of one more
+  pub more-bytes : (k : ℕ) → 1 + j < most-record
+      → set (padded most-record 0 (k ∷ map operandIn (take j numbers))) (1 + j) (operandIn (getD numbers j []))
+      ≡ padded most-record 0 (k ∷ map operandIn (take (j + 1) numbers))
+  more-bytes k room =
+      let own = k ∷ map operandIn (take j numbers) in
+      let long : length own ≡ 1 + j = omega (arith, length-map (take j numbers) operandIn, length-take-le j numbers (omega arith)) in
+      rw (add-one, take-suc numbers j [] h, map-append) (rw long at (padded-set most-record 0 own (operandIn (getD numbers j [])) (omega arith)))
 
--- ---- an operand
-
-module _ (goes-on : ℕ → Said) (number : List ℕ) (a : ℕ) (is : a ≡ cut 256 (numberIn number)) where
-  pub operand : a ≤ 255 → withOperand goes-on number ≡ goes-on a
-  unfolding withOperand
-  operand h = rw (← is, lt-ltb a 256 (omega arith))
-
-  pub no-operand : 255 < a → withOperand goes-on number ≡ wrong Fault.Operand
-  unfolding withOperand
-  no-operand h = rw (← is, le-ltb a 256 (omega arith))
+-- all operands are there
+pub all-operands : (kind : Kind) (numbers : List (List ℕ)) (k count : ℕ) → k ≡ kindNumber kind → count ≡ operandCount kind → length numbers ≡ count
+    → notBelow 256 (map operandIn numbers) ≡ notBelow 256 (map operandIn (drop count numbers))
+    → record { told = Worded.Bytes (1 + count); bytes = padded most-record 0 (k ∷ map operandIn (take count numbers)) } ≡ lineOf (withOperands kind numbers)
+unfolding recordBytes kindOf body notBelow
+all-operands kind numbers k count ek ec long below =
+    let ops = map operandIn numbers in
+    let none : drop count numbers ≡ [] = drop-of-length-le numbers {i = count} (omega arith) in
+    let first : listed (operandCount kind) (firstOf (operandCount kind) ops) ≡ ops =
+    listed-first (operandCount kind) ops (omega (arith, length-map numbers operandIn)) ∙ take-all (operandCount kind) ops (omega (arith, length-map numbers operandIn)) in
+    let size : 1 + count ≡ suc count = omega arith in
+    rw (size, so-many-operands kind numbers (long ∙ ec), below, none, first, ek, take-all count numbers (omega arith), length-map numbers operandIn, long)
 
 -- ---- the variables of an input
 
@@ -90,8 +96,8 @@ module _ (set : ℕ) (number : List ℕ) (numbers : List (List ℕ)) (v : ℕ) (
   unfolding withVariables
   one-variable h e = rw (← is, lt-ltb v 16 (omega arith), e)
 
-pub all-variables : (set : ℕ) → lineOf (withVariables set []) ≡ Line.Record 3 2 (set % 256) (set / 256)
-unfolding withVariables lineOf recordBytes kindOf body
+pub all-variables : (set : ℕ) → lineOf (withVariables set []) ≡ shortLine 3 2 (set % 256) (set / 256)
+unfolding withVariables recordBytes kindOf body padded
 all-variables set = refl
 
 -- a power of two in 16 bits
@@ -108,54 +114,31 @@ room (suc k) (suc v) set h l e =
 
 -- ---- the answer for a line
 
-few-bytes : (r : Record) → length (recordBytes r) ≤ 3
-unfolding recordBytes kindOf body operands
-few-bytes end = omega arith
-few-bytes (variable class) = omega arith
-few-bytes (node (input s)) = omega arith
-few-bytes (node (NOT a)) = omega arith
-few-bytes (node (XOR a b)) = omega arith
-few-bytes (node (AND a b)) = omega arith
-few-bytes (node (OR a b)) = omega arith
-few-bytes (node (register a)) = omega arith
+module _ (said : Said) (line : Line) (e : line ≡ lineOf said) where
+  told-is : line .told ≡ lineOf said .told
+  told-is = ap (λ (l : Line). l .told) e
 
-first-three : (bytes : List ℕ) → length bytes ≤ 3 → take (length bytes) (getD bytes 0 0 ∷ getD bytes 1 0 ∷ getD bytes 2 0 ∷ []) ≡ bytes
-first-three [] h = refl
-first-three (a ∷ []) h = refl
-first-three (a ∷ b ∷ []) h = refl
-first-three (a ∷ b ∷ c ∷ []) h = refl
-first-three (a ∷ b ∷ c ∷ d ∷ bytes) h = absurd (omega arith)
+pub tells-other : (said : Said) (line : Line) (before : List ℕ) → line ≡ lineOf said → ((n : ℕ) → line .told ≡ Worded.Bytes n → ⊥)
+    → TellsRecord (line .told) before before said
+tells-other nothing line before e other = rw e (refl, refl)
+tells-other (says r) line before e other = absurd (other _ (told-is (says r) line e))
+tells-other (wrong fault) line before e other = rw e (refl, refl)
 
-pub tells-nothing : (said : Said) → Line.Nothing ≡ lineOf said → said ≡ nothing
-unfolding lineOf
-tells-nothing nothing e = refl
-tells-nothing (says r) e = cc
-tells-nothing (wrong fault) e = cc
-
-pub tells-wrong : (said : Said) (fault : Fault) → Line.Wrong fault ≡ lineOf said → said ≡ wrong fault
-unfolding lineOf
-tells-wrong nothing fault e = cc
-tells-wrong (says r) fault e = cc
-tells-wrong (wrong other) fault e = cc
-
-pub tells-record : (said : Said) (n k a b : ℕ) → Line.Record n k a b ≡ lineOf said → IsRecord said n (k ∷ a ∷ b ∷ [])
-unfolding lineOf
-tells-record nothing n k a b e = absurd (let z : _≡_ {A = ℕ} 0 1 = cc in omega arith)
-tells-record (says r) n k a b e =
+pub tells-record : (said : Said) (line : Line) (n : ℕ) → line ≡ lineOf said → line .told ≡ Worded.Bytes n → IsRecord said n (line .bytes)
+unfolding size padded
+tells-record nothing line n e is = absurd (let z : _≡_ {A = ℕ} 0 1 = cc (told-is nothing line e) in omega arith)
+tells-record (says r) line n e is =
     let bytes = recordBytes r in
-    let en : n ≡ length bytes = cc in
-    let ek : k ≡ getD bytes 0 0 = cc in
-    let ea : a ≡ getD bytes 1 0 = cc in
-    let eb : b ≡ getD bytes 2 0 = cc in
+    let long : n ≡ length bytes = cc (told-is (says r) line e) in
     record {
       own = r;
       is = refl;
-      long = en;
-      front = rw (en, ek, ea, eb) (first-three bytes (few-bytes r));
-      whole = rw (ek, ea, eb);
-      few = rw en (few-bytes r);
+      long = long;
+      front = rw (e, long) (take-at bytes _ (length bytes) refl);
+      whole = rw e;
+      few = rw long (size-most r);
     }
-tells-record (wrong fault) n k a b e = absurd (let z : _≡_ {A = ℕ} 0 1 = cc in omega arith)
+tells-record (wrong fault) line n e is = absurd (let z : _≡_ {A = ℕ} 0 1 = cc (told-is (wrong fault) line e) in omega arith)
 
 -- the words of a line, of which the first is known
 pub record-in : (line : List (List ℕ)) (name : List ℕ) (numbers : List (List ℕ)) → line ≡ name ∷ numbers → recordIn line ≡ readBy forms name numbers

@@ -3,18 +3,20 @@
 use mathlib.Core.Path.{_≡_, refl}
 use mathlib.Core.List.{[], _∷_}
 use lib.ListN.{length, replicate}
-use Rattle.rules.specs.Listing.{word}
-use Rattle.rules.specs.Records.{classByte, kindOf, operands, body, recordBytes}
+use Rattle.rules.specs.Records.{listed, firstOf, classByte, kindOf, body, recordBytes}
+use Rattle.rules.specs.Checks.{notBelow}
+use Rattle.rules.specs.Listing.{word, nameOf}
+use Rattle.scanner.specs.Words.{closed, linesBehind, linesOf, wordsBehind, words, same}
+use Rattle.scanner.specs.Numbers.{allDigits, valueBehind, numberBehind, numberIn, cut}
 use Rattle.read_words.specs.declared.Fault.the-variants as Fault
-use Rattle.read_words.specs.Numbers.{allDigits, valueBehind, numberBehind, numberIn}
-use Rattle.read_words.specs.Words.{closed, linesBehind, linesOf, wordsBehind, words, same, cut, alone, withOperand, withOne, withTwo, withVariables, forms, readBy, recordIn, block, wrongIn, blockBehind, blockIn}
+use Rattle.read_words.specs.Words.{numberFault, withNumbers, alone, withOperands, withVariables, forms, readBy, recordIn, block, wrongIn, blockBehind, blockIn}
 
 -- block A has the bytes that document 01 gives it; with a comment before it and a line of no words in it,
 -- its records are in lines 2 to 4 and 6 to 11
 block-a : blockIn (word "# block A\nsecret\nmask\nmask\n\nin 0 1  # node 0\nin 1\nin 2\nxor 0 2\nxor 3 1\nend\n") (replicate 24 0)
     ≡ block (1 ∷ 0 ∷ 1 ∷ 1 ∷ 1 ∷ 1 ∷ 2 ∷ 3 ∷ 0 ∷ 2 ∷ 2 ∷ 0 ∷ 2 ∷ 4 ∷ 0 ∷ 4 ∷ 0 ∷ 2 ∷ 4 ∷ 3 ∷ 1 ∷ 0 ∷ [])
     (2 ∷ 0 ∷ 3 ∷ 0 ∷ 4 ∷ 0 ∷ 6 ∷ 0 ∷ 0 ∷ 7 ∷ 0 ∷ 0 ∷ 8 ∷ 0 ∷ 0 ∷ 9 ∷ 0 ∷ 0 ∷ 10 ∷ 0 ∷ 0 ∷ 11 ∷ 0 ∷ 0 ∷ [])
-unfolding blockIn blockBehind linesOf linesBehind closed words wordsBehind recordIn readBy forms word same alone withOperand withOne withTwo withVariables cut numberIn numberBehind allDigits valueBehind recordBytes classByte kindOf operands body
+unfolding blockIn blockBehind linesOf linesBehind closed words wordsBehind recordIn readBy forms word same alone numberFault withNumbers withOperands withVariables cut numberIn numberBehind allDigits valueBehind recordBytes classByte kindOf body listed firstOf notBelow nameOf
 block-a = refl
 
 -- every other kind of record, with tabs, carriage returns, leading zeros and a last line that lacks its line feed;
@@ -24,7 +26,7 @@ other-kinds : (blockIn (word "public\r\n\tin 15 8#9\r\nnot 255\nand 7 007\n  or 
     × (blockIn (word "  \n# in 0\n") [] ≡ block [] [])
     × (length (linesOf (word "end\n\nend")) ≡ 3)
     × (length (linesOf (word "end\n\n")) ≡ 2)
-unfolding blockIn blockBehind linesOf linesBehind closed words wordsBehind recordIn readBy forms word same alone withOperand withOne withTwo withVariables cut numberIn numberBehind allDigits valueBehind recordBytes classByte kindOf operands body
+unfolding blockIn blockBehind linesOf linesBehind closed words wordsBehind recordIn readBy forms word same alone numberFault withNumbers withOperands withVariables cut numberIn numberBehind allDigits valueBehind recordBytes classByte kindOf body listed firstOf notBelow nameOf
 other-kinds = (refl, refl, refl, refl)
 
 -- what was expected instead, in which line, and what the lines before it say
@@ -38,5 +40,5 @@ faults : (blockIn (word "secret\nnand 0 1\n") [] ≡ wrongIn Fault.Record 2 (1 �
     × (blockIn (word "xor 0 1x") [] ≡ wrongIn Fault.Operand 1 [] [])
     × (blockIn (word "in 16") [] ≡ wrongIn Fault.Variable 1 [] [])
     × (blockIn (word "in 1 01") [] ≡ wrongIn Fault.Twice 1 [] [])
-unfolding blockIn blockBehind linesOf linesBehind closed words wordsBehind recordIn readBy forms word same alone withOperand withOne withTwo withVariables cut numberIn numberBehind allDigits valueBehind recordBytes classByte kindOf operands body
+unfolding blockIn blockBehind linesOf linesBehind closed words wordsBehind recordIn readBy forms word same alone numberFault withNumbers withOperands withVariables cut numberIn numberBehind allDigits valueBehind recordBytes classByte kindOf body listed firstOf notBelow nameOf
 faults = (refl, refl, refl, refl, refl, refl, refl, refl, refl, refl)

@@ -1,5 +1,3 @@
 -- What this crate's contracts cite.
 pub mod Meaning
-pub mod Numbers
-pub mod Scans
 pub mod Words

@@ -1,21 +1,22 @@
 -- What the answers of this crate's functions tell of a line and of a text. Cited by the contracts of this crate.
 -- Assumes nothing.
-use Prim.Native.Nat.{ℕ, _≤_, min, max}
+use Prim.Native.Nat.{ℕ, _-_, _≤_, min, max}
 use mathlib.Core.Path.{_≡_}
 use mathlib.Core.List.{List, [], _∷_, _++_}
-use lib.ListN.{length, getD, take, drop}
-use Rattle.rules.specs.Records.{Record, recordBytes}
+use lib.ListN.{length, getD, take, drop, replicate}
+use Rattle.rules.specs.Records.{Record, recordBytes, most-body, most-record}
 use Rattle.rules.specs.Listing.{most-input}
+use Rattle.netlists.specs.Netlists.{padded}
+use Rattle.scanner.specs.Words.{linesOf}
 use Rattle.read_words.specs.declared.Fault.{Fault}
 use Rattle.read_words.specs.declared.Fault.the-variants as Fault
 use Rattle.read_words.specs.declared.Line.{Line}
-use Rattle.read_words.specs.declared.Line.the-variants as Line
 use Rattle.read_words.specs.declared.Worded.{Worded}
 use Rattle.read_words.specs.declared.Worded.the-variants as Worded
 use Rattle.read_words.specs.declared.BlockWords.{BlockWords}
 use Rattle.read_words.specs.declared.BlockWords.the-variants as BlockWords
 use Rattle.read_words.specs.Words.{Said, nothing, says, wrong, Form, form, forms}
-use Rattle.read_words.specs.Words.{BlockSaid, block, wrongIn, linesOf, blockIn}
+use Rattle.read_words.specs.Words.{BlockSaid, block, wrongIn, blockIn}
 
 -- ---- a form
 
@@ -35,24 +36,25 @@ formAt k = getD forms k noForm
 
 -- ---- a line
 
--- what a line says, as a value of the program: a record by the number of its bytes and its bytes, with 0 behind them
-unfoldable pub lineOf : Said → Line
-lineOf nothing = Line.Nothing
-lineOf (says r) =
-    let bytes = recordBytes r in
-    Line.Record (length bytes) (getD bytes 0 0) (getD bytes 1 0) (getD bytes 2 0)
-lineOf (wrong fault) = Line.Wrong fault
+-- a record of so many bytes, whose body has two at most
+abbrev pub shortLine : (size kind first second : ℕ) → Line
+shortLine size kind first second =
+    record { told = Worded.Bytes size; bytes = kind ∷ first ∷ second ∷ replicate (most-body - 2) 0 }
 
--- a line says a record, whose bytes are the first n of those that were stored, with 0 behind them;
--- a record has at most three
+-- what a line says, as a value of the program, with the bytes of its record and 0 behind them
+abbrev pub lineOf : Said → Line
+lineOf nothing = record { told = Worded.Nothing; bytes = replicate most-record 0 }
+lineOf (says r) = record { told = Worded.Bytes (length (recordBytes r)); bytes = padded most-record 0 (recordBytes r) }
+lineOf (wrong fault) = record { told = Worded.Wrong fault; bytes = replicate most-record 0 }
+
+-- a line says a record, whose bytes are the first n of those that were stored, with 0 behind them
 pub record IsRecord (said : Said) (n : ℕ) (bytes : List ℕ) : Type 0 where
   pub own : Record
   pub is : said ≡ says own
   pub long : n ≡ length (recordBytes own)
   pub front : take n bytes ≡ recordBytes own
-  pub whole : let b = recordBytes own in
-      bytes ≡ getD b 0 0 ∷ getD b 1 0 ∷ getD b 2 0 ∷ []
-  pub few : n ≤ 3
+  pub whole : bytes ≡ padded most-record 0 (recordBytes own)
+  pub few : n ≤ most-record
 
 -- the answer for a line, with the bytes before and those that were stored; where there is no record,
 -- they are as they were

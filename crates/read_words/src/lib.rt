@@ -2,25 +2,31 @@
 // looked at; whether the records obey the rules is for the checker to say. It touches nothing but the arrays that it is
 // lent. The program reads blocks by it, `edit_lines` the record of a new node, and `write_words` takes its words.
 ghost use mathlib.Core.Path.{_≡_};
-ghost use mathlib.Core.Bool.{true, false};
 ghost use mathlib.Core.List.{List, [], _∷_};
-ghost use Prim.Native.Nat.{ℕ, _+_, _-_, _*_, _≤_, _<_, min, max};
-ghost use lib.ListN.{length, getD, take, drop, set};
+ghost use Prim.Native.Nat.{ℕ, _+_, _≤_, min, max};
+ghost use lib.ListN.{length, getD, take, set};
 ghost use lib.Seq.{sets};
-ghost use Rattle.rules.specs.Records.{Cell, Record, node, recordBytes};
-ghost use Rattle.read_words.specs.Numbers.{isDigit, numberIn};
-ghost use Rattle.read_words.specs.Scans.{first, stopsAt, part, NextWord};
+ghost use Rattle.rules.specs.Records.{Kind, kindNumber, Record, most-record};
+ghost use Rattle.scanner.specs.Words.{words, same};
 ghost use Rattle.listing_lines.specs.Text.{most-name, spelled};
-ghost use Rattle.read_words.specs.Words.{isBlank, words, same, cut, says, alone, withOne, withTwo, withVariables};
-ghost use Rattle.read_words.specs.Words.{forms, readBy, recordIn};
-ghost use Rattle.read_words.specs.Meaning.{nameOf, readsOf, formAt, lineOf, TellsRecord, TellsBlock};
+ghost use Rattle.read_words.specs.Words.{says, wrong, numberFault, alone, operandIn, withOperands};
+ghost use Rattle.read_words.specs.Words.{withVariables, forms, readBy, recordIn};
+ghost use Rattle.read_words.specs.Meaning.{nameOf, readsOf, formAt, shortLine, lineOf, TellsRecord, TellsBlock};
 use listing_lines::Name;
+use rules::MOST_BODY;
+use scanner::count_words;
+use scanner::next_word;
+use scanner::number_below;
+use scanner::word_at;
 
 // The most bytes of a block that are looked at.
 pub const MOST_BLOCK: usize = 1024;
 
 // The most bytes of a text in words that is read.
 pub const MOST_TEXT: usize = 65536;
+
+// The most bytes of a record: its kind byte and the longest body.
+pub const MOST_RECORD: usize = 1 + MOST_BODY;
 
 // What was expected: a record's word; a record with no, with one or with two numbers; an operand, from 0 to 255; a
 // variable, from 0 to 15; each variable once.
@@ -47,184 +53,17 @@ pub enum BlockWords {
     Wrong(Fault, usize),
 }
 
-// Where a word starts and ends in a line.
-pub struct Place {
-    pub from: usize,
-    pub to: usize,
-}
-
-// The number that a word is in decimal digits, or none.
-pub enum Number {
-    Is(usize),
-    None,
-}
-
-// What a line says, with the record itself: how many bytes it has, and these, 0 behind them.
-enum Line {
-    Nothing,
-    Record(usize, u8, u8, u8),
-    Wrong(Fault),
-}
-
-// ---- words
-
-// What a scan stops at: what is no blank, the end of a word, or the end of a line.
-enum Stop {
-    NoBlank,
-    WordEnd,
-    LineEnd,
-}
-
-// Whether a letter parts words.
-pub fn is_blank(letter: u8) -> bool
-    ensures { λ r. ⌜ r ≡ isBlank letter ⌝ }
-{
-    (letter == b' ') | ((letter == b'\t') | (letter == b'\r'))
-}
-
-fn stops(stop: Stop, letter: u8) -> bool
-    ensures { λ r. ⌜ r ≡ stopsAt stop letter ⌝ }
-{
-    match stop {
-        Stop::NoBlank => !is_blank(letter),
-        Stop::WordEnd => is_blank(letter) | (letter == b'#'),
-        Stop::LineEnd => letter == b'\n',
-    }
-}
-
-// The first place from `from` on of a letter that the scan stops at, or the end of the text.
-fn past(text: &[u8], from: usize, stop: Stop) -> usize
-    requires { ⌜ from ≤ length (now text) ⌝ }
-    ensures { λ r. ⌜ (r ≤ length (now (text .entry))) ×
-        (r ≡ from + first (stopsAt stop) (drop from (now (text .entry)))) ⌝ }
-{
-    let mut at = from;
-    while at < text.len() {
-        if stops(stop, text[at]) {
-            return at;
-        }
-        at += 1;
-    }
-    at
-}
-
-// Where the next word of a line from `at` on starts and ends; it starts where it ends if there is none. A comment, from
-// `#` on, has no words.
-pub fn next_word(line: &[u8], at: usize) -> Place
-    requires { ⌜ at ≤ length (now line) ⌝ }
-    ensures { λ r. ⌜ NextWord (now (line .entry)) at (r .from) (r .to) ⌝ }
-{
-    let from = past(line, at, Stop::NoBlank);
-    let to = past(line, from, Stop::WordEnd);
-    Place { from, to }
-}
-
-// Where word `k` of a line, from 0, starts and ends; it starts where it ends if there is none.
-pub fn word_at(line: &[u8], k: usize) -> Place
-    ensures { λ r. ⌜ (r .from ≤ r .to) × (r .to ≤ length (now (line .entry))) ×
-        (part (r .from) (r .to) (now (line .entry)) ≡ getD (words (now (line .entry))) k []) ⌝ }
-{
-    let mut at = 0;
-    let mut i = 0;
-    while i < k {
-        let word = next_word(line, at);
-        if word.from == word.to {
-            return word;
-        }
-        at = word.to;
-        i += 1;
-    }
-    next_word(line, at)
-}
-
-fn count_words(line: &[u8]) -> usize
-    ensures { λ r. ⌜ r ≡ length (words (now (line .entry))) ⌝ }
-{
-    let mut count: usize = 0;
-    let mut at = 0;
-    loop {
-        let word = next_word(line, at);
-        if word.from == word.to {
-            return count;
-        }
-        at = word.to;
-        count += 1;
-    }
-}
-
-// Whether a word has the same bytes as another.
-pub fn is_word(word: &[u8], other: &[u8]) -> bool
-    ensures { λ r. ⌜ r ≡ same (now (word .entry)) (now (other .entry)) ⌝ }
-{
-    if word.len() != other.len() {
-        return false;
-    }
-    let mut k = 0;
-    while k < word.len() {
-        if word[k] != other[k] {
-            return false;
-        }
-        k += 1;
-    }
-    true
+// What a line says, with the bytes of the record itself, and 0 behind them.
+struct Line {
+    told: Worded,
+    bytes: [u8; MOST_RECORD],
 }
 
 // ---- numbers
 
-// The value of a decimal digit, and 10 for any other letter.
-fn digit_of(letter: u8) -> usize
-    ensures { λ r. ⌜ (r ≤ 9 → (isDigit letter ≡ true) × (r ≡ letter - 48)) × (9 < r → isDigit letter ≡ false) ⌝ }
-{
-    if letter < b'0' {
-        return 10;
-    }
-    if b'9' < letter {
-        return 10;
-    }
-    (letter - b'0') as usize
-}
-
-// The number that a word is in decimal digits: at least one, and below 2 to the power 64.
-pub fn number_of(word: &[u8]) -> Number
-    ensures { λ r. ⌜ r ≡ numberIn (now (word .entry)) ⌝ }
-{
-    if word.len() == 0 {
-        return Number::None;
-    }
-    let mut value: usize = 0;
-    let mut k = 0;
-    while k < word.len() {
-        let digit = digit_of(word[k]);
-        if digit > 9 {
-            return Number::None;
-        }
-        if value > (usize::MAX - digit) / 10 {
-            return Number::None;
-        }
-        value = value * 10 + digit;
-        k += 1;
-    }
-    Number::Is(value)
-}
-
-// The number that a word is if it is below a limit, and else that limit.
-fn number_below(word: &[u8], limit: usize) -> usize
-    ensures { λ r. ⌜ r ≡ cut limit (numberIn (now (word .entry))) ⌝ }
-{
-    match number_of(word) {
-        Number::Is(number) => {
-            if number < limit {
-                return number;
-            }
-            limit
-        }
-        Number::None => limit,
-    }
-}
-
 // The operand that word `k` of a line is, and 256 if it is none.
 fn operand_at(line: &[u8], k: usize) -> usize
-    ensures { λ r. ⌜ r ≡ cut 256 (numberIn (getD (words (now (line .entry))) k [])) ⌝ }
+    ensures { λ r. ⌜ r ≡ operandIn (getD (words (now (line .entry))) k []) ⌝ }
 {
     let place = word_at(line, k);
     let from = place.from;
@@ -234,13 +73,48 @@ fn operand_at(line: &[u8], k: usize) -> usize
 
 // ---- the record of a line: `numbers` is what stands behind its first word
 
+// A record of so many bytes: its kind, and what its body begins with.
+fn short_line(size: usize, kind: u8, first: u8, second: u8) -> Line
+    ensures { λ r. ⌜ r ≡ shortLine size kind first second ⌝ }
+{
+    let mut bytes = [0u8; MOST_RECORD];
+    bytes[0] = kind;
+    bytes[1] = first;
+    bytes[2] = second;
+    Line {
+        told: Worded::Bytes(size),
+        bytes,
+    }
+}
+
+// Something else was expected.
+fn wrong_line(fault: Fault) -> Line
+    ensures { λ r. ⌜ r ≡ lineOf (wrong fault) ⌝ }
+{
+    Line {
+        told: Worded::Wrong(fault),
+        bytes: [0u8; MOST_RECORD],
+    }
+}
+
+// What was expected where a record has so many numbers, and there are more or fewer.
+fn number_fault(count: usize) -> Fault
+    ensures { λ r. ⌜ r ≡ numberFault count ⌝ }
+{
+    match count {
+        0 => Fault::NoNumber,
+        1 => Fault::OneNumber,
+        _ => Fault::TwoNumbers,
+    }
+}
+
 // A record whose word has no number behind it.
 fn alone_record(numbers: &[u8], line: Line) -> Line
     ensures { λ r. ⌜ ((said : Record) → line ≡ lineOf (says said) →
         r ≡ lineOf (alone said (words (now (numbers .entry))))) ⌝ }
 {
     if count_words(numbers) != 0 {
-        return Line::Wrong(Fault::NoNumber);
+        return wrong_line(Fault::NoNumber);
     }
     line
 }
@@ -256,53 +130,45 @@ fn input_record(numbers: &[u8]) -> Line
         let from = word.from;
         let to = word.to;
         if from == to {
-            return Line::Record(3, 2, (set % 256) as u8, (set / 256) as u8);
+            return short_line(3, 2, (set % 256) as u8, (set / 256) as u8);
         }
         let variable = number_below(&numbers[from..to], 16);
         if variable > 15 {
-            return Line::Wrong(Fault::Variable);
+            return wrong_line(Fault::Variable);
         }
         let power = 1u16 << variable;
         if set / power % 2 == 1 {
-            return Line::Wrong(Fault::Twice);
+            return wrong_line(Fault::Twice);
         }
         set = set + power;
         at = to;
     }
 }
 
-// NOT, or a register.
-fn unary_record(numbers: &[u8], kind: u8) -> Line
-    ensures { λ r. ⌜ ((cell : ℕ → Cell) → ((a : ℕ) → recordBytes (node (cell a)) ≡ kind ∷ a ∷ []) →
-        r ≡ lineOf (withOne cell (words (now (numbers .entry))))) ⌝ }
+// A gate or a register: as many numbers as its kind has operands.
+fn gate_record(numbers: &[u8], kind: u8) -> Line
+    ensures { λ r. ⌜ ((own : Kind) → kind ≡ kindNumber own →
+        r ≡ lineOf (withOperands own (words (now (numbers .entry))))) ⌝ }
 {
-    if count_words(numbers) != 1 {
-        return Line::Wrong(Fault::OneNumber);
+    let count = records::operand_count(kind);
+    if count_words(numbers) != count {
+        return wrong_line(number_fault(count));
     }
-    let operand = operand_at(numbers, 0);
-    if operand > 255 {
-        return Line::Wrong(Fault::Operand);
+    let mut bytes = [0u8; MOST_RECORD];
+    bytes[0] = kind;
+    let mut j = 0;
+    while j < count {
+        let operand = operand_at(numbers, j);
+        if operand > 255 {
+            return wrong_line(Fault::Operand);
+        }
+        bytes[1 + j] = operand as u8;
+        j += 1;
     }
-    Line::Record(2, kind, operand as u8, 0)
-}
-
-// XOR, AND or OR.
-fn binary_record(numbers: &[u8], kind: u8) -> Line
-    ensures { λ r. ⌜ ((cell : ℕ → ℕ → Cell) → ((a b : ℕ) → recordBytes (node (cell a b)) ≡ kind ∷ a ∷ b ∷ []) →
-        r ≡ lineOf (withTwo cell (words (now (numbers .entry))))) ⌝ }
-{
-    if count_words(numbers) != 2 {
-        return Line::Wrong(Fault::TwoNumbers);
+    Line {
+        told: Worded::Bytes(1 + count),
+        bytes,
     }
-    let first = operand_at(numbers, 0);
-    let second = operand_at(numbers, 1);
-    if first > 255 {
-        return Line::Wrong(Fault::Operand);
-    }
-    if second > 255 {
-        return Line::Wrong(Fault::Operand);
-    }
-    Line::Record(3, kind, first as u8, second as u8)
 }
 
 // ---- the forms of a record, by their numbers
@@ -347,7 +213,7 @@ fn has_word(form: u8, word: &[u8]) -> bool
     let name = word_of(form);
     let letters = name.letters;
     let size = name.size;
-    is_word(word, &letters[..size])
+    scanner::is_word(word, &letters[..size])
 }
 
 // The first form whose word this is, and the number of forms where none is.
@@ -370,18 +236,17 @@ fn record_by(form: u8, numbers: &[u8]) -> Line
     ensures { λ r. ⌜ r ≡ lineOf (readsOf (formAt form) (words (now (numbers .entry)))) ⌝ }
 {
     match form {
-        0 => alone_record(numbers, Line::Record(1, 0, 0, 0)),
-        1 | 2 | 3 => alone_record(numbers, Line::Record(2, 1, form - 1, 0)),
+        0 => alone_record(numbers, short_line(1, 0, 0, 0)),
+        1 | 2 | 3 => alone_record(numbers, short_line(2, 1, form - 1, 0)),
         4 => input_record(numbers),
-        5 | 9 => unary_record(numbers, form - 2),
-        6 | 7 | 8 => binary_record(numbers, form - 2),
-        _ => Line::Wrong(Fault::Record),
+        5..=9 => gate_record(numbers, form - 2),
+        _ => wrong_line(Fault::Record),
     }
 }
 
 // The record that a line says, without its line feed: no words, so many bytes at the front of `bytes` with 0 behind
 // them, or what was expected instead. Where there is no record, `bytes` is as it was.
-pub fn record_of(line: &[u8], bytes: &mut [u8; 3]) -> Worded
+pub fn record_of(line: &[u8], bytes: &mut [u8; MOST_RECORD]) -> Worded
     ensures { λ r. ⌜ TellsRecord r (now (bytes .entry)) (now (bytes .exit)) (recordIn (words (now (line .entry)))) ⌝ }
 {
     let word = next_word(line, 0);
@@ -391,14 +256,14 @@ pub fn record_of(line: &[u8], bytes: &mut [u8; 3]) -> Worded
         return Worded::Nothing;
     }
     let form = form_of(&line[from..to]);
-    match record_by(form, &line[to..]) {
-        Line::Nothing => Worded::Nothing,
-        Line::Wrong(fault) => Worded::Wrong(fault),
-        Line::Record(size, kind, first, second) => {
-            *bytes = [kind, first, second];
-            Worded::Bytes(size)
-        }
-    }
+    let said = record_by(form, &line[to..]);
+    let told = said.told;
+    let Worded::Bytes(size) = told else {
+        return told;
+    };
+    let own = said.bytes;
+    *bytes = own;
+    Worded::Bytes(size)
 }
 
 // ---- the block of a text
@@ -441,8 +306,8 @@ fn put_line(lines: &mut [usize], at: usize, line: usize)
 
 // The first `size` bytes of a record behind the first `at` of a block, as far as there is room: how many the block has
 // then.
-fn put_record(bytes: &mut [u8], at: usize, own: [u8; 3], size: usize) -> usize
-    requires { ⌜ (at ≤ length (now bytes)) × (size ≤ 3) ⌝ }
+fn put_record(bytes: &mut [u8], at: usize, own: [u8; MOST_RECORD], size: usize) -> usize
+    requires { ⌜ (at ≤ length (now bytes)) × (size ≤ most-record) ⌝ }
     ensures { λ r. ⌜ (r ≡ min (at + size) (length (now (bytes .entry)))) ×
         (now (bytes .exit) ≡ sets (now (bytes .entry)) at (take size own)) ⌝ }
 {
@@ -469,8 +334,9 @@ pub fn block_of(
     let mut line: usize = 0;
     let mut at = 0;
     while at < text.len() {
-        let end = past(text, at, Stop::LineEnd);
-        let mut record = [0u8; 3];
+        let place = scanner::next_line(text, at);
+        let end = place.to;
+        let mut record = [0u8; MOST_RECORD];
         line += 1;
         match record_of(&text[at..end], &mut record) {
             Worded::Nothing => {}
@@ -482,7 +348,7 @@ pub fn block_of(
                 return BlockWords::Wrong(fault, line);
             }
         }
-        at = lower(end + 1, text.len());
+        at = place.next;
     }
     BlockWords::Bytes(count, at_least_one(line))
 }

@@ -1,2 +1,3 @@
 -- What is proved of the definitions, for the proofs of this crate's functions.
+pub mod Turns
 pub mod Judged

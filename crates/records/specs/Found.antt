@@ -3,28 +3,29 @@
 use Prim.Native.Nat.{ℕ, _+_}
 use mathlib.Core.List.{List}
 use lib.ListN.{getD}
-use Rattle.rules.specs.Records.{Record}
-use Rattle.rules.specs.Checks.{Outcome, answered, refused, andThen, judgedAt}
-use Rattle.rules.specs.Paper.{numberOf, placeOf}
+use Rattle.rules.specs.Lists.{tabulate}
+use Rattle.rules.specs.Records.{Record, most-body}
+use Rattle.rules.specs.Checks.{Outcome, answered, andThen, judgedAt}
+use Rattle.rules.specs.Paper.{queryOf}
+use Rattle.records.specs.declared.RecordBytes.{RecordBytes}
 use Rattle.records.specs.declared.Found.{Found}
-use Rattle.records.specs.declared.Found.the-variants as Found
 
--- the bytes of a record: its kind byte and the two behind it
-pub record RecordBytes : Type 0 where
-  pub kind : ℕ
-  pub first : ℕ
-  pub second : ℕ
+-- the bytes behind the kind byte at an offset of a file, as many as the longest body has
+unfoldable pub bodyAt : List ℕ → (here : ℕ) → List ℕ
+bodyAt bytes here = tabulate (λ j. getD bytes (here + (1 + j)) 0) most-body
 
--- what is found is these bytes, or a refusal
+-- the bytes of the record there
+abbrev pub recordBytesAt : List ℕ → (here : ℕ) → RecordBytes
+recordBytesAt bytes here = record { kind = getD bytes here 0; body = bodyAt bytes here }
+
+-- whether the rules accept a record, where they judge it so
+unfoldable pub acceptedIf : Outcome Record → Outcome (Unit {0})
+acceptedIf o = andThen o (λ _. answered tt)
+
+-- what is found is a record's bytes, or a refusal
 abbrev pub foundOf : Found → Outcome RecordBytes
-foundOf (Found.Record k b c) = answered (record { kind = k; first = b; second = c })
-foundOf (Found.Refused r) = refused (numberOf r) (placeOf r)
-
--- what is to be found where the rules judge the record of these bytes so
-unfoldable pub foundIf : Outcome Record → (k b c : ℕ) → Outcome RecordBytes
-foundIf o k b c = andThen o (λ _. answered (record { kind = k; first = b; second = c }))
+foundOf f = andThen (queryOf (f .outcome)) (λ _. answered (f .own))
 
 -- what is to be found in a file, after so many variables and nodes
 abbrev pub foundAt : List ℕ → (v n here : ℕ) → Outcome RecordBytes
-foundAt bytes v n here =
-    foundIf (judgedAt bytes v n here) (getD bytes here 0) (getD bytes (here + 1) 0) (getD bytes (here + 2) 0)
+foundAt bytes v n here = andThen (acceptedIf (judgedAt bytes v n here)) (λ _. answered (recordBytesAt bytes here))

@@ -9,8 +9,8 @@ use native.Mathlib.Omega.{arith}
 use lib.ListN.{getD}
 use Rattle.rules.specs.Lists.{digit, member, insert, union, count}
 use Rattle.rules.specs.Tables.{table}
-use Rattle.rules.specs.Records.{secret, mask, public, input, NOT, XOR, AND, OR, register, Netlist}
-use Rattle.rules.specs.Values.{exclusiveOr, valueRule, values, feedingRule, feedings, feeding, same, howMany, settings, next, others, make, Pattern, matches, giving, CountsAgree}
+use Rattle.rules.specs.Records.{secret, mask, public, NOT, XOR, AND, OR, register, listed, fromOperands, input, gate, kindOf, operands, Netlist}
+use Rattle.rules.specs.Values.{exclusiveOr, valueOf, valueRule, values, isPoint, joined, feedingRule, feedings, feeding, same, howMany, settings, next, others, make, Pattern, matches, giving, CountsAgree}
 use Rattle.rules.specs.Families.{tested}
 use Rattle.rules.specs.Checks.{answered, read}
 use Rattle.rules.specs.Demands.{OneProbe}
@@ -29,14 +29,14 @@ p14-without = record {
       ∷ input 10
       ∷ input 8
       ∷ input 16
-      ∷ AND 0 3
-      ∷ XOR 5 4
-      ∷ AND 1 2
-      ∷ XOR 7 4
-      ∷ AND 0 2
-      ∷ XOR 9 6
-      ∷ AND 1 3
-      ∷ XOR 11 8
+      ∷ gate AND (0, (3, tt))
+      ∷ gate XOR (5, (4, tt))
+      ∷ gate AND (1, (2, tt))
+      ∷ gate XOR (7, (4, tt))
+      ∷ gate AND (0, (2, tt))
+      ∷ gate XOR (9, (6, tt))
+      ∷ gate AND (1, (3, tt))
+      ∷ gate XOR (11, (8, tt))
       ∷ [];
 }
 
@@ -57,7 +57,7 @@ p14-settings = refl
 -- and beside a = 0, b = 1 none does.
 pub counts-differ : (giving p14-without (feeding p14-without 10) all-zero [] (false ∷ false ∷ []) ≡ 1)
     × (giving p14-without (feeding p14-without 10) all-zero [] (false ∷ true ∷ []) ≡ 0)
-unfolding member insert union count table xor exclusiveOr valueRule values feedingRule feedings feeding same howMany settings next others make matches giving
+unfolding member insert union count table xor exclusiveOr valueOf fromOperands valueRule values isPoint kindOf operands listed joined feedingRule feedings feeding same howMany settings next others make matches giving
 counts-differ = (refl, refl)
 
 -- so the counts do not agree there
@@ -70,7 +70,7 @@ p14-leaks agree =
 
 -- and what demand 3 says of one probe is false of its bytes
 pub p14-probe : ¬ OneProbe (P14-without .bytes)
-unfolding tested OneProbe
+unfolding tested kindOf OneProbe
 p14-probe probe = p14-leaks (probe p14-without p14-without-read 10 (record { there = omega arith; isTested = tt }))
 
 -- ---- counts that differ only where a public is 1
@@ -85,7 +85,7 @@ gated =
     ∷ 0x00 ∷ []
 
 abbrev pub gated-netlist : Netlist
-gated-netlist = record { variables = secret ∷ mask ∷ public ∷ []; nodes = input 3 ∷ input 2 ∷ input 4 ∷ AND 1 2 ∷ register 3 ∷ XOR 0 4 ∷ [] }
+gated-netlist = record { variables = secret ∷ mask ∷ public ∷ []; nodes = input 3 ∷ input 2 ∷ input 4 ∷ gate AND (1, (2, tt)) ∷ gate register (3, tt) ∷ gate XOR (0, (4, tt)) ∷ [] }
 
 pub gated-read : read gated ≡ answered gated-netlist
 unfolding replyTo
@@ -94,7 +94,7 @@ gated-read = refl
 -- Node 5 is fed by input 0 and the register. Where the public is 0, the counts there are the
 -- same whatever the secret is.
 pub gated-shut : (z : Pattern) (s : List Bool) → giving gated-netlist (feeding gated-netlist 5) z (false ∷ []) s ≡ digit (not (z 4))
-unfolding member insert union count table xor exclusiveOr valueRule values feedingRule feedings feeding same howMany settings next others make matches giving
+unfolding member insert union count table xor exclusiveOr valueOf fromOperands valueRule values isPoint kindOf operands listed joined feedingRule feedings feeding same howMany settings next others make matches giving
 gated-shut z s = go (next s) (z 0) (z 4)
   where
     go : (b c d : Bool)
@@ -113,7 +113,7 @@ gated-shut z s = go (next s) (z 0) (z 4)
 -- Where it is 1, beside secret 0 one mask setting gives the pattern of zeros, and beside secret 1 none does.
 pub gated-open : (giving gated-netlist (feeding gated-netlist 5) all-zero (true ∷ []) (false ∷ []) ≡ 1)
     × (giving gated-netlist (feeding gated-netlist 5) all-zero (true ∷ []) (true ∷ []) ≡ 0)
-unfolding member insert union count table xor exclusiveOr valueRule values feedingRule feedings feeding same howMany settings next others make matches giving
+unfolding member insert union count table xor exclusiveOr valueOf fromOperands valueRule values isPoint kindOf operands listed joined feedingRule feedings feeding same howMany settings next others make matches giving
 gated-open = (refl, refl)
 
 -- so the counts do not agree, and one probe learns of the secret
@@ -125,14 +125,14 @@ gated-leaks agree =
     omega arith
 
 pub gated-probe : ¬ OneProbe gated
-unfolding tested OneProbe
+unfolding tested kindOf OneProbe
 gated-probe probe = gated-leaks (probe gated-netlist gated-read 5 (record { there = omega arith; isTested = tt }))
 
 -- ---- a refused block whose settled value gives nothing away
 
 -- P12: the netlist that its bytes are. Both halves of its answer report node 4.
 abbrev pub p12 : Netlist
-p12 = record { variables = secret ∷ mask ∷ []; nodes = input 3 ∷ input 2 ∷ NOT 1 ∷ AND 1 2 ∷ XOR 0 3 ∷ [] }
+p12 = record { variables = secret ∷ mask ∷ []; nodes = input 3 ∷ input 2 ∷ gate NOT (1, tt) ∷ gate AND (1, (2, tt)) ∷ gate XOR (0, (3, tt)) ∷ [] }
 
 pub p12-read : read (P12 .bytes) ≡ answered p12
 unfolding replyTo
@@ -140,7 +140,7 @@ p12-read = refl
 
 -- each value of node 4 is given by one of the two mask settings, whatever the secret is
 p12-once : (z : Pattern) (p s : List Bool) → giving p12 (4 ∷ []) z p s ≡ 1
-unfolding count table xor exclusiveOr valueRule values same howMany settings next others make matches giving
+unfolding count table xor exclusiveOr valueOf fromOperands valueRule values same howMany settings next others make matches giving
 p12-once z p s = go (next s) (z 4)
   where
     go : (b c : Bool) → count (λ (m : List Bool). Bool·beq (getD (values p12 (b ∷ next m ∷ [])) 4 false) c && true) (settings 1) ≡ 1
@@ -157,7 +157,7 @@ p12-settled-clean p s t z = p12-once z p s ∙ sym (p12-once z p t)
 
 -- P9 and P10, blocks A and B: the netlists that their bytes are
 abbrev pub p9 : Netlist
-p9 = record { variables = secret ∷ mask ∷ mask ∷ []; nodes = input 3 ∷ input 2 ∷ input 4 ∷ XOR 0 2 ∷ XOR 3 1 ∷ [] }
+p9 = record { variables = secret ∷ mask ∷ mask ∷ []; nodes = input 3 ∷ input 2 ∷ input 4 ∷ gate XOR (0, (2, tt)) ∷ gate XOR (3, (1, tt)) ∷ [] }
 
 pub p9-read : read (P9 .bytes) ≡ answered p9
 unfolding replyTo
@@ -166,7 +166,7 @@ p9-read = refl
 abbrev pub p10 : Netlist
 p10 = record {
   variables = secret ∷ mask ∷ mask ∷ [];
-  nodes = input 3 ∷ input 2 ∷ input 4 ∷ XOR 0 2 ∷ register 3 ∷ XOR 4 1 ∷ [];
+  nodes = input 3 ∷ input 2 ∷ input 4 ∷ gate XOR (0, (2, tt)) ∷ gate register (3, tt) ∷ gate XOR (4, (1, tt)) ∷ [];
 }
 
 pub p10-read : read (P10 .bytes) ≡ answered p10
@@ -175,14 +175,14 @@ p10-read = refl
 
 -- in block B the XOR behind the register is fed by the register and by input 1, and the register by itself only
 pub p10-feeding : (feeding p10 5 ≡ 4 ∷ 1 ∷ []) × (feeding p10 4 ≡ 4 ∷ [])
-unfolding member insert union table feedingRule feedings feeding
+unfolding member insert union table isPoint kindOf operands listed joined feedingRule feedings feeding
 p10-feeding = (refl, refl)
 
 -- a gate of each kind over the inputs 0 and 1, and a register: each gate is fed through all its operands
 abbrev pub gates : Netlist
-gates = record { variables = []; nodes = input 0 ∷ input 0 ∷ NOT 1 ∷ XOR 0 1 ∷ AND 0 1 ∷ OR 0 1 ∷ register 5 ∷ [] }
+gates = record { variables = []; nodes = input 0 ∷ input 0 ∷ gate NOT (1, tt) ∷ gate XOR (0, (1, tt)) ∷ gate AND (0, (1, tt)) ∷ gate OR (0, (1, tt)) ∷ gate register (5, tt) ∷ [] }
 
 pub gates-feeding : feedings gates
     ≡ (0 ∷ []) ∷ (1 ∷ []) ∷ (1 ∷ []) ∷ (0 ∷ 1 ∷ []) ∷ (0 ∷ 1 ∷ []) ∷ (0 ∷ 1 ∷ []) ∷ (6 ∷ []) ∷ []
-unfolding member insert union table feedingRule feedings
+unfolding member insert union table isPoint kindOf operands listed joined feedingRule feedings
 gates-feeding = refl

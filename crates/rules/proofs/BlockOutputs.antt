@@ -8,12 +8,12 @@ use native.Mathlib.Omega.{arith}
 use lib.ListN.{replicate}
 use Rattle.rules.specs.declared.NodeRecord.{NodeRecord}
 use Rattle.rules.specs.Lists.{tabulate}
-use Rattle.rules.specs.Records.{most-nodes, bits}
-use Rattle.rules.specs.Values.{exclusiveOr, valueRule, values, feedingRule, feedings, feeding}
+use Rattle.rules.specs.Records.{most-nodes, listed, fromOperands, kindOf, operands, bits}
+use Rattle.rules.specs.Values.{exclusiveOr, valueOf, valueRule, values, isPoint, joined, feedingRule, feedings, feeding}
 use Rattle.rules.specs.Families.{familiesAt, lowest, Finding, clear, suspectAt, Findings}
 use Rattle.rules.specs.Checks.{answered, refused, nodeCheck, numberCheck, queried, queriedWith}
-use Rattle.rules.specs.Slices.{entry, markNumber, markOf, nodeRecord, nodeRecords, filled, nodesAfter, reply, lowestMarked, FromMarks}
-use Rattle.rules.specs.Listing.{word, digits, decimal, line, kindName, nodeLines, halfLine, netlistText, textOf, listing}
+use Rattle.rules.specs.Slices.{nodeOf, entry, markNumber, markOf, nodeRecord, nodeRecords, filled, nodesAfter, reply, lowestMarked, FromMarks}
+use Rattle.rules.specs.Listing.{word, digits, decimal, line, nameOf, kindName, nodeLines, halfLine, netlistText, textOf, listing}
 use Rattle.rules.specs.Queries.{Given, given, valueQuery, feedingQuery, membershipQuery}
 use Rattle.rules.specs.Blocks.{P3, P9, P10}
 use Rattle.rules.proofs.Blocks.{replyTo}
@@ -34,14 +34,14 @@ pub texts : (listing (P9 .bytes) ≡ word "vars 3 nodes 5\n0 in 1 1\n1 in 1 1\n2
     × (listing (P3 .bytes) ≡ word "refused 9 1\n")
     × (listing each-kind
     ≡ word "vars 3 nodes 7\n0 in 1 1\n1 in 1 1\n2 not 1 2\n3 xor 1 4\n4 and 4 4\n5 or 4 4\n6 reg 4 4\nsettled clear\nglitch clear\n")
-unfolding replyTo word digits decimal line kindName nodeLines halfLine netlistText textOf listing
+unfolding replyTo word digits decimal line nameOf kindName nodeLines halfLine netlistText textOf listing
 texts = (refl, refl, refl)
 
 -- ---- the node records
 
 -- a node record by its fields: kind, operands and set, settled and glitch mark
 abbrev pub fields : (kind first second set settled glitch : ℕ) → NodeRecord
-fields k a b s m g = record { node = record { kind = k; first = a; second = b; set = s }; settled = m; glitch = g }
+fields k a b s m g = record { node = nodeOf k (a ∷ b ∷ []) s; settled = m; glitch = g }
 
 abbrev stays : NodeRecord
 stays = fields 9 9 9 9 9 9
@@ -90,17 +90,17 @@ pub marked-answer : (replyTo marked ≡ answered (halves (suspectAt 3 1) (suspec
 unfolding replyTo markOf lowestMarked
 marked-answer = (refl, record { settled = refl; glitch = refl })
 
-abbrev nodeOf : Finding → ℕ
-nodeOf clear = 0
-nodeOf (suspectAt i A) = i
+abbrev suspectNode : Finding → ℕ
+suspectNode clear = 0
+suspectNode (suspectAt i A) = i
 
 pub marked-otherwise : ¬ FromMarks (halves (suspectAt 2 1) (suspectAt 3 1)) marked-after × ¬ FromMarks (halves (suspectAt 5 1) (suspectAt 2 1)) marked-after
     × ¬ FromMarks (halves (suspectAt 0 1) (suspectAt 0 1)) marked-after
 unfolding lowest markOf lowestMarked
 marked-otherwise = (
-  λ m. let no : _≡_ {A = ℕ} 2 3 = ap nodeOf (m .settled) in omega (arith, no),
-  λ m. let no : _≡_ {A = ℕ} 5 3 = ap nodeOf (m .settled) in omega (arith, no),
-  λ m. let no : _≡_ {A = ℕ} 0 3 = ap nodeOf (m .settled) in omega (arith, no),
+  λ m. let no : _≡_ {A = ℕ} 2 3 = ap suspectNode (m .settled) in omega (arith, no),
+  λ m. let no : _≡_ {A = ℕ} 5 3 = ap suspectNode (m .settled) in omega (arith, no),
+  λ m. let no : _≡_ {A = ℕ} 0 3 = ap suspectNode (m .settled) in omega (arith, no),
 )
 
 -- ---- queries
@@ -117,7 +117,7 @@ refusing k p a = record { outcome = refused k p; gives = a }
 pub values-of-A : (valueQuery (P9 .bytes) 4 1 ≡ gave true) × (valueQuery (P9 .bytes) 4 5 ≡ gave false)
     × (valueQuery (P9 .bytes) 5 8 ≡ refusing 12 5 false) × (valueQuery (P9 .bytes) 4 8 ≡ refusing 13 8 false)
     × (valueQuery (P3 .bytes) 0 0 ≡ refusing 9 1 false)
-unfolding replyTo bits xor exclusiveOr valueRule values nodeCheck numberCheck queriedWith given valueQuery
+unfolding replyTo bits xor exclusiveOr valueOf fromOperands valueRule values nodeCheck numberCheck queriedWith given valueQuery
 values-of-A = (refl, refl, refl, refl, refl)
 
 -- the values of a node of each kind, where the secret and the public are 1, where the public alone is,
@@ -125,13 +125,13 @@ values-of-A = (refl, refl, refl, refl, refl)
 pub values-of-each-kind : (tabulate (λ i. valueQuery each-kind i 5 .gives) 7 ≡ true ∷ true ∷ false ∷ true ∷ true ∷ true ∷ true ∷ [])
     × (tabulate (λ i. valueQuery each-kind i 4 .gives) 7 ≡ false ∷ true ∷ false ∷ false ∷ false ∷ false ∷ false ∷ [])
     × (tabulate (λ i. valueQuery each-kind i 1 .gives) 7 ≡ true ∷ false ∷ true ∷ false ∷ false ∷ true ∷ true ∷ [])
-unfolding replyTo bits xor exclusiveOr valueRule values nodeCheck numberCheck queriedWith given valueQuery tabulate
+unfolding replyTo bits xor exclusiveOr valueOf fromOperands valueRule values nodeCheck numberCheck queriedWith given valueQuery tabulate
 values-of-each-kind = (refl, refl, refl)
 
 -- node 5 of block B is fed by input 1 and register 4
 pub points-of-B : (feedingQuery (P10 .bytes) 5 ≡ gave (false ∷ true ∷ false ∷ false ∷ true ∷ replicate (most-nodes - 5) false))
     × (feedingQuery (P10 .bytes) 6 ≡ refusing 12 6 (replicate most-nodes false))
-unfolding replyTo tabulate feedingRule feedings feeding nodeCheck queried given feedingQuery
+unfolding replyTo tabulate isPoint kindOf operands listed joined feedingRule feedings feeding nodeCheck queried given feedingQuery
 points-of-B = (refl, refl)
 
 -- set 3 is in the glitch family of node 3 of block A, and not in its settled family

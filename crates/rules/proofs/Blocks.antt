@@ -5,19 +5,19 @@ use mathlib.Core.Path.{_≡_, refl}
 use mathlib.Core.List.{List, [], _∷_, map}
 use Rattle.rules.specs.Lists.{member, insert, union, count}
 use Rattle.rules.specs.Tables.{table}
-use Rattle.rules.specs.Records.{most-nodes, classOf, said, size, recordBytes, kindOf, body, classByte, operands, setOf, bits, variableCount}
+use Rattle.rules.specs.Records.{most-nodes, classOf, said, size, recordBytes, kindOf, body, classByte, listed, firstOf, fromOperands, operands, setOf, bits, variableCount}
 use Rattle.rules.specs.Values.{same}
-use Rattle.rules.specs.Families.{product, spread, settledRule, glitchRule, familiesRule, families, holds, suspect, tested, earlier, better, reported, mark, marks, layerMarks, lowest, half, findings, Findings, clear, suspectAt}
-use Rattle.rules.specs.Checks.{andThen, judged, overLimit, undeclared, undeclaredSet, notBelow, badOperand, judgedRecord, recordAt, taken, step, after, outcomeOf, read, slicesFit, most-work, admitted, Outcome}
+use Rattle.rules.specs.Families.{product, spread, settledOf, glitchOf, familyRule, familiesRule, families, holds, suspect, tested, earlier, better, reported, mark, marks, layerMarks, lowest, half, findings, Findings, clear, suspectAt}
+use Rattle.rules.specs.Checks.{andThen, judged, overLimit, undeclared, undeclaredSet, notBelow, badOperand, judgedRecord, recordAt, taken, step, after, outcomeOf, readFrom, read, slicesFit, most-work, admitted, Outcome}
 use Rattle.rules.specs.Slices.{reply}
 use Rattle.rules.proofs.Each.{Each}
 use Rattle.rules.specs.Blocks.{Block, answers, blocks, P1, P2, P3, P4, P5, P6, P7, P8, P9, P10, P11, P12, P13, P13-NOT, P14, P14-without}
 
 -- the reply to a block in slices that hold every netlist; to unfold it is to compute it
 unfoldable pub replyTo : List ℕ → Outcome Findings
-unfolding member insert union count table classOf said size recordBytes kindOf body classByte operands setOf bits variableCount same product spread
-    settledRule glitchRule familiesRule families holds suspect tested earlier better reported mark marks layerMarks lowest half findings andThen judged overLimit
-    undeclared undeclaredSet notBelow badOperand judgedRecord recordAt taken step after outcomeOf read slicesFit admitted reply
+unfolding member insert union count table classOf said size recordBytes kindOf body classByte listed firstOf fromOperands operands setOf bits variableCount same product spread
+    settledOf glitchOf familyRule familiesRule families holds suspect tested earlier better reported mark marks layerMarks lowest half findings andThen judged overLimit
+    undeclared undeclaredSet notBelow badOperand judgedRecord recordAt taken step after outcomeOf readFrom read slicesFit admitted reply
 replyTo bytes = reply bytes most-nodes most-work
 
 -- the reply to a block is the expected one

@@ -2,7 +2,7 @@
 -- `most-sets`; its feeding points are inputs or registers, no higher than the node. What a rule makes comes from its
 -- operands' families or points. Assumes nothing.
 use Prim.Native.Nat.{ℕ, suc, _≤_, _<_, _^_}
-use mathlib.Core.Path.{_≡_, refl, ap, _∙_}
+use mathlib.Core.Path.{_≡_, ap, _∙_}
 use mathlib.Core.Logic.{⊎-elim}
 use mathlib.Core.List.{List, [], _∷_, map}
 use native.Mathlib.Nat.{le-refl, le-trans, lt-of-lt-of-le, le-of-suc-le-suc}
@@ -14,13 +14,14 @@ use lib.ListN.{length, getD, take}
 use lib.Seq.{length-take-le}
 use Rattle.rules.specs.Lists.{member}
 use Rattle.rules.specs.Tables.{table}
-use Rattle.rules.specs.Records.{Cell, input, NOT, XOR, AND, OR, register, Netlist, WellFormed, most-variables, most-sets, setOf}
-use Rattle.rules.specs.Values.{feedingRule, feedings, feeding}
+use Rattle.rules.specs.Records.{input, Netlist, WellFormed, most-variables, most-sets, setOf}
+use Rattle.rules.specs.Values.{isPoint, feedingRule, feedings, feeding}
 use Rattle.rules.specs.Families.{Family, product, familiesAt}
 use Rattle.rules.proofs.Lists.{member-head, member-tail, member-cases, union-cases}
 use Rattle.rules.proofs.Members.{All, all-none, all-single, all-insert, all-union}
 use Rattle.rules.proofs.Tables.{table-length, table-entry}
-use Rattle.rules.proofs.Entries.{isPoint, each-feeding, each-family}
+use Rattle.rules.proofs.Entries.{each-feeding, each-family}
+use Rattle.rules.proofs.Feeding.{point-rule}
 
 -- ---- what is in a product
 
@@ -96,20 +97,11 @@ feeding-points n i h j t = (le-of-suc-le-suc (found i j t .0), found i j t .1)
           joined = λ m. all-union (Found m);
         }
 
-itself : (done : List (List ℕ)) (cell : Cell) → T (isPoint cell) → feedingRule done cell ≡ length done ∷ []
-unfolding feedingRule isPoint
-itself done (input s) point = refl
-itself done (NOT a) point = absurd point
-itself done (XOR a b) point = absurd point
-itself done (AND a b) point = absurd point
-itself done (OR a b) point = absurd point
-itself done (register a) point = refl
-
 -- an input or a register feeds itself only
 pub point-feeding : (n : Netlist) (i : ℕ) → i < length (n .nodes) → T (isPoint (getD (n .nodes) i (input 0))) → feeding n i ≡ i ∷ []
 unfolding feeding feedings
 point-feeding n i h point =
-    table-entry feedingRule (n .nodes) i [] (input 0) h ∙ itself (take i t) (getD (n .nodes) i (input 0)) point
+    table-entry feedingRule (n .nodes) i [] (input 0) h ∙ point-rule (take i t) (getD (n .nodes) i (input 0)) point
     ∙ ap {B = List ℕ} (λ k. k ∷ []) (length-take-le i t (omega (arith, table-length feedingRule [] (n .nodes))))
   where
     t : List (List ℕ)

@@ -3,7 +3,7 @@
 -- So one induction over the nodes serves `Once`, `Bounds` and `Probe`. Assumes nothing.
 use Prim.Native.Nat.{ℕ, zero, suc, _≤_, _<_}
 use mathlib.Core.Path.{_≡_, sym, subst, fun-ext}
-use mathlib.Core.Bool.{Bool, true, false}
+use mathlib.Core.Bool.{Bool, true, false, cond}
 use mathlib.Core.List.{List, [], _∷_}
 use native.Mathlib.Nat.{not-suc-le-zero}
 use native.Mathlib.Decide.{decLt}
@@ -11,11 +11,13 @@ use native.Mathlib.Omega.{arith}
 use lib.Dec.{T}
 use lib.ListN.{length, getD, take, length-take, List·getD-eq-default}
 use lib.Seq.{getD-take, length-take-le}
-use Rattle.rules.specs.Lists.{insert, union}
+use Rattle.rules.specs.Lists.{member, insert, union}
 use Rattle.rules.specs.Tables.{table}
-use Rattle.rules.specs.Records.{Cell, input, NOT, XOR, AND, OR, register, Netlist, setOf}
-use Rattle.rules.specs.Values.{feedingRule, feedings, feeding}
-use Rattle.rules.specs.Families.{Family, product, spread, Families, constant, settledRule, glitchRule, familiesRule, families, familiesAt}
+use Rattle.rules.specs.Records.{Kind, NOT, XOR, AND, OR, register, operandCount, Operands, listed, fromOperands}
+use Rattle.rules.specs.Records.{Cell, input, gate, Netlist, operands, setOf}
+use Rattle.rules.specs.Values.{isPoint, joined, feedingRule, feedings, feeding}
+use Rattle.rules.specs.Families.{Family, product, spread, Families, constant, settledOf, glitchOf, familyRule, familiesRule, families, familiesAt}
+use Rattle.rules.proofs.Lists.{member-head, member-tail}
 use Rattle.rules.proofs.Tables.{table-length, table-entry}
 
 -- ---- a property of every entry, of several tables over the same nodes side by side
@@ -64,14 +66,10 @@ length-done step nodes i h = length-take-le i (table step [] nodes) (omega (arit
 
 -- ---- feeding points
 
--- an input or a register: a point, which feeds itself
-unfoldable pub isPoint : Cell → Bool
-isPoint (input s) = true
-isPoint (NOT a) = false
-isPoint (XOR a b) = false
-isPoint (AND a b) = false
-isPoint (OR a b) = false
-isPoint (register a) = true
+-- what holds of both cases of a test
+either : (P : List ℕ → Type 0) (b : Bool) {F G : List ℕ} → (T b → P F) → P G → P (cond b F G)
+either P true p q = p tt
+either P false p q = q
 
 -- P i F says that F is right as the feeding points of a node below i. The rule keeps that: a point alone
 -- is right, and so are unions.
@@ -82,18 +80,16 @@ pub record KeptByFeeding (n : Netlist) (P : ℕ → List ℕ → Type 0) : Type 
   pub joined : (i : ℕ) (F G : List ℕ) → P i F → P i G → P i (union F G)
 
 module _ (n : Netlist) (P : ℕ → List ℕ → Type 0) (kept : KeptByFeeding n P) where
-  later : (i : ℕ) (F : List ℕ) → P i F → P (suc i) F
-  later i F p = kept .stays i (suc i) F (omega arith) p
+  all-joined : (i : ℕ) (pointsOf : ℕ → List ℕ) → ((k : ℕ) → P i (pointsOf k)) → (nodes : List ℕ) → P i (joined pointsOf nodes)
+  unfolding joined
+  all-joined i pointsOf before [] = kept .stays 0 i [] (omega arith) (kept .empty)
+  all-joined i pointsOf before (a ∷ nodes) = kept .joined i _ _ (before a) (all-joined i pointsOf before nodes)
 
   by-feeding : (done : List (List ℕ)) (i : ℕ) → length done ≡ i → ((k : ℕ) → P i (getD done k [])) → (cell : Cell)
       → (T (isPoint cell) → P (suc i) (i ∷ [])) → P (suc i) (feedingRule done cell)
-  unfolding feedingRule isPoint
-  by-feeding done i e before (input s) point = rw e (point tt)
-  by-feeding done i e before (NOT a) point = later i (getD done a []) (before a)
-  by-feeding done i e before (XOR a b) point = later i _ (kept .joined i _ _ (before a) (before b))
-  by-feeding done i e before (AND a b) point = later i _ (kept .joined i _ _ (before a) (before b))
-  by-feeding done i e before (OR a b) point = later i _ (kept .joined i _ _ (before a) (before b))
-  by-feeding done i e before (register a) point = rw e (point tt)
+  unfolding feedingRule
+  by-feeding done i e before cell point =
+      either (P (suc i)) (isPoint cell) (λ own. rw e (point own)) (kept .stays i (suc i) _ (omega arith) (all-joined i _ before _))
 
   -- the feeding points of every node are right
   pub each-feeding : (i : ℕ) → P (suc i) (feeding n i)
@@ -108,6 +104,54 @@ module _ (n : Netlist) (P : ℕ → List ℕ → Type 0) (kept : KeptByFeeding n
 
 -- ---- both families of a node
 
+-- what the rules make families of keeps a relation between two of them
+pub record KeepsRelation (R : Family → Family → Type 0) : Type 0 where
+  pub added : (F G : Family) → R F G → R (insert 0 F) (insert 0 G)
+  pub joined : (F G F′ G′ : Family) → R F F′ → R G G′ → R (union F G) (union F′ G′)
+  pub multiplied : (F G F′ G′ : Family) → R F F′ → R G G′ → R (product F G) (product F′ G′)
+
+-- it holds of both families
+pub record BothRelated (R : Family → Family → Type 0) (F G : Families) : Type 0 where
+  pub settled : R (F .settled) (G .settled)
+  pub glitch : R (F .glitch) (G .glitch)
+
+module _ (R : Family → Family → Type 0) (keeps : KeepsRelation R) where
+  spreads : (F G F′ G′ : Family) → R F F′ → R G G′ → R (spread F G) (spread F′ G′)
+  unfolding spread
+  spreads F G F′ G′ p q =
+      keeps .added _ _ (keeps .joined _ _ _ _ p (keeps .joined _ _ _ _ q (keeps .multiplied _ _ _ _ p q)))
+
+  both : {e f : ℕ → Families} {a b : ℕ} → ((k : ℕ) → T (member k (a ∷ b ∷ [])) → BothRelated R (e k) (f k)) → BothRelated R (e a) (f a) × BothRelated R (e b) (f b)
+  both {a = a} {b = b} h = (h a (member-head a (b ∷ [])), h b (member-tail b a (b ∷ []) (member-head b [])))
+
+  -- each row of the table keeps it
+  rows-related : (kind : Kind) (e f : ℕ → Families) (ops : Operands (operandCount kind))
+      → ((a : ℕ) → T (member a (listed (operandCount kind) ops)) → BothRelated R (e a) (f a))
+      → R (fromOperands (operandCount kind) (settledOf kind) e ops) (fromOperands (operandCount kind) (settledOf kind) f ops)
+      × R (fromOperands (operandCount kind) (glitchOf kind) e ops) (fromOperands (operandCount kind) (glitchOf kind) f ops)
+  unfolding fromOperands settledOf glitchOf listed
+  rows-related NOT e f (a, ops) h = let p = h a (member-head a []) in (p .settled, keeps .added _ _ (p .glitch))
+  rows-related XOR e f (a, (b, ops)) h =
+      let (p, q) = both h in
+      (keeps .multiplied _ _ _ _ (p .settled) (q .settled), spreads _ _ _ _ (p .glitch) (q .glitch))
+  rows-related AND e f (a, (b, ops)) h =
+      let (p, q) = both h in
+      (spreads _ _ _ _ (p .settled) (q .settled), spreads _ _ _ _ (p .glitch) (q .glitch))
+  rows-related OR e f (a, (b, ops)) h =
+      let (p, q) = both h in
+      (spreads _ _ _ _ (p .settled) (q .settled), spreads _ _ _ _ (p .glitch) (q .glitch))
+  rows-related register e f (a, ops) h = let p = h a (member-head a []) in (p .settled, p .settled)
+
+  -- and so do the rules, from families of the operands in which it holds
+  pub rules-related : (done other : List Families) (cell : Cell) → R (setOf cell ∷ []) (setOf cell ∷ [])
+      → ((a : ℕ) → T (member a (operands cell)) → BothRelated R (getD done a constant) (getD other a constant))
+      → BothRelated R (familiesRule done cell) (familiesRule other cell)
+  unfolding familiesRule familyRule operands setOf
+  rules-related done other (input s) own h = record { settled = own; glitch = own }
+  rules-related done other (gate kind ops) own h =
+      let (p, q) = rows-related kind (λ a. getD done a constant) (λ a. getD other a constant) ops h in
+      record { settled = p; glitch = q }
+
 -- P F says that the family F is right. The rules keep that: an input's is right, and so is what is made of right ones.
 pub record KeptByFamilies (n : Netlist) (P : Family → Type 0) : Type 0 where
   pub empty : P (0 ∷ [])
@@ -116,27 +160,25 @@ pub record KeptByFamilies (n : Netlist) (P : Family → Type 0) : Type 0 where
   pub joined : (F G : Family) → P F → P G → P (union F G)
   pub multiplied : (F G : Family) → P F → P G → P (product F G)
 
-module _ (n : Netlist) (P : Family → Type 0) (kept : KeptByFamilies n P) where
-  spreads : (F G : Family) → P F → P G → P (spread F G)
-  unfolding spread
-  spreads F G p q = kept .added _ (kept .joined F _ p (kept .joined G _ q (kept .multiplied F G p q)))
-
-  by-families : (done : List Families) → ((k : ℕ) → P (getD done k constant .settled) × P (getD done k constant .glitch))
-      → (cell : Cell) → P (setOf cell ∷ []) → P (settledRule done cell) × P (glitchRule done cell)
-  unfolding settledRule glitchRule setOf
-  by-families done before (input s) p = (p, p)
-  by-families done before (NOT a) p = (before a .0, kept .added _ (before a .1))
-  by-families done before (XOR a b) p = (kept .multiplied _ _ (before a .0) (before b .0), spreads _ _ (before a .1) (before b .1))
-  by-families done before (AND a b) p = (spreads _ _ (before a .0) (before b .0), spreads _ _ (before a .1) (before b .1))
-  by-families done before (OR a b) p = (spreads _ _ (before a .0) (before b .0), spreads _ _ (before a .1) (before b .1))
-  by-families done before (register a) p = (before a .0, before a .0)
-
-  -- both families of every node are right
-  pub each-family : (i : ℕ) → P (familiesAt n i .settled) × P (familiesAt n i .glitch)
-  unfolding familiesAt families familiesRule
-  each-family =
-      each-entry {X = Unit {0}} (λ x. familiesRule) (n .nodes) (λ x. constant) (input 0) (λ i F. P (F tt .settled) × P (F tt .glitch)) record {
-        stays = λ m i F h p. p;
-        defaults = (kept .empty, kept .empty);
-        stepped = λ i there before. by-families _ before (getD (n .nodes) i (input 0)) (kept .alone i there);
-      }
+-- both families of every node are right
+pub each-family : (n : Netlist) (P : Family → Type 0) → KeptByFamilies n P → (i : ℕ) → P (familiesAt n i .settled) × P (familiesAt n i .glitch)
+unfolding familiesAt families
+each-family n P kept =
+    each-entry {X = Unit {0}} (λ x. familiesRule) (n .nodes) (λ x. constant) (input 0) (λ i F. P (F tt .settled) × P (F tt .glitch)) record {
+      stays = λ m i F h p. p;
+      defaults = (kept .empty, kept .empty);
+      stepped = λ i there before. let both = right i there before in (both .settled, both .glitch);
+    }
+  where
+    -- a relation that looks at the first family alone
+    right : (i : ℕ) → i < length (n .nodes)
+        → ((k : ℕ) → P (getD (take i (families n)) k constant .settled) × P (getD (take i (families n)) k constant .glitch))
+        → BothRelated (λ F G. P F) (familiesRule (take i (families n)) (getD (n .nodes) i (input 0))) (familiesRule (take i (families n)) (getD (n .nodes) i (input 0)))
+    right i there before =
+        rules-related (λ F G. P F) record {
+          added = λ F G p. kept .added F p;
+          joined = λ F G F′ G′ p q. kept .joined F G p q;
+          multiplied = λ F G F′ G′ p q. kept .multiplied F G p q;
+        }
+        (take i (families n)) (take i (families n)) (getD (n .nodes) i (input 0)) (kept .alone i there)
+        (λ a t. record { settled = before a .0; glitch = before a .1 })

@@ -13,7 +13,7 @@ use native.Mathlib.Omega.{arith}
 use lib.Dec.{T, T-not}
 use lib.ListN.{length, getD, List·getD-eq-default, List·getD-map, length-map}
 use Rattle.rules.specs.Lists.{member}
-use Rattle.rules.specs.Records.{Class, Cell, input, Netlist, variableCount}
+use Rattle.rules.specs.Records.{Class, Cell, input, kindOf, Netlist, variableCount}
 use Rattle.rules.specs.Families.{Family, Families, constant, familiesRule, families, familiesAt, suspect, tested, earlier, better, reported, Finding, clear, suspectAt, mark, marks, layerMarks, lowest, half, findings}
 use Rattle.rules.specs.Checks.{Outcome, answered, refused, andThen, admitted}
 use Rattle.rules.specs.Slices.{reply}
@@ -142,7 +142,7 @@ lowest-says first (some A ∷ rest) = (0, omega arith, refl, λ j h. absurd (not
 pub marks-at : (variables : List Class) (cells : List Cell) (Fs : List Family) (F : Family) (k : ℕ) → length cells ≡ length Fs
     → getD (marks variables cells Fs) k none ≡ mark variables (getD cells k (input 0)) (getD Fs k F)
 unfolding marks
-marks-at variables [] Fs F k e = unfold mark tested in refl
+marks-at variables [] Fs F k e = unfold mark tested kindOf in refl
 marks-at variables (c ∷ cells) [] F k e = absurd (omega arith)
 marks-at variables (c ∷ cells) (G ∷ Fs) F zero e = refl
 marks-at variables (c ∷ cells) (G ∷ Fs) F (suc k) e = marks-at variables cells Fs F k (omega arith)
@@ -167,7 +167,7 @@ tested-there n i t = go (decLt i (length (n .nodes)))
   where
     go : Dec (i < length (n .nodes)) → TestedNode n i
     go (yes h) = record { there = h; isTested = t }
-    go (no h) = absurd (unfold tested in (rw (List·getD-eq-default (n .nodes) (input 0) {n = i} (omega arith)) at t))
+    go (no h) = absurd (unfold tested kindOf in (rw (List·getD-eq-default (n .nodes) (input 0) {n = i} (omega arith)) at t))
 
 -- ---- what a half says
 

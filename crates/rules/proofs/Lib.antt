@@ -6,6 +6,7 @@ pub mod Tests
 pub mod Each
 pub mod Lists
 pub mod Members
+pub mod Operands
 pub mod Tables
 pub mod Entries
 -- reading a file; what replies say
@@ -18,12 +19,14 @@ pub mod Packing
 pub mod Decimal
 pub mod Listing
 pub mod Paper
--- families, feeding points and the two halves of the answer; the lent slices at exit, and the marks in them
+-- families, feeding points and the two halves of the answer, also where nodes have other numbers; the lent slices at
+-- exit, and the marks in them
 pub mod Once
-pub mod Bounds
 pub mod Feeding
+pub mod Bounds
 pub mod ReportOrder
 pub mod Halves
+pub mod Renumbering
 pub mod Exit
 pub mod Marks
 -- demand 3, and counts on points

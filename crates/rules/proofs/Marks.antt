@@ -3,7 +3,7 @@
 -- node of its layer with its mark. Assumes nothing.
 use Prim.Native.Nat.{ℕ, zero, suc}
 use mathlib.Core.Path.{_≡_, refl, sym, ap, _∙_}
-use mathlib.Core.Bool.{Bool, true, false, not, cond}
+use mathlib.Core.Bool.{Bool, true, false, not, cond, Bool·not-not}
 use mathlib.Core.List.{List, [], _∷_, map}
 use mathlib.Core.Option.{Option, none, some}
 use native.Mathlib.Omega.{arith}
@@ -11,7 +11,7 @@ use lib.Dec.{eqb}
 use lib.ListN.{length, getD, take, drop, length-map, List·getD-map}
 use lib.Seq.{take-append-seam, ext-getD}
 use Rattle.rules.specs.declared.NodeRecord.{NodeRecord}
-use Rattle.rules.specs.Records.{Class, secret, Cell, input, NOT, XOR, AND, OR, register, Netlist, kindOf}
+use Rattle.rules.specs.Records.{Class, secret, Cell, input, Netlist, kindOf}
 use Rattle.rules.specs.Families.{Family, Families, families, familiesAt, holds, suspect, tested, reported, mark, marks, layerMarks, lowest, half, findings}
 use Rattle.rules.specs.Checks.{answered, admitted}
 use Rattle.rules.specs.Slices.{entry, markNumber, markOf, nodeRecord, nodeRecords, filled, nodesAfter, lowestMarked, FromMarks}
@@ -58,13 +58,8 @@ mark-told variables cell F = go (tested cell)
 
 -- kind 2 is not tested, and every other is
 pub tested-kind : (cell : Cell) → eqb (kindOf cell) 2 ≡ not (tested cell)
-unfolding kindOf tested
-tested-kind (input s) = refl
-tested-kind (NOT a) = refl
-tested-kind (XOR a b) = refl
-tested-kind (AND a b) = refl
-tested-kind (OR a b) = refl
-tested-kind (register a) = refl
+unfolding tested
+tested-kind cell = sym (Bool·not-not (eqb (kindOf cell) 2))
 
 -- ---- the marks of a layer
 

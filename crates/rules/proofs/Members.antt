@@ -1,9 +1,9 @@
--- A property of all that is in a list: of the empty list, and after a number in front, `insert` and `union`;
--- and of each entry. Each entry is in the list, and what is in it is an entry. Assumes nothing.
+-- A property of all that is in a list: of the empty list, and after a number in front, `insert`, `union`
+-- and `map`; and of each entry. Each entry is in the list, and what is in it is an entry. Assumes nothing.
 use Prim.Native.Nat.{ℕ, zero, suc, _<_}
 use mathlib.Core.Path.{_≡_, sym, subst}
 use mathlib.Core.Logic.{⊎-elim}
-use mathlib.Core.List.{List, [], _∷_}
+use mathlib.Core.List.{List, [], _∷_, map}
 use native.Mathlib.Omega.{arith}
 use lib.Dec.{T}
 use lib.ListN.{length, getD}
@@ -29,6 +29,11 @@ module _ (P : ℕ → Type 0) where
 
   pub all-union : (xs ys : List ℕ) → All P xs → All P ys → All P (union xs ys)
   all-union xs ys p q x t = ⊎-elim (p x) (q x) (union-cases x xs ys t)
+
+  -- what each becomes has it
+  pub all-map : (f : ℕ → ℕ) (xs : List ℕ) → All (λ x. P (f x)) xs → All P (map f xs)
+  all-map f [] h = all-none
+  all-map f (x ∷ xs) h = all-front (f x) (map f xs) (h x (member-head x xs)) (all-map f xs (λ y t. h y (member-tail y x xs t)))
 
   -- each entry has it, and so has what stands for an entry beyond the last
   pub all-at : (xs : List ℕ) (d : ℕ) → All P xs → P d → (i : ℕ) → P (getD xs i d)

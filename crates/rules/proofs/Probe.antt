@@ -11,9 +11,9 @@ use lib.Dec.{T}
 use lib.ListN.{length, getD, take}
 use Rattle.rules.specs.Lists.{member, union, count}
 use Rattle.rules.specs.Tables.{table}
-use Rattle.rules.specs.Records.{secret, mask, Cell, input, NOT, XOR, AND, OR, register, Netlist}
-use Rattle.rules.specs.Values.{Assignment, exclusiveOr, valueRule, values, feedingRule, feedings, feeding, howMany, settings, make, Pattern, matches, giving, CountsAgree}
-use Rattle.rules.specs.Families.{Family, Families, constant, spread, settledRule, glitchRule, familiesRule, families, familiesAt, holds, suspect}
+use Rattle.rules.specs.Records.{secret, mask, NOT, XOR, AND, OR, register, Cell, input, gate, Netlist, listed, fromOperands, kindOf, operands}
+use Rattle.rules.specs.Values.{Assignment, exclusiveOr, valueOf, valueRule, values, isPoint, joined, feedingRule, feedings, feeding, howMany, settings, make, Pattern, matches, giving, CountsAgree}
+use Rattle.rules.specs.Families.{Family, Families, constant, spread, settledOf, glitchOf, familyRule, familiesRule, families, familiesAt, holds, suspect}
 use Rattle.rules.specs.Checks.{answered, read}
 use Rattle.rules.specs.Slices.{reply}
 use Rattle.rules.specs.Demands.{GlitchClear, NoSuspect, NothingSuspect, OneProbe}
@@ -70,12 +70,23 @@ module _ (K L : List Assignment) (settled : Assignment → List Bool) where
       named : (x : Assignment) (z : Pattern) → (Bool·beq (getD (settled x) i false) (z i) && true) ≡ Bool·beq (g x) (z i)
       named x z = and-true (Bool·beq (getD (settled x) i false) (z i)) ∙ ap (λ (b : Bool). Bool·beq b (z i)) (own x)
 
-  -- a gate of two operands, whose patterns are those of both
-  good-pair : (F G : Families) (P Q : List ℕ) (g h : Assignment → Bool) → Good F P g → Good G Q h
-      → (z : Pattern) → Holds K L (spread (F .glitch) (G .glitch)) (λ x. matches (settled x) (union P Q) z)
-  good-pair F G P Q g h a b z =
-      subst (λ (t : Assignment → Bool). Holds K L (spread (F .glitch) (G .glitch)) t) (fun-ext (λ x. sym (matches-union (settled x) P Q z)))
-      (holds-both K L (F .glitch) (G .glitch) (λ x. matches (settled x) P z) (λ x. matches (settled x) Q z) (a .patterns z) (b .patterns z))
+  -- a family holds every pattern on some points
+  abbrev HoldsOn : Family → List ℕ → Type 0
+  HoldsOn F P = (z : Pattern) → Holds K L F (λ x. matches (settled x) P z)
+
+  -- those of an operand, of a family that has more, of the last operand, and of an operand with those behind it
+  holds-within : (F G : Family) (P : List ℕ) → ((A : ℕ) → T (member A F) → T (member A G)) → HoldsOn F P → HoldsOn G P
+  holds-within F G P more holds z = holds-more K L F G (λ x. matches (settled x) P z) more (holds z)
+
+  holds-last : (F : Family) (P : List ℕ) → HoldsOn F P → HoldsOn F (union P [])
+  unfolding matches
+  holds-last F P holds z =
+      subst (Holds K L F) (fun-ext (λ x. sym (matches-union (settled x) P [] z ∙ and-true (matches (settled x) P z)))) (holds z)
+
+  holds-with : (F G : Family) (P Q : List ℕ) → HoldsOn F P → HoldsOn G Q → HoldsOn (spread F G) (union P Q)
+  holds-with F G P Q p q z =
+      subst (Holds K L (spread F G)) (fun-ext (λ x. sym (matches-union (settled x) P Q z)))
+      (holds-both K L F G (λ x. matches (settled x) P z) (λ x. matches (settled x) Q z) (p z) (q z))
 
   -- entries of the three tables that belong together
   abbrev GoodEntries : ((l : Layer) → Entry l) → Type 0
@@ -85,29 +96,38 @@ module _ (K L : List Assignment) (settled : Assignment → List Bool) where
     abbrev value : ℕ → Assignment → Bool
     value a = λ x. getD (done (valueUnder x)) a false
 
+    abbrev own-families : ℕ → Families
+    own-families a = getD (done familiesOf) a constant
+
+    abbrev points : ℕ → List ℕ
+    points a = getD (done feedingOf) a []
+
+    -- the patterns of two operands
+    both-patterns : (a b : ℕ) → HoldsOn (spread (own-families a .glitch) (own-families b .glitch)) (union (points a) (union (points b) []))
+    both-patterns a b = holds-with _ _ _ _ (so-far a .patterns) (holds-last _ _ (so-far b .patterns))
+
     -- the rules of each kind, at node i
     good-node : (i : ℕ) → length (done feedingOf) ≡ i → (cell : Cell)
         → ((x : Assignment) → getD (settled x) i false ≡ valueRule x (done (valueUnder x)) cell) → GoodEntries (λ l. rule l (done l) cell)
-    unfolding familiesRule settledRule glitchRule feedingRule valueRule
+    unfolding familiesRule familyRule settledOf glitchOf feedingRule isPoint joined kindOf operands listed valueRule valueOf fromOperands
     good-node i e (input s) own = rw e (good-point (s ∷ []) i (exclusiveOr s) own (spans-input K L s))
-    good-node i e (NOT a) own = record {
+    good-node i e (gate NOT (a, ops)) own = record {
       spans = spans-not K L _ (value a) (so-far a .spans);
-      patterns = λ z.
-          holds-more K L _ _ (λ x. matches (settled x) (getD (done feedingOf) a []) z) (λ A inF. insert-old A 0 _ inF) (so-far a .patterns z);
+      patterns = holds-within _ _ _ (λ A inF. insert-old A 0 _ inF) (holds-last _ _ (so-far a .patterns));
     }
-    good-node i e (XOR a b) own = record {
+    good-node i e (gate XOR (a, (b, ops))) own = record {
       spans = spans-xor K L _ _ (value a) (value b) (so-far a .spans) (so-far b .spans);
-      patterns = good-pair _ _ _ _ _ _ (so-far a) (so-far b);
+      patterns = both-patterns a b;
     }
-    good-node i e (AND a b) own = record {
+    good-node i e (gate AND (a, (b, ops))) own = record {
       spans = spans-and K L _ _ (value a) (value b) (so-far a .spans) (so-far b .spans);
-      patterns = good-pair _ _ _ _ _ _ (so-far a) (so-far b);
+      patterns = both-patterns a b;
     }
-    good-node i e (OR a b) own = record {
+    good-node i e (gate OR (a, (b, ops))) own = record {
       spans = spans-or K L _ _ (value a) (value b) (so-far a .spans) (so-far b .spans);
-      patterns = good-pair _ _ _ _ _ _ (so-far a) (so-far b);
+      patterns = both-patterns a b;
     }
-    good-node i e (register a) own = rw e (good-point _ i (value a) own (so-far a .spans))
+    good-node i e (gate register (a, ops)) own = rw e (good-point _ i (value a) own (so-far a .spans))
 
 -- the glitch family of each node holds every pattern on its feeding points
 pub each-node : (K L : List Assignment) (n : Netlist) (i : ℕ) (z : Pattern)

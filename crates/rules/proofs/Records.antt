@@ -2,17 +2,20 @@
 -- its writing-out, and its own writing-out says it. By the list of checks, row by row, and by cases on the kinds.
 -- Assumes nothing.
 use Prim.Native.Nat.{ℕ, zero, suc, _+_, _*_, _/_, _%_, _≤_, _<_}
-use mathlib.Core.Path.{_≡_, refl, subst}
-use mathlib.Core.Bool.{Bool, true, false, _&&_}
-use mathlib.Core.List.{List, [], _∷_, _++_}
+use mathlib.Core.Path.{_≡_, refl, sym, ap, _∙_, subst}
+use mathlib.Core.Bool.{Bool, true, false, _&&_, _||_}
+use mathlib.Core.List.{List, [], _∷_, _++_, map}
 use native.Mathlib.Nat.{add-zero}
+use native.Mathlib.Decide.{decLe}
+use native.Mathlib.Numerals.{add-one}
 use native.Mathlib.Omega.{arith}
-use lib.Dec.{ltb}
-use lib.ListN.{length, getD, take, drop, length-append, length-drop}
-use lib.Seq.{take-add, getD-drop, getD-append-add}
+use lib.Dec.{T, ltb}
+use lib.ListN.{length, getD, take, drop, length-append, length-drop, List·getD-eq-default}
+use lib.Seq.{take-add, drop-cons, drop-append-add, getD-drop, getD-append-add}
 use borrow.Author.Tests.{leb-false, ltb-false, lt-leb, lt-ltb, le-ltb}
-use Rattle.rules.specs.Records.{Class, secret, mask, public, input, NOT, XOR, AND, OR, register, Record, end, variable, node, Netlist, classOf, said, kindOf, operands, body, classByte, recordBytes, size, last-kind, most-record}
+use Rattle.rules.specs.Records.{Class, secret, mask, public, Kind, kinds, kindNumber, operandCount, Operands, listed, firstOf, Cell, input, gate, Record, end, variable, node, Netlist, classOf, said, kindOf, body, classByte, recordBytes, size, last-kind, most-body, most-record}
 use Rattle.rules.specs.Checks.{answered, Check, check, judged, isVariable, isEnd, overLimit, undeclaredSet, badOperand, judgedRecord, recordAt}
+use Rattle.rules.proofs.Operands.{listed-length, listed-first, first-listed, first-same, known, kind-of-number}
 
 abbrev pub condition : Check → Bool
 condition (check k b p) = b
@@ -42,11 +45,11 @@ pub record Allowed (n : Netlist) (r : Record) : Type 0 where
 -- what they ask of a record and of the bytes that say it
 pub record Accepted (bytes : List ℕ) (n : Netlist) (here : ℕ) (r : Record) : Type 0 where
   pub allowed : Allowed n r
-  pub says : said (getD bytes here 0) (getD bytes (here + 1) 0) (getD bytes (here + 2) 0) ≡ r
+  pub says : said (getD bytes here 0) (drop (here + 1) bytes) ≡ r
   pub inside : here < length bytes
   pub kind : getD bytes here 0 ≤ last-kind
   pub fits : here + size r ≤ length bytes
-  pub class : (isVariable r && ltb 2 (getD bytes (here + 1) 0)) ≡ false
+  pub class : (isVariable r && ltb 2 (getD (drop (here + 1) bytes) 0 0)) ≡ false
   pub last : (isEnd r && ltb (here + 1) (length bytes)) ≡ false
 
 -- an accepted record obeys the checks
@@ -74,24 +77,43 @@ accept bytes n here r a =
 
 -- no record has more bytes than the longest
 pub size-most : (r : Record) → size r ≤ most-record
-unfolding size recordBytes kindOf body operands
+unfolding size recordBytes body
 size-most end = omega arith
 size-most (variable c) = omega arith
 size-most (node (input s)) = omega arith
-size-most (node (NOT a)) = omega arith
-size-most (node (XOR a b)) = omega arith
-size-most (node (AND a b)) = omega arith
-size-most (node (OR a b)) = omega arith
-size-most (node (register a)) = omega arith
+size-most (node (gate kind ops)) = omega (arith, listed-length (operandCount kind) ops, known kind .few)
 
 -- of a file's length a record sees only whether there is room for the longest record
-pub total-unseen : (t u v n here k b c : ℕ) → here + most-record ≤ t → here + most-record ≤ u → judgedRecord t v n here k b c ≡ judgedRecord u v n here k b c
+pub total-unseen : (t u v n here k : ℕ) (body : List ℕ) → here + most-record ≤ t → here + most-record ≤ u
+    → judgedRecord t v n here k body ≡ judgedRecord u v n here k body
 unfolding judgedRecord judged
-total-unseen t u v n here k b c p q =
-    let s = size (said k b c) in
-    let small = size-most (said k b c) in
+total-unseen t u v n here k body p q =
+    let s = size (said k body) in
+    let small = size-most (said k body) in
     rw (lt-leb t here (omega arith), le-ltb t (here + s) (omega arith), lt-ltb (here + 1) t (omega arith))
     (rw (lt-leb u here (omega arith), le-ltb u (here + s) (omega arith), lt-ltb (here + 1) u (omega arith)))
+
+-- of the bytes behind its kind byte it sees those of the longest body alone
+pub said-same : (k : ℕ) (l m : List ℕ) → ((j : ℕ) → j < most-body → getD l j 0 ≡ getD m j 0) → said k l ≡ said k m
+unfolding said
+said-same zero l m e = refl
+said-same (suc zero) l m e = rw (e 0 (omega arith))
+said-same (suc (suc zero)) l m e = rw (e 0 (omega arith), e 1 (omega arith))
+said-same (suc (suc (suc k))) l m e = go kinds k
+  where
+    go : (ks : List Kind) (j : ℕ)
+        → getD (map (λ kind. node (gate kind (firstOf (operandCount kind) l))) ks) j end
+        ≡ getD (map (λ kind. node (gate kind (firstOf (operandCount kind) m))) ks) j end
+    go [] j = refl
+    go (kind ∷ ks) zero =
+        ap (λ (ops : Operands (operandCount kind)). node (gate kind ops))
+        (first-same (operandCount kind) l m (λ j h. e j (omega (arith, known kind .few))))
+    go (kind ∷ ks) (suc j) = go ks j
+
+pub judged-same : (total v n here k : ℕ) (l m : List ℕ) → ((j : ℕ) → j < most-body → getD l j 0 ≡ getD m j 0)
+    → judgedRecord total v n here k l ≡ judgedRecord total v n here k m
+unfolding judgedRecord
+judged-same total v n here k l m e = rw (said-same k l m e, e 0 (omega arith))
 
 -- the class of a class's byte is that class, and a class byte is that of its class
 pub class-of-byte : (c : Class) → classOf (classByte c) ≡ c
@@ -107,60 +129,85 @@ byte-of-class (suc zero) h = refl
 byte-of-class (suc (suc zero)) h = refl
 byte-of-class (suc (suc (suc b))) h = absurd (omega arith)
 
--- three bytes that say a record begin with its writing-out
-said-bytes : (k b c : ℕ) → k ≤ last-kind → b < 256 → (isVariable (said k b c) && ltb 2 b) ≡ false
-    → recordBytes (said k b c) ≡ take (size (said k b c)) (k ∷ b ∷ c ∷ [])
-unfolding said size recordBytes kindOf body operands
-said-bytes zero b c h l e = refl
-said-bytes (suc zero) b c h l e = rw (byte-of-class b (ltb-false 2 b e))
-said-bytes (suc (suc zero)) b c h l e =
-    let low : (b + 256 * c) % 256 ≡ b = omega arith in
-    let high : (b + 256 * c) / 256 ≡ c = omega arith in
+-- a kind from 3 to the last says a gate or a register, and only a kind from 2 to the last says a node
+pub says-gate : (k : ℕ) (l : List ℕ) → 2 < k → k ≤ last-kind
+    → (kind : Kind) × (kindNumber kind ≡ k) × (said k l ≡ node (gate kind (firstOf (operandCount kind) l)))
+says-gate k l above below =
+    let (kind, number) = kind-of-number k above below in
+    (kind, number, subst (λ (j : ℕ). said j l ≡ node (gate kind (firstOf (operandCount kind) l))) number (known kind .says l))
+
+no-node : (r : Record) (cell : Cell) → (isEnd r || isVariable r) ≡ true → r ≡ node cell → ⊥
+no-node r cell other e = let no : true ≡ false = sym other ∙ ap (λ (x : Record). isEnd x || isVariable x) e in subst T no tt
+
+pub said-node : (k : ℕ) (l : List ℕ) (cell : Cell) → said k l ≡ node cell → (2 ≤ k) × (k ≤ last-kind)
+unfolding said
+said-node zero l cell e = absurd (no-node end cell refl e)
+said-node (suc zero) l cell e = absurd (no-node (variable (classOf (getD l 0 0))) cell refl e)
+said-node (suc (suc k)) l cell e = go (decLe (suc (suc k)) last-kind)
+  where
+    rows : List Record
+    rows = end ∷ variable (classOf (getD l 0 0)) ∷ node (input (getD l 0 0 + 256 * getD l 1 0)) ∷ map (λ kind. node (gate kind (firstOf (operandCount kind) l))) kinds
+
+    go : Dec (suc (suc k) ≤ last-kind) → (2 ≤ suc (suc k)) × (suc (suc k) ≤ last-kind)
+    go (yes h) = (omega arith, h)
+    go (no h) = absurd (no-node end cell refl (sym (List·getD-eq-default rows end {n = suc (suc k)} (omega arith)) ∙ e))
+
+-- a kind byte and a body that say a record begin with its writing-out, where the body is whole
+abbrev Begins : (k : ℕ) → List ℕ → Type 0
+Begins k l = size (said k l) ≤ 1 + length l → recordBytes (said k l) ≡ take (size (said k l)) (k ∷ l)
+
+gate-bytes : (kind : Kind) (l : List ℕ) → Begins (kindNumber kind) l
+unfolding size recordBytes kindOf body
+gate-bytes kind l =
+    let long = listed-length (operandCount kind) (firstOf (operandCount kind) l) in
+    rw (known kind .says l, long) (λ whole. rw (listed-first (operandCount kind) l (omega arith)))
+
+said-bytes : (k : ℕ) (l : List ℕ) → k ≤ last-kind → getD l 0 0 < 256 → (isVariable (said k l) && ltb 2 (getD l 0 0)) ≡ false → Begins k l
+unfolding said size recordBytes kindOf body
+said-bytes zero l h low e whole = refl
+said-bytes (suc zero) [] h low e whole = absurd (omega arith)
+said-bytes (suc zero) (b ∷ l) h low e whole = rw (byte-of-class b (ltb-false 2 b e))
+said-bytes (suc (suc zero)) [] h low e whole = absurd (omega arith)
+said-bytes (suc (suc zero)) (b ∷ []) h low e whole = absurd (omega arith)
+said-bytes (suc (suc zero)) (b ∷ c ∷ l) h low e whole =
+    let first : (b + 256 * c) % 256 ≡ b = omega arith in
+    let second : (b + 256 * c) / 256 ≡ c = omega arith in
     cc
-said-bytes (suc (suc (suc zero))) b c h l e = refl
-said-bytes (suc (suc (suc (suc zero)))) b c h l e = refl
-said-bytes (suc (suc (suc (suc (suc zero))))) b c h l e = refl
-said-bytes (suc (suc (suc (suc (suc (suc zero)))))) b c h l e = refl
-said-bytes (suc (suc (suc (suc (suc (suc (suc zero))))))) b c h l e = refl
-said-bytes (suc (suc (suc (suc (suc (suc (suc (suc k)))))))) b c h l e = absurd (omega arith)
+said-bytes (suc (suc (suc k))) l h low e whole =
+    let (kind, number) = kind-of-number (suc (suc (suc k))) (omega arith) h in
+    subst (λ (j : ℕ). Begins j l) number (gate-bytes kind l) whole
 
 -- each entry of a file is a byte
 abbrev pub Bytes : List ℕ → Type 0
 Bytes bytes = (i : ℕ) → getD bytes i 0 < 256
 
--- at most three entries, one by one
-window : (s : ℕ) (bytes : List ℕ) → s ≤ most-record → s ≤ length bytes → take s bytes ≡ take s (getD bytes 0 0 ∷ getD bytes 1 0 ∷ getD bytes 2 0 ∷ [])
-window zero bytes h l = refl
-window (suc s) [] h l = absurd (omega arith)
-window (suc zero) (x ∷ bytes) h l = refl
-window (suc (suc s)) (x ∷ []) h l = absurd (omega arith)
-window (suc (suc zero)) (x ∷ y ∷ bytes) h l = refl
-window (suc (suc (suc s))) (x ∷ y ∷ []) h l = absurd (omega arith)
-window (suc (suc (suc zero))) (x ∷ y ∷ z ∷ bytes) h l = refl
-window (suc (suc (suc (suc s)))) (x ∷ y ∷ z ∷ bytes) h l = absurd (omega arith)
-
 -- the bytes from an accepted record to the next are its writing-out
 pub next-bytes : (bytes : List ℕ) (n : Netlist) (here : ℕ) (r : Record) → Bytes bytes → Accepted bytes n here r
     → take (here + size r) bytes ≡ take here bytes ++ recordBytes r
 next-bytes bytes n here r low a =
-    let from = window (size r) (drop here bytes) (size-most r) (simp length-drop (omega arith)) in
-    let out = said-bytes _ _ (getD bytes (here + 2) 0) (a .kind) (low (here + 1)) (rw (a .says) (a .class)) in
-    cc (take-add here (size r) bytes, getD-drop here bytes 0 0, getD-drop here bytes 1 0, getD-drop here bytes 2 0, add-zero here)
+    let l = drop (here + 1) bytes in
+    let from : drop here bytes ≡ getD bytes here 0 ∷ l = rw (add-one here) (drop-cons bytes here 0 (a .inside)) in
+    let first : getD l 0 0 < 256 = rw (getD-drop (here + 1) bytes 0 0) (low (here + 1 + 0)) in
+    let whole : size (said (getD bytes here 0) l) ≤ 1 + length l = rw (a .says, length-drop (here + 1) bytes) (omega (arith, a .fits, a .inside)) in
+    let out = said-bytes (getD bytes here 0) l (a .kind) first (rw (a .says) (a .class)) whole in
+    take-add here (size r) bytes ∙ ap (λ (t : List ℕ). take here bytes ++ t) (ap (take (size r)) from ∙ sym (rw (a .says) at out))
 
 -- what a record's own bytes say, whatever comes behind them
 back : (r : Record) (rest : List ℕ) → let l = recordBytes r ++ rest in
-    (said (getD l 0 0) (getD l 1 0) (getD l 2 0) ≡ r) × (getD l 0 0 ≤ last-kind) × ((isVariable r && ltb 2 (getD l 1 0)) ≡ false) × (1 ≤ size r)
-unfolding size said classOf recordBytes kindOf body operands classByte
+    (said (getD l 0 0) (drop 1 l) ≡ r) × (getD l 0 0 ≤ last-kind) × ((isVariable r && ltb 2 (getD (drop 1 l) 0 0)) ≡ false) × (1 ≤ size r)
+unfolding size said classOf recordBytes kindOf body classByte
 back end rest = (refl, omega arith, refl, omega arith)
 back (variable secret) rest = (refl, omega arith, refl, omega arith)
 back (variable mask) rest = (refl, omega arith, refl, omega arith)
 back (variable public) rest = (refl, omega arith, refl, omega arith)
 back (node (input s)) rest = (let e : s % 256 + 256 * (s / 256) ≡ s = omega arith in cc, omega arith, refl, omega arith)
-back (node (NOT a)) rest = (refl, omega arith, refl, omega arith)
-back (node (XOR a b)) rest = (refl, omega arith, refl, omega arith)
-back (node (AND a b)) rest = (refl, omega arith, refl, omega arith)
-back (node (OR a b)) rest = (refl, omega arith, refl, omega arith)
-back (node (register a)) rest = (refl, omega arith, refl, omega arith)
+back (node (gate kind ops)) rest = (
+  known kind .says (listed (operandCount kind) ops ++ rest)
+      ∙ ap (λ (t : Operands (operandCount kind)). node (gate kind t)) (first-listed (operandCount kind) ops rest),
+  known kind .below,
+  refl,
+  omega arith,
+)
 
 -- a record that is allowed behind n is accepted from its bytes, wherever they stand
 pub accept-out : (before rest : List ℕ) (n : Netlist) (r : Record) → Allowed n r
@@ -171,13 +218,14 @@ accept-out before rest n r allowed last =
     let (says, kind, class, some) = back r rest in
     let at = getD-append-add before (recordBytes r ++ rest) in
     let first = rw add-zero at (at 0 0) in
+    let behind = drop-append-add before (recordBytes r ++ rest) 1 in
     accept _ n _ r
     (record {
       allowed = allowed;
-      says = rw (first, at 1 0, at 2 0) says;
+      says = rw (first, behind) says;
       inside = simp length-append (omega arith);
       kind = rw first kind;
       fits = simp length-append (omega arith);
-      class = rw (at 1 0) class;
+      class = rw behind class;
       last = last;
     })

@@ -10,15 +10,15 @@ use lib.ListN.{length, getD, length-append}
 use lib.Seq.{getD-append-seam}
 use borrow.Author.Tests.{lt-leb, le-ltb, eq-eqb}
 use Rattle.rules.specs.Lists.{member}
-use Rattle.rules.specs.Records.{Class, Cell, input, Record, end, variable, node, Netlist, WellFormed, most-variables, most-nodes, operands, recordBytes, size, variablesOut, nodesOut, writtenOut}
+use Rattle.rules.specs.Records.{Class, Cell, input, Record, end, variable, node, Netlist, empty, WellFormed, most-variables, most-nodes, operands, recordBytes, size, variablesOut, nodesOut, writtenOut}
 use Rattle.rules.specs.Checks.{answered, isEnd, overLimit, undeclared, undeclaredSet, notBelow, badOperand, Progress, reading, taken, step, after, read}
 use Rattle.rules.proofs.Tests.{or-right}
 use Rattle.rules.proofs.Records.{Allowed, accept-out}
-use Rattle.rules.proofs.Reading.{out, variables-append, nodes-append, out-variable, out-node, ends}
+use Rattle.rules.proofs.Reading.{out, variables-append, nodes-append, out-variable, out-node, read-ends}
 
 -- the reading of a file comes to this
 abbrev Comes : List ℕ → Progress → Type 0
-Comes bytes p = (k : ℕ) × (after bytes k ≡ p)
+Comes bytes p = (k : ℕ) × (after empty bytes k ≡ p)
 
 -- a property of the empty list that stays with each next entry holds of the whole list
 along : {A : Type 0} (P : List A → Type 0) (l : List A) → P []
@@ -83,4 +83,4 @@ unfolding taken overLimit undeclaredSet badOperand writtenOut recordBytes
 write-read n w =
     let last = le-ltb (length (out n) + 1) (length (writtenOut n)) (simp length-append (omega arith)) in
     let (k, e) = onwards (writtenOut n) [] n end refl (record { ordered = refl; room = refl; declared = refl; below = refl }) last (all-read n w) in
-    ends (writtenOut n) k (answered n) e
+    read-ends (writtenOut n) k (answered n) e

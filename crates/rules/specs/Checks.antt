@@ -4,7 +4,7 @@ use Prim.Native.Nat.{ℕ, zero, suc, _+_, _*_, _^_}
 use mathlib.Core.Bool.{Bool, true, false, _&&_, _||_}
 use mathlib.Core.List.{List, [], _∷_}
 use lib.Dec.{leb, ltb}
-use lib.ListN.{length, getD}
+use lib.ListN.{length, getD, drop}
 use Rattle.rules.specs.Records.{Record, end, variable, node, Netlist, empty, withVariable, withNode}
 use Rattle.rules.specs.Records.{most-variables, most-nodes, last-kind, said, size, operands, setOf}
 
@@ -66,28 +66,27 @@ badOperand n end = false
 badOperand n (variable c) = false
 badOperand n (node cell) = notBelow n (operands cell)
 
--- The record of kind k with the body b, c whose kind byte stands at `here`, in a file of `total` bytes, after `v`
+-- The record of kind k with this body whose kind byte stands at `here`, in a file of `total` bytes, after `v`
 -- variables and `n` nodes. Row 8 stands first: where the bytes have run out there is no kind byte to judge.
-unfoldable pub judgedRecord : (total v n here k b c : ℕ) → Outcome Record
-judgedRecord total v n here k b c =
-    let r = said k b c in
+unfoldable pub judgedRecord : (total v n here k : ℕ) (body : List ℕ) → Outcome Record
+judgedRecord total v n here k body =
+    let r = said k body in
     judged
     (check 8 (leb total here) total
     ∷ check 1 (ltb last-kind k) here
     ∷ check 2 (isVariable r && ltb 0 n) here
     ∷ check 3 (overLimit v n r) here
     ∷ check 4 (ltb total (here + size r)) here
-    ∷ check 5 (isVariable r && ltb 2 b) here
+    ∷ check 5 (isVariable r && ltb 2 (getD body 0 0)) here
     ∷ check 6 (undeclaredSet v r) here
     ∷ check 7 (badOperand n r) here
     ∷ check 9 (isEnd r && ltb (here + 1) total) (here + 1)
     ∷ [])
     r
 
--- what one record of a file says, after so many variables and nodes
+-- what one record of a file says, after so many variables and nodes: its body is in the bytes behind its kind byte
 abbrev pub judgedAt : List ℕ → (v n here : ℕ) → Outcome Record
-judgedAt bytes v n here =
-    judgedRecord (length bytes) v n here (getD bytes here 0) (getD bytes (here + 1) 0) (getD bytes (here + 2) 0)
+judgedAt bytes v n here = judgedRecord (length bytes) v n here (getD bytes here 0) (drop (here + 1) bytes)
 
 -- and after the variables and nodes of a netlist
 unfoldable pub recordAt : List ℕ → Netlist → (here : ℕ) → Outcome Record
@@ -111,10 +110,10 @@ unfoldable pub step : List ℕ → Progress → Progress
 step bytes (reading n here) = taken n here (recordAt bytes n here)
 step bytes (finished outcome) = finished outcome
 
--- after a number of records, taken in file order
-unfoldable pub after : List ℕ → (records : ℕ) → Progress
-after bytes zero = reading empty 0
-after bytes (suc records) = step bytes (after bytes records)
+-- after a number of records, taken in file order behind the variables and nodes of a netlist
+unfoldable pub after : Netlist → List ℕ → (records : ℕ) → Progress
+after n bytes zero = reading n 0
+after n bytes (suc records) = step bytes (after n bytes records)
 
 -- no file has more records than the variables and nodes there may be, and the end
 abbrev pub most-records : ℕ
@@ -125,9 +124,12 @@ unfoldable pub outcomeOf : List ℕ → Progress → Outcome Netlist
 outcomeOf bytes (reading n here) = refused 8 (length bytes)
 outcomeOf bytes (finished outcome) = outcome
 
--- what a whole file says: the netlist, or the refusal
+-- what a whole file says behind the variables and nodes of a netlist: the netlist with its own, or the refusal
+unfoldable pub readFrom : Netlist → List ℕ → Outcome Netlist
+readFrom n bytes = outcomeOf bytes (after n bytes most-records)
+
 unfoldable pub read : List ℕ → Outcome Netlist
-read bytes = outcomeOf bytes (after bytes most-records)
+read bytes = readFrom empty bytes
 
 -- ---- slices and queries, after reading
 

@@ -2,7 +2,7 @@
 -- Source document 001 calls the settled family the stable set of labels and the glitch family the transient one.
 -- Assumes nothing.
 use Prim.Native.Nat.{ℕ, suc, _/_}
-use mathlib.Core.Bool.{Bool, true, false, not, cond, _&&_, _||_}
+use mathlib.Core.Bool.{Bool, false, not, cond, _&&_, _||_}
 use mathlib.Core.List.{List, [], _∷_, map}
 use mathlib.Core.Option.{Option, none, some}
 use lib.Bits.{bitXor}
@@ -11,7 +11,8 @@ use lib.ListN.{length, getD}
 use Rattle.rules.specs.Lists.{insert, union}
 use Rattle.rules.specs.Tables.{table}
 use Rattle.rules.specs.Records.{Class, secret, mask, Netlist, odd, variableCount}
-use Rattle.rules.specs.Records.{Cell, input, NOT, XOR, AND, OR, register}
+use Rattle.rules.specs.Records.{Kind, NOT, XOR, AND, OR, register, operandCount, Rule, fromOperands}
+use Rattle.rules.specs.Records.{Cell, input, gate, kindOf}
 use Rattle.rules.specs.Values.{same}
 
 -- a family of sets: their numbers, each once
@@ -36,29 +37,31 @@ pub record Families : Type 0 where
 abbrev pub constant : Families
 constant = record { settled = 0 ∷ []; glitch = 0 ∷ [] }
 
--- an operand's families
-abbrev settledOf : List Families → ℕ → Family
-settledOf done a = (getD done a constant) .settled
-
-abbrev glitchOf : List Families → ℕ → Family
-glitchOf done a = (getD done a constant) .glitch
-
 -- the table's two columns
-unfoldable pub settledRule : List Families → Cell → Family
-settledRule done (input s) = s ∷ []
-settledRule done (NOT a) = settledOf done a
-settledRule done (XOR a b) = product (settledOf done a) (settledOf done b)
-settledRule done (AND a b) = spread (settledOf done a) (settledOf done b)
-settledRule done (OR a b) = spread (settledOf done a) (settledOf done b)
-settledRule done (register a) = settledOf done a
+unfoldable pub settledOf : (kind : Kind) → Rule Families Family (operandCount kind)
+settledOf NOT = λ F. F .settled
+settledOf XOR = λ F G. product (F .settled) (G .settled)
+settledOf AND = λ F G. spread (F .settled) (G .settled)
+settledOf OR = λ F G. spread (F .settled) (G .settled)
+settledOf register = λ F. F .settled
 
-unfoldable pub glitchRule : List Families → Cell → Family
-glitchRule done (input s) = s ∷ []
-glitchRule done (NOT a) = insert 0 (glitchOf done a)
-glitchRule done (XOR a b) = spread (glitchOf done a) (glitchOf done b)
-glitchRule done (AND a b) = spread (glitchOf done a) (glitchOf done b)
-glitchRule done (OR a b) = spread (glitchOf done a) (glitchOf done b)
-glitchRule done (register a) = settledOf done a
+unfoldable pub glitchOf : (kind : Kind) → Rule Families Family (operandCount kind)
+glitchOf NOT = λ F. insert 0 (F .glitch)
+glitchOf XOR = λ F G. spread (F .glitch) (G .glitch)
+glitchOf AND = λ F G. spread (F .glitch) (G .glitch)
+glitchOf OR = λ F G. spread (F .glitch) (G .glitch)
+glitchOf register = λ F. F .settled
+
+-- a family by such a column: an input's is its own set only
+unfoldable pub familyRule : ((kind : Kind) → Rule Families Family (operandCount kind)) → List Families → Cell → Family
+familyRule column done (input s) = s ∷ []
+familyRule column done (gate kind ops) = fromOperands (operandCount kind) (column kind) (λ a. getD done a constant) ops
+
+abbrev pub settledRule : List Families → Cell → Family
+settledRule = familyRule settledOf
+
+abbrev pub glitchRule : List Families → Cell → Family
+glitchRule = familyRule glitchOf
 
 unfoldable pub familiesRule : List Families → Cell → Families
 familiesRule done cell = record { settled = settledRule done cell; glitch = glitchRule done cell }
@@ -81,14 +84,9 @@ holds class (c ∷ variables) s = odd s && same class c || holds class variables
 unfoldable pub suspect : List Class → (set : ℕ) → Bool
 suspect variables s = holds secret variables s && not (holds mask variables s)
 
--- gates and registers are tested, input nodes are not
+-- gates and registers are tested, input nodes (kind 2) are not
 unfoldable pub tested : Cell → Bool
-tested (input s) = false
-tested (NOT a) = true
-tested (XOR a b) = true
-tested (AND a b) = true
-tested (OR a b) = true
-tested (register a) = true
+tested cell = not (eqb (kindOf cell) 2)
 
 -- The order of report (change request A2): the set with fewer variables comes first, and of two with
 -- as many the lower-numbered.

@@ -6,7 +6,7 @@ use mathlib.Core.Bool.{true, false, cond}
 use mathlib.Core.List.{List, [], _∷_, _++_}
 use lib.Dec.{leb, ltb}
 use lib.ListN.{length, drop}
-use Rattle.rules.specs.Records.{Cell, input, NOT, XOR, AND, OR, register, Netlist, most-nodes}
+use Rattle.rules.specs.Records.{Kind, NOT, XOR, AND, OR, register, Cell, input, gate, Netlist, most-nodes}
 use Rattle.rules.specs.Families.{Families, families, Finding, clear, suspectAt, findings}
 use Rattle.rules.specs.Checks.{Outcome, answered, refused, read}
 
@@ -30,13 +30,16 @@ line (field ∷ []) = field ++ (10 ∷ [])
 line (field ∷ other ∷ fields) = field ++ (32 ∷ line (other ∷ fields))
 
 -- the kind's name
+unfoldable pub nameOf : Kind → List ℕ
+nameOf NOT = word "not"
+nameOf XOR = word "xor"
+nameOf AND = word "and"
+nameOf OR = word "or"
+nameOf register = word "reg"
+
 unfoldable pub kindName : Cell → List ℕ
 kindName (input s) = word "in"
-kindName (NOT a) = word "not"
-kindName (XOR a b) = word "xor"
-kindName (AND a b) = word "and"
-kindName (OR a b) = word "or"
-kindName (register a) = word "reg"
+kindName (gate kind ops) = nameOf kind
 
 -- a line a node, from number i on: number, kind name, number of sets in the settled family, number in the glitch family
 unfoldable pub nodeLines : ℕ → List Cell → List Families → List ℕ

@@ -1,7 +1,7 @@
 -- Lists of numbers that hold each number once: what a family is (of set numbers) and what feeding points are (of node
 -- numbers); and of any list how many entries pass a test, the list without an entry, and one made entry by entry.
 -- Cited by the sections' definitions. Assumes nothing.
-use Prim.Native.Nat.{ℕ, zero, suc, _+_}
+use Prim.Native.Nat.{ℕ, zero, suc, _+_, max}
 use mathlib.Core.Bool.{Bool, true, false, cond, _||_}
 use mathlib.Core.List.{List, [], _∷_, _++_}
 use lib.Dec.{eqb}
@@ -25,6 +25,11 @@ insert x ys = cond (member x ys) ys (x ∷ ys)
 unfoldable pub union : List ℕ → List ℕ → List ℕ
 union [] ys = ys
 union (x ∷ xs) ys = insert x (union xs ys)
+
+-- the greatest of some numbers, 0 where there is none
+abbrev pub greatest : List ℕ → ℕ
+greatest [] = 0
+greatest (x ∷ xs) = max x (greatest xs)
 
 -- how many entries pass the test
 unfoldable pub count {ℓ} : {A : Type ℓ} → (A → Bool) → List A → ℕ

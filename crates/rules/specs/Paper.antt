@@ -6,11 +6,9 @@ use mathlib.Core.List.{List}
 use Rattle.rules.specs.declared.Half.{Half}
 use Rattle.rules.specs.declared.Half.the-variants.{Clear, Suspect}
 use Rattle.rules.specs.declared.Answer.{Answer}
+use Rattle.rules.specs.declared.Reason.{Reason}
+use Rattle.rules.specs.declared.Reason.the-variants as Reason
 use Rattle.rules.specs.declared.Refusal.{Refusal}
-use Rattle.rules.specs.declared.Refusal.the-variants.{UnknownKind, LateVariable, OverLimit, CutShort}
-use Rattle.rules.specs.declared.Refusal.the-variants.{UnknownClass, UndeclaredSet, BadOperand, NoEnd}
-use Rattle.rules.specs.declared.Refusal.the-variants.{BytesAfterEnd, FewEntries, ShortWork, NoSuchNode}
-use Rattle.rules.specs.declared.Refusal.the-variants.{UndeclaredBit, StillNamed, TooManySteps, NotInFamily}
 use Rattle.rules.specs.declared.Reply.{Reply}
 use Rattle.rules.specs.declared.Reply.the-variants.{Refused, Answered}
 use Rattle.rules.specs.declared.QueryOutcome.{QueryOutcome}
@@ -22,42 +20,31 @@ use Rattle.rules.specs.Families.{Finding, clear, suspectAt, Findings}
 use Rattle.rules.specs.Checks.{Outcome, answered, refused}
 use Rattle.rules.specs.Queries.{Given, Memberships}
 
+-- a reason's number, in document 01 and the requests
+abbrev pub reasonNumber : Reason → ℕ
+reasonNumber Reason.UnknownKind = 1
+reasonNumber Reason.LateVariable = 2
+reasonNumber Reason.OverLimit = 3
+reasonNumber Reason.CutShort = 4
+reasonNumber Reason.UnknownClass = 5
+reasonNumber Reason.UndeclaredSet = 6
+reasonNumber Reason.BadOperand = 7
+reasonNumber Reason.NoEnd = 8
+reasonNumber Reason.BytesAfterEnd = 9
+reasonNumber Reason.FewEntries = 10
+reasonNumber Reason.ShortWork = 11
+reasonNumber Reason.NoSuchNode = 12
+reasonNumber Reason.UndeclaredBit = 13
+reasonNumber Reason.StillNamed = 14
+reasonNumber Reason.TooManySteps = 15
+reasonNumber Reason.NotInFamily = 16
+
 -- a refusal's number and place
 abbrev pub numberOf : Refusal → ℕ
-numberOf (UnknownKind p) = 1
-numberOf (LateVariable p) = 2
-numberOf (OverLimit p) = 3
-numberOf (CutShort p) = 4
-numberOf (UnknownClass p) = 5
-numberOf (UndeclaredSet p) = 6
-numberOf (BadOperand p) = 7
-numberOf (NoEnd p) = 8
-numberOf (BytesAfterEnd p) = 9
-numberOf (FewEntries p) = 10
-numberOf (ShortWork p) = 11
-numberOf (NoSuchNode p) = 12
-numberOf (UndeclaredBit p) = 13
-numberOf (StillNamed p) = 14
-numberOf (TooManySteps p) = 15
-numberOf (NotInFamily p) = 16
+numberOf r = reasonNumber (r .reason)
 
 abbrev pub placeOf : Refusal → ℕ
-placeOf (UnknownKind p) = p
-placeOf (LateVariable p) = p
-placeOf (OverLimit p) = p
-placeOf (CutShort p) = p
-placeOf (UnknownClass p) = p
-placeOf (UndeclaredSet p) = p
-placeOf (BadOperand p) = p
-placeOf (NoEnd p) = p
-placeOf (BytesAfterEnd p) = p
-placeOf (FewEntries p) = p
-placeOf (ShortWork p) = p
-placeOf (NoSuchNode p) = p
-placeOf (UndeclaredBit p) = p
-placeOf (StillNamed p) = p
-placeOf (TooManySteps p) = p
-placeOf (NotInFamily p) = p
+placeOf r = r .place
 
 -- a half: clear, or node and set
 abbrev pub findingOf : Half → Finding

@@ -2,21 +2,93 @@
 -- Which records are refused is in `Checks`. Assumes nothing.
 use Prim.Native.Nat.{ℕ, zero, suc, _+_, _*_, _/_, _%_, _^_, _≤_, _<_}
 use mathlib.Core.Bool.{Bool}
-use mathlib.Core.List.{List, [], _∷_, _++_}
+use mathlib.Core.List.{List, [], _∷_, _++_, map}
 use lib.Dec.{T, eqb}
 use lib.ListN.{length, getD}
-use Rattle.rules.specs.Lists.{digit, member, count}
+use Rattle.rules.specs.Lists.{digit, member, greatest, count}
 
 -- the class of a variable
 pub data Class : Type 0 where
   secret mask public : Class
 
--- A node. An input has its set of variables; the others have their operands, which are numbers of lower nodes.
+-- ---- kinds and operands
+
+-- the kinds of node that have operands: the gates, and the register
+pub data Kind : Type 0 where
+  NOT XOR AND OR register : Kind
+
+-- the kinds from 3 on, as the table has them;
+abbrev pub kinds : List Kind
+kinds = NOT ∷ XOR ∷ AND ∷ OR ∷ register ∷ []
+
+-- the number of each, and how many operands it has
+abbrev pub rowOf : Kind → ℕ × ℕ
+rowOf NOT = (3, 1)
+rowOf XOR = (4, 2)
+rowOf AND = (5, 2)
+rowOf OR = (6, 2)
+rowOf register = (7, 1)
+
+abbrev pub kindNumber : Kind → ℕ
+kindNumber kind = rowOf kind .0
+
+abbrev pub operandCount : Kind → ℕ
+operandCount kind = rowOf kind .1
+
+-- so many operands, one beside the other
+abbrev pub Operands : ℕ → Type 0
+Operands zero = Unit {0}
+Operands (suc k) = ℕ × Operands k
+
+-- they as a list; the first k of a list, which goes on with 0; and each renamed
+unfoldable pub listed : (k : ℕ) → Operands k → List ℕ
+listed zero ops = []
+listed (suc k) (a, ops) = a ∷ listed k ops
+
+unfoldable pub firstOf : (k : ℕ) → List ℕ → Operands k
+firstOf zero l = tt
+firstOf (suc k) [] = (0, firstOf k [])
+firstOf (suc k) (a ∷ l) = (a, firstOf k l)
+
+unfoldable pub renamedAll : (ℕ → ℕ) → (k : ℕ) → Operands k → Operands k
+renamedAll f zero ops = tt
+renamedAll f (suc k) (a, ops) = (f a, renamedAll f k ops)
+
+-- a rule that makes a B of so many A, and what it makes of the operands' entries
+abbrev pub Rule : Type 0 → Type 0 → ℕ → Type 0
+Rule A B zero = B
+Rule A B (suc k) = A → Rule A B k
+
+unfoldable pub fromOperands : {A B : Type 0} (k : ℕ) → Rule A B k → (entryOf : ℕ → A) → Operands k → B
+fromOperands zero rule entryOf ops = rule
+fromOperands (suc k) rule entryOf (a, ops) = fromOperands k (rule (entryOf a)) entryOf ops
+
+-- A node. An input has its set of variables; the others have a kind and its operands, numbers of lower nodes.
 pub data Cell : Type 0 where
   input : (set : ℕ) → Cell
-  NOT : (operand : ℕ) → Cell
-  XOR AND OR : (first second : ℕ) → Cell
-  register : (operand : ℕ) → Cell
+  gate : (kind : Kind) → Operands (operandCount kind) → Cell
+
+-- a node's kind
+unfoldable pub kindOf : Cell → ℕ
+kindOf (input s) = 2
+kindOf (gate kind ops) = kindNumber kind
+
+-- the operands of a node
+unfoldable pub operands : Cell → List ℕ
+operands (input s) = []
+operands (gate kind ops) = listed (operandCount kind) ops
+
+-- an input's set, and the empty set for every other kind
+unfoldable pub setOf : Cell → ℕ
+setOf (input s) = s
+setOf (gate kind ops) = 0
+
+-- a node whose operands have other numbers
+unfoldable pub renamed : (ℕ → ℕ) → Cell → Cell
+renamed f (input s) = input s
+renamed f (gate kind ops) = gate kind (renamedAll f (operandCount kind) ops)
+
+-- ---- records and netlists
 
 -- what one record says
 pub data Record : Type 0 where
@@ -50,12 +122,15 @@ most-nodes = 200
 abbrev pub most-sets : ℕ
 most-sets = 2 ^ most-variables
 
--- the highest kind, and the most bytes that a record and a whole file have
+-- the highest kind, the most bytes that a record's body and a record have, and the most that a whole file has
 abbrev pub last-kind : ℕ
-last-kind = 7
+last-kind = 2 + length kinds
+
+abbrev pub most-body : ℕ
+most-body = greatest (2 ∷ map operandCount kinds)
 
 abbrev pub most-record : ℕ
-most-record = 3
+most-record = 1 + most-body
 
 abbrev pub most-bytes : ℕ
 most-bytes = 2 * most-variables + most-record * most-nodes + 1
@@ -64,57 +139,21 @@ most-bytes = 2 * most-variables + most-record * most-nodes + 1
 unfoldable pub classOf : ℕ → Class
 classOf b = getD (secret ∷ mask ∷ public ∷ []) b public
 
--- The record of kind k whose body begins with the bytes b and c; a kind above the last says nothing, and is refused.
-unfoldable pub said : (k b c : ℕ) → Record
-said k b c =
+-- The record of kind k whose body the bytes begin with; a kind above the last says nothing, and is refused.
+unfoldable pub said : (k : ℕ) (body : List ℕ) → Record
+said k body =
     getD
     (end
-    ∷ variable (classOf b)
-    ∷ node (input (b + 256 * c))
-    ∷ node (NOT b)
-    ∷ node (XOR b c)
-    ∷ node (AND b c)
-    ∷ node (OR b c)
-    ∷ node (register b)
-    ∷ [])
+    ∷ variable (classOf (getD body 0 0))
+    ∷ node (input (getD body 0 0 + 256 * getD body 1 0))
+    ∷ map (λ kind. node (gate kind (firstOf (operandCount kind) body))) kinds)
     k
     end
-
--- a node's kind
-unfoldable pub kindOf : Cell → ℕ
-kindOf (input s) = 2
-kindOf (NOT a) = 3
-kindOf (XOR a b) = 4
-kindOf (AND a b) = 5
-kindOf (OR a b) = 6
-kindOf (register a) = 7
-
--- the operands of a node
-unfoldable pub operands : Cell → List ℕ
-operands (input s) = []
-operands (NOT a) = a ∷ []
-operands (XOR a b) = a ∷ b ∷ []
-operands (AND a b) = a ∷ b ∷ []
-operands (OR a b) = a ∷ b ∷ []
-operands (register a) = a ∷ []
-
--- an input's set, and the empty set for every other kind
-unfoldable pub setOf : Cell → ℕ
-setOf (input s) = s
-setOf (NOT a) = 0
-setOf (XOR a b) = 0
-setOf (AND a b) = 0
-setOf (OR a b) = 0
-setOf (register a) = 0
 
 -- the body of a node's record: an input's set in 2 bytes, low first; else its operands
 unfoldable pub body : Cell → List ℕ
 body (input s) = s % 256 ∷ s / 256 ∷ []
-body (NOT a) = operands (NOT a)
-body (XOR a b) = operands (XOR a b)
-body (AND a b) = operands (AND a b)
-body (OR a b) = operands (OR a b)
-body (register a) = operands (register a)
+body (gate kind ops) = listed (operandCount kind) ops
 
 unfoldable pub classByte : Class → ℕ
 classByte secret = 0

@@ -14,13 +14,11 @@ use Rattle.rules.specs.Checks.{Outcome, answered, refused, andThen, admi
 
 -- An entry holds the kind, the first and second operand (0 where the kind has none) and an input's
 -- set (0 for every other kind),
+abbrev pub nodeOf : (kind : ℕ) (operands : List ℕ) (set : ℕ) → Node
+nodeOf kind operands set = record { kind = kind; first = getD operands 0 0; second = getD operands 1 0; set = set }
+
 unfoldable pub entry : Cell → Node
-entry cell = record {
-  kind = kindOf cell;
-  first = getD (operands cell) 0 0;
-  second = getD (operands cell) 1 0;
-  set = setOf cell;
-}
+entry cell = nodeOf (kindOf cell) (operands cell) (setOf cell)
 
 -- and what the node reports in each layer. A mark is the number of the set, and 0 for none: the empty set is never
 -- suspect, so that no node reports set 0 (`proofs/Marks`).

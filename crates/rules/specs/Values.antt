@@ -3,13 +3,15 @@
 -- anything that the checker wrote. Assumes nothing.
 use Prim.Native.Nat.{ℕ, zero, suc, _/_}
 use mathlib.Core.Path.{_≡_}
-use mathlib.Core.Bool.{Bool, true, false, not, _&&_, _||_, xor, Bool·beq}
+use mathlib.Core.Bool.{Bool, true, false, not, cond, _&&_, _||_, xor, Bool·beq}
 use mathlib.Core.List.{List, [], _∷_, _++_, map}
+use lib.Dec.{eqb}
 use lib.ListN.{length, getD}
 use Rattle.rules.specs.Lists.{union, count}
 use Rattle.rules.specs.Tables.{table}
-use Rattle.rules.specs.Records.{Class, secret, mask, public, Netlist, odd}
-use Rattle.rules.specs.Records.{Cell, input, NOT, XOR, AND, OR, register}
+use Rattle.rules.specs.Records.{Class, secret, mask, public, classByte, Netlist, odd}
+use Rattle.rules.specs.Records.{Kind, NOT, XOR, AND, OR, register, operandCount, Rule, fromOperands}
+use Rattle.rules.specs.Records.{Cell, input, gate, kindOf, operands}
 
 -- An assignment gives each variable 0 or 1: here its entry v is the value of variable v.
 abbrev pub Assignment : Type 0
@@ -22,27 +24,34 @@ exclusiveOr s (x ∷ xs) = xor (odd s && x) (exclusiveOr (s / 2) xs)
 
 -- The settled value of an input is the exclusive-or of its variables; of a register, its operand's value;
 -- of a gate, the usual function.
+unfoldable pub valueOf : (kind : Kind) → Rule Bool Bool (operandCount kind)
+valueOf NOT = not
+valueOf XOR = xor
+valueOf AND = _&&_
+valueOf OR = _||_
+valueOf register = λ a. a
+
 unfoldable pub valueRule : Assignment → List Bool → Cell → Bool
 valueRule x done (input s) = exclusiveOr s x
-valueRule x done (NOT a) = not (getD done a false)
-valueRule x done (XOR a b) = xor (getD done a false) (getD done b false)
-valueRule x done (AND a b) = getD done a false && getD done b false
-valueRule x done (OR a b) = getD done a false || getD done b false
-valueRule x done (register a) = getD done a false
+valueRule x done (gate kind ops) = fromOperands (operandCount kind) (valueOf kind) (λ a. getD done a false) ops
 
 -- the settled values of all nodes under an assignment
 unfoldable pub values : Netlist → Assignment → List Bool
 values n x = table (valueRule x) [] (n .nodes)
 
--- The feeding points of an input or register are itself; of a gate, all those of its operands, each listed once.
+-- an input or a register (kinds 2 and 7)
+unfoldable pub isPoint : Cell → Bool
+isPoint cell = eqb (kindOf cell) 2 || eqb (kindOf cell) 7
+
+-- all points of these nodes, each listed once
+unfoldable pub joined : (pointsOf : ℕ → List ℕ) → (nodes : List ℕ) → List ℕ
+joined pointsOf [] = []
+joined pointsOf (a ∷ nodes) = union (pointsOf a) (joined pointsOf nodes)
+
+-- The feeding points of an input or register are itself; of a gate, all those of its operands.
 -- (The glitch-extended probe.)
 unfoldable pub feedingRule : List (List ℕ) → Cell → List ℕ
-feedingRule done (input s) = length done ∷ []
-feedingRule done (NOT a) = getD done a []
-feedingRule done (XOR a b) = union (getD done a []) (getD done b [])
-feedingRule done (AND a b) = union (getD done a []) (getD done b [])
-feedingRule done (OR a b) = union (getD done a []) (getD done b [])
-feedingRule done (register a) = length done ∷ []
+feedingRule done cell = cond (isPoint cell) (length done ∷ []) (joined (λ a. getD done a []) (operands cell))
 
 -- the feeding points of all nodes, and of node i
 unfoldable pub feedings : Netlist → List (List ℕ)
@@ -55,15 +64,8 @@ feeding n i = getD (feedings n) i []
 
 -- whether two classes are the same
 unfoldable pub same : Class → Class → Bool
-same secret secret = true
-same secret mask = false
-same secret public = false
-same mask secret = false
-same mask mask = true
-same mask public = false
-same public secret = false
-same public mask = false
-same public public = true
+unfolding classByte
+same one other = eqb (classByte one) (classByte other)
 
 -- how many variables of a class there are
 unfoldable pub howMany : Class → List Class → ℕ

@@ -8,6 +8,12 @@ pub const MOST_VARIABLES: usize = 10;
 // The most nodes that a netlist may have.
 pub const MOST_NODES: usize = 200;
 
+// The highest kind of a record.
+pub const LAST_KIND: usize = 7;
+
+// The most bytes that a record has behind its kind byte: those of an input's set, or its operands.
+pub const MOST_BODY: usize = 2;
+
 // How many work bytes hold the families of every netlist, 256 a node.
 pub const MOST_WORK: usize = 256 * MOST_NODES;
 
@@ -43,41 +49,47 @@ pub struct Answer {
     pub glitch: Half,
 }
 
-// The refusals, in the order of their numbers from 1 to 16, each with its place. For 1 to 9 that is an offset in the
-// netlist bytes or, for the record of a new node, its node number; for the others it is said below.
-pub enum Refusal {
+// The reasons of refusals, in the order of their numbers from 1 on. For 1 to 9 the place is an offset in the netlist
+// bytes or, for the record of a new node, its node number; for the others it is said below.
+pub enum Reason {
     // A kind above 7.
-    UnknownKind(usize),
+    UnknownKind,
     // A variable after a node.
-    LateVariable(usize),
+    LateVariable,
     // The eleventh variable or the 201st node.
-    OverLimit(usize),
+    OverLimit,
     // The bytes end inside the body.
-    CutShort(usize),
+    CutShort,
     // A class above 2.
-    UnknownClass(usize),
+    UnknownClass,
     // A set bit whose variable is not declared.
-    UndeclaredSet(usize),
+    UndeclaredSet,
     // An operand not below the node's own number.
-    BadOperand(usize),
+    BadOperand,
     // The bytes run out with no end record.
-    NoEnd(usize),
+    NoEnd,
     // Bytes after the end record.
-    BytesAfterEnd(usize),
+    BytesAfterEnd,
     // Fewer entries of node records than nodes; the place is how many are needed.
-    FewEntries(usize),
+    FewEntries,
     // Less work than 256 bytes a node; the place is how many bytes are needed.
-    ShortWork(usize),
+    ShortWork,
     // A node number that is not below the count of nodes; the place is that number.
-    NoSuchNode(usize),
+    NoSuchNode,
     // An assignment or set with a bit of an undeclared variable; the place is its number.
-    UndeclaredBit(usize),
+    UndeclaredBit,
     // A node to be removed that another node uses; the place is the lowest such node.
-    StillNamed(usize),
+    StillNamed,
     // A derivation of more steps than there may be or than the slice takes; the place is how many fit.
-    TooManySteps(usize),
+    TooManySteps,
     // A set that is not in the family; the place is its number.
-    NotInFamily(usize),
+    NotInFamily,
+}
+
+// A refusal: a reason and a place.
+pub struct Refusal {
+    pub reason: Reason,
+    pub place: usize,
 }
 
 // What the checker replies: a refusal, which leaves both lent slices as they were, or the answer.

@@ -14,7 +14,7 @@ use lib.Dec.{T}
 use lib.ListN.{length, getD, drop, length-map, List·getD-map, List·getD-eq-default}
 use lib.Seq.{getD-drop}
 use Rattle.rules.specs.Lists.{member, tabulate}
-use Rattle.rules.specs.Records.{Class, Cell, input, Netlist, WellFormed, most-sets}
+use Rattle.rules.specs.Records.{Class, Cell, input, kindOf, Netlist, WellFormed, most-sets}
 use Rattle.rules.specs.Families.{Family, Families, constant, families, familiesAt, suspect, tested, reported, clear, suspectAt, mark, marks, layerMarks, lowest}
 use Rattle.rules.specs.Slices.{workBytes}
 use Rattle.rules.proofs.Tests.{pass, lt-or-le}
@@ -133,7 +133,7 @@ module _ (n : Netlist) (layer : ℕ) (bytes : List ℕ) where
   report-there j h = report-at j ∙ rw (tabulate-at (λ i. familyAt bytes (2 * i + layer)) (length (n .nodes)) j [] h)
 
   report-beyond : (j : ℕ) → length (n .nodes) ≤ j → getD (reportsIn n layer bytes) j none ≡ none
-  unfolding mark tested
+  unfolding mark tested kindOf
   report-beyond j h = report-at j ∙ rw (List·getD-eq-default (n .nodes) (input 0) {n = j} h)
 
   pub found-suspect : (from i A : ℕ) → from ≤ i → i < length (n .nodes) → Passed n layer bytes from i → reports n layer bytes i ≡ some A

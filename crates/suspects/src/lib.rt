@@ -1,7 +1,7 @@
 // The search for suspect sets in the work bytes: from any node on, the lowest suspect node with the set
 // that it reports; and of one part, its set. A map of the suspect sets says whether a part holds one,
 // and only then its sets are tried, in the order of their report. Reads the work bytes and writes to no lent slice.
-// Used by `marks`, `pair_search` and `edit_steps`.
+// Used by `marks`, `pair_tests`, `pair_search` and `edit_steps`.
 ghost use mathlib.Core.Path.{_≡_};
 ghost use mathlib.Core.Bool.{_&&_, cond};
 ghost use mathlib.Core.List.{List};

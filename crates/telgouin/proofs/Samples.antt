@@ -4,7 +4,7 @@ use mathlib.Core.Path.{_≡_, refl}
 use mathlib.Core.Bool.{true, false}
 use mathlib.Core.List.{[], _∷_}
 use Rattle.rules.specs.Listing.{word}
-use Rattle.read_words.specs.Words.{same}
+use Rattle.scanner.specs.Words.{same}
 use Rattle.telgouin.specs.Files.{hasWords, lineIn}
 
 -- a name ends in `.txt`, with nothing before it too; others do not, and one that is shorter does not

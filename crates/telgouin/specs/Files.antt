@@ -7,7 +7,7 @@ use lib.Dec.{eqb, ltb}
 use lib.ListN.{length, getD, drop}
 use Rattle.io.specs.Counts.{Counts}
 use Rattle.rules.specs.Listing.{word, most-input}
-use Rattle.read_words.specs.Words.{same}
+use Rattle.scanner.specs.Words.{same}
 use Rattle.read_words.specs.Meaning.{TellsBlock}
 use Rattle.read_words.specs.declared.BlockWords.the-variants as BlockWords
 use Rattle.telgouin.specs.declared.files.Read.{Read}

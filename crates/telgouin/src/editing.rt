@@ -26,7 +26,7 @@ use desk::say::say_found;
 use desk::say::say_no_number;
 use desk::say::say_refused;
 use desk::say::say_refused_node;
-use edit_lines::Asked;
+use edit_lines::Ask;
 use edit_turns::Told;
 use edit_turns::Turn;
 use libc::STDIN_FILENO;
@@ -60,17 +60,17 @@ struct Taken {
 
 // ---- what is printed of a line
 
-fn say_refused_edit(asked: Asked, refusal: Refusal) {
-    match asked {
-        Asked::Add(_, _, _, _) => say_refused_node(refusal),
+fn say_refused_edit(ask: Ask, refusal: Refusal) {
+    match ask {
+        Ask::Add(_) => say_refused_node(refusal),
         _ => say_refused(refusal, 0),
     }
 }
 
 // The answer for a block whose variables have these classes, or the refusal of an edit.
-fn say_reply(asked: Asked, reply: Reply, classes: [u8; MOST_VARIABLES]) {
+fn say_reply(ask: Ask, reply: Reply, classes: [u8; MOST_VARIABLES]) {
     match reply {
-        Reply::Refused(refusal) => say_refused_edit(asked, refusal),
+        Reply::Refused(refusal) => say_refused_edit(ask, refusal),
         Reply::Answered(answer) => say_answer(answer, classes),
     }
 }
@@ -82,7 +82,7 @@ fn words_end(line: &[u8]) -> usize
     let mut end = 0;
     let mut k = 0;
     while k < line.len() {
-        let word = read_words::word_at(line, k);
+        let word = scanner::word_at(line, k);
         let from = word.from;
         let to = word.to;
         if from == to {
@@ -118,7 +118,7 @@ fn shown_end(line: &[u8]) -> usize
 fn say_no_edit(line: &[u8]) {
     let end = shown_end(line);
     let words = &line[..end];
-    let word = read_words::word_at(words, 0);
+    let word = scanner::word_at(words, 0);
     let from = word.from;
     say(b"expected add RECORD, remove NODE, list, write OUT or quit, found: ");
     say_found(&words[from..]);
@@ -128,27 +128,27 @@ fn say_no_edit(line: &[u8]) {
 fn say_no_record(line: &[u8], fault: Fault) {
     let end = words_end(line);
     let words = &line[..end];
-    let word = read_words::word_at(words, 1);
+    let word = scanner::word_at(words, 1);
     let from = word.from;
     say_fault_found(fault, &words[from..]);
 }
 
 // The word behind `remove`, which is no number.
 fn say_no_node(line: &[u8]) {
-    let word = read_words::word_at(line, 1);
+    let word = scanner::word_at(line, 1);
     let from = word.from;
     let to = word.to;
     say_no_number(&line[from..to]);
 }
 
 // What is printed of an edit, and of a line that is none.
-fn say_told(asked: Asked, line: &[u8], reply: Reply, classes: [u8; MOST_VARIABLES]) {
-    match asked {
-        Asked::Add(_, _, _, _) => say_reply(asked, reply, classes),
-        Asked::Remove(_) => say_reply(asked, reply, classes),
-        Asked::NoRecord(fault) => say_no_record(line, fault),
-        Asked::NoNumber => say_no_node(line),
-        Asked::NoEdit => say_no_edit(line),
+fn say_told(ask: Ask, line: &[u8], reply: Reply, classes: [u8; MOST_VARIABLES]) {
+    match ask {
+        Ask::Add(_) => say_reply(ask, reply, classes),
+        Ask::Remove(_) => say_reply(ask, reply, classes),
+        Ask::NoRecord(fault) => say_no_record(line, fault),
+        Ask::NoNumber => say_no_node(line),
+        Ask::NoEdit => say_no_edit(line),
         _ => {}
     }
 }
@@ -204,18 +204,19 @@ fn obey(turn: Turn, line: &[u8], work: &mut [u8; MOST_WORK]) -> Taken
 {
     let obeyed = edit_turns::obey(turn, line, work);
     let asked = obeyed.asked;
+    let ask = asked.ask;
     let told = obeyed.told;
     let next = told.turn;
     let reply = told.reply;
-    match asked {
-        Asked::Write(from, to) => {
+    match ask {
+        Ask::Write(from, to) => {
             let written = write(next, &line[from..to]);
             Taken {
                 turn: written,
                 more: true,
             }
         }
-        Asked::List => {
+        Ask::List => {
             let answer = next.answer;
             let netlist = next.netlist;
             list_held(answer, netlist, work);
@@ -224,14 +225,14 @@ fn obey(turn: Turn, line: &[u8], work: &mut [u8; MOST_WORK]) -> Taken
                 more: true,
             }
         }
-        Asked::Quit => Taken {
+        Ask::Quit => Taken {
             turn: next,
             more: false,
         },
         _ => {
             let netlist = next.netlist;
             let classes = netlist.classes;
-            say_told(asked, line, reply, classes);
+            say_told(ask, line, reply, classes);
             Taken {
                 turn: next,
                 more: true,

@@ -14,8 +14,8 @@ use libc::STDIN_FILENO;
 use read_words::BlockWords;
 use read_words::MOST_BLOCK;
 use read_words::MOST_TEXT;
-use read_words::Number;
 use rules::Refusal;
+use scanner::Number;
 
 // The argument that names the file, and the first of the numbers behind it.
 const FILE: usize = 2;
@@ -34,7 +34,7 @@ fn take_number(i: usize, into: &mut [usize; MOST_NUMBERS], k: usize) -> bool
 {
     let mut word = io::buffer();
     let length = os::arg(i, &mut word);
-    match read_words::number_of(&word[..length]) {
+    match scanner::number_of(&word[..length]) {
         Number::Is(x) => {
             into[k] = x;
             true
@@ -175,7 +175,7 @@ pub fn has_words(name: &[u8]) -> bool
     if name.len() > 4 {
         from = name.len() - 4;
     }
-    read_words::is_word(&name[from..], b".txt")
+    scanner::is_word(&name[from..], b".txt")
 }
 
 // The block of the file that is named, in words or as bytes by its name.
@@ -211,7 +211,7 @@ pub fn read_block(
 {
     let mut path = io::buffer();
     let length = os::arg(FILE, &mut path);
-    if !read_words::is_word(&path[..length], b"-") {
+    if !scanner::is_word(&path[..length], b"-") {
         return read_named(&path[..length], bytes, lines);
     }
     if edits {
@@ -234,7 +234,7 @@ pub fn line_of(refusal: Refusal, lines: &[usize; MOST_BLOCK], last: usize) -> us
         return last;
     }
     let all: &[usize] = lines;
-    let place = refusals::place_of(refusal);
+    let place = refusal.place;
     if place < all.len() {
         return all[place];
     }

@@ -21,12 +21,12 @@ use desk::why;
 use files::MOST_NUMBERS;
 use files::ReadBlock;
 use read_words::MOST_BLOCK;
-use read_words::is_word;
 use rules::Answer;
 use rules::MOST_NODES;
 use rules::MOST_WORK;
 use rules::QueryOutcome;
 use rules::Reply;
+use scanner::is_word;
 
 // The commands; none where the first argument is no command's word.
 enum Command {

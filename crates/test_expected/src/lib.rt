@@ -108,13 +108,7 @@ pub type Numbers = [usize; 5];
 // The numbers of a reply.
 pub fn reply_numbers(reply: Reply) -> Numbers {
     match reply {
-        Reply::Refused(refusal) => [
-            refusals::number_of(refusal),
-            refusals::place_of(refusal),
-            0,
-            0,
-            0,
-        ],
+        Reply::Refused(refusal) => [refusals::number_of(refusal), refusal.place, 0, 0, 0],
         Reply::Answered(answer) => {
             let settled = answer.settled;
             let glitch = answer.glitch;

@@ -49,8 +49,7 @@ fn count_query(tally: &mut Tally, outcome: QueryOutcome, expected: Expected, sam
     let as_expected = match outcome {
         QueryOutcome::Answered => number == 0,
         QueryOutcome::Refused(refusal) => {
-            (refusals::number_of(refusal) == number)
-                & (refusals::place_of(refusal) == expected.place)
+            (refusals::number_of(refusal) == number) & (refusal.place == expected.place)
         }
     };
     count(tally, QUERIES + number - number / 12 * 2, 1);

@@ -342,7 +342,7 @@ fn ask(bytes: &[u8], claim: usize, slice: &mut [u8]) -> Reply {
     match reply {
         Derived::Refused(refusal) => Reply {
             number: refusals::number_of(refusal),
-            value: refusals::place_of(refusal),
+            value: refusal.place,
         },
         Derived::Steps(value) => Reply { number: 0, value },
     }

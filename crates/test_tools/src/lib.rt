@@ -109,7 +109,7 @@ fn print_letter(letter: u8, counts: &[usize], k: usize) -> usize {
 pub fn print_refusal(refusal: Refusal) {
     print(b" refused");
     print_number(refusals::number_of(refusal));
-    print_number(refusals::place_of(refusal));
+    print_number(refusal.place);
 }
 
 // A half of an answer, behind its name.

@@ -1,3 +1,2 @@
--- What is proved of bytes that are stored one behind the other, and of an open block's records.
-pub mod Bytes
+-- What is proved of the records of a netlist and of an open block.
 pub mod Records

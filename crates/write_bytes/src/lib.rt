@@ -14,39 +14,29 @@ ghost use Rattle.listing_lines.specs.Text.{Appended};
 ghost use Rattle.netlists.specs.Netlists.{flatOf};
 ghost use Rattle.edit_rules.specs.Meaning.{IsOpen};
 use edit_rules::State;
+use listing_lines::put_byte;
 use netlists::Netlist;
+use rules::MOST_BODY;
 use rules::MOST_NODES;
 use rules::MOST_VARIABLES;
 use rules::Node;
 use rules::NodeRecord;
 
-// At most 10 variable records of two bytes, 200 node records of three, and the end.
-pub const MOST_WRITTEN: usize = 2 * MOST_VARIABLES + 3 * MOST_NODES + 1;
+// At most 10 variable records of two bytes, 200 node records, each a kind byte and a body, and the end.
+pub const MOST_WRITTEN: usize = 2 * MOST_VARIABLES + (1 + MOST_BODY) * MOST_NODES + 1;
 
 // ---- one record
 
-// A record of two bytes, and one of three.
-fn put_two(out: &mut [u8], at: usize, kind: u8, first: u8) -> usize
+// Two bytes.
+fn put_two(out: &mut [u8], at: usize, first: u8, second: u8) -> usize
     requires { ⌜ at + 2 ≤ length (now out) ⌝ }
-    ensures { λ r. ⌜ Appended (now (out .entry)) (now (out .exit)) at r (kind ∷ first ∷ []) ⌝ }
+    ensures { λ r. ⌜ Appended (now (out .entry)) (now (out .exit)) at r (first ∷ second ∷ []) ⌝ }
 {
-    out[at] = kind;
-    out[at + 1] = first;
-    at + 2
+    let behind = put_byte(out, at, first);
+    put_byte(out, behind, second)
 }
 
-fn put_three(out: &mut [u8], at: usize, kind: u8, first: u8, second: u8) -> usize
-    requires { ⌜ at + 3 ≤ length (now out) ⌝ }
-    ensures { λ r. ⌜ Appended (now (out .entry)) (now (out .exit)) at r (kind ∷ first ∷ second ∷ []) ⌝ }
-{
-    out[at] = kind;
-    out[at + 1] = first;
-    out[at + 2] = second;
-    at + 3
-}
-
-// A node's record: an input's set in two bytes, low first; else its operands, one of a NOT or a register and two of an
-// XOR, AND or OR.
+// A node's record: its kind, and an input's set in two bytes, low first; else its operands.
 fn put_node(out: &mut [u8], at: usize, node: Node) -> usize
     requires { ⌜ at + most-record ≤ length (now out) ⌝ }
     ensures { λ r. ⌜ ((cell : Cell) → node ≡ entry cell →
@@ -54,14 +44,19 @@ fn put_node(out: &mut [u8], at: usize, node: Node) -> usize
     ensures few { λ r. ⌜ r ≤ at + most-record ⌝ }
 {
     let kind = node.kind;
-    let first = node.first;
-    let second = node.second;
     let set = node.set;
-    match kind {
-        2 => put_three(out, at, 2, (set % 256) as u8, (set / 256) as u8),
-        3 | 7 => put_two(out, at, kind, first),
-        _ => put_three(out, at, kind, first, second),
+    let operands = netlists::operands_of(node);
+    let count = records::operand_count(kind);
+    let mut end = put_byte(out, at, kind);
+    if kind == 2 {
+        return put_two(out, end, (set % 256) as u8, (set / 256) as u8);
     }
+    let mut j = 0;
+    while j < count {
+        end = put_byte(out, end, operands[j]);
+        j += 1;
+    }
+    end
 }
 
 // ---- all records

@@ -7,14 +7,19 @@ use mathlib.Core.Bool.{Bool, true, false, cond}
 use mathlib.Core.List.{List, [], _∷_, _++_, map, map-append, append-nil, append-assoc}
 use native.Mathlib.Nat.{mod-one, mod-lt, mod-eq-of-lt, div-eq-of-lt, suc-add, zero-add, lt-of-lt-of-le}
 use native.Mathlib.Omega.{arith}
-use lib.ListN.{length, getD, set}
+use lib.ListN.{length, getD, set, length-map}
 use lib.Pow.{pow-pos, pow-mono, mod-pow-add}
-use borrow.Author.Tests.{lt-ltb, eqb-true, eqb-false}
-use Rattle.rules.specs.Records.{Class, secret, mask, public, Cell, input, NOT, XOR, AND, OR, register, Record, end, variable, node, Netlist, WellFormed, operands, setOf, odd, recordBytes, variablesOut, nodesOut, writtenOut, most-variables, most-sets}
-use Rattle.rules.specs.Listing.{word, decimal, kindName}
+use borrow.Author.Tests.{lt-leb, lt-ltb, eqb-true, eqb-false}
+use Rattle.rules.specs.Records.{Class, secret, mask, public, Kind, NOT, XOR, AND, OR, register, operandCount, Operands, listed, Cell, input, gate, Record, end, variable, node, Netlist, WellFormed, operands, setOf, odd, recordBytes, variablesOut, nodesOut, writtenOut, most-variables, most-sets}
+use Rattle.rules.specs.Checks.{notBelow}
+use Rattle.rules.specs.Listing.{word, decimal, nameOf, kindName}
 use Rattle.rules.proofs.Each.{Each, each-append}
-use Rattle.rules.proofs.Members.{All, entry-member}
-use Rattle.read_words.specs.Words.{closed, linesBehind, same, Said, says, alone, withOperand, withOne, withTwo, withVariables, forms, readBy, recordIn, block, blockBehind, linesOf, blockIn}
+use Rattle.rules.proofs.Lists.{member-head, member-tail}
+use Rattle.rules.proofs.Members.{All}
+use Rattle.rules.proofs.Operands.{listed-length, first-listed}
+use Rattle.scanner.specs.Words.{closed, linesBehind, linesOf, same}
+use Rattle.read_words.specs.Words.{says, withNumbers, alone, operandIn, withOperands, withVariables, forms, readBy, recordIn, block, blockBehind, blockIn}
+use Rattle.read_words.proofs.Records.{so-many-operands}
 use Rattle.write_words.specs.Worded.{className, variablesBelow, numbersOf, recordWords, recordLine, recordLines, wordedOut}
 use Rattle.write_words.proofs.Worded.{lines-append}
 use Rattle.write_words.proofs.Reading.{cut-decimal, Field, plainly, known, decimal-field, bare, line-bare, bare-lineless, line-read, words-read}
@@ -23,7 +28,7 @@ use Rattle.write_words.proofs.Reading.{cut-decimal, Field, plainly, kno
 
 -- they are words of a line
 record-fields : (r : Record) → Each Field (recordWords r)
-unfolding word kindName className recordWords plainly
+unfolding word nameOf kindName className recordWords plainly
 record-fields end = (known (word "end") tt, tt)
 record-fields (variable c) = (class c, tt)
   where
@@ -35,11 +40,11 @@ record-fields (node cell) = (kind cell, numbers (numbersOf cell))
   where
     kind : (cell : Cell) → Field (kindName cell)
     kind (input s) = known (word "in") tt
-    kind (NOT a) = known (word "not") tt
-    kind (XOR a b) = known (word "xor") tt
-    kind (AND a b) = known (word "and") tt
-    kind (OR a b) = known (word "or") tt
-    kind (register a) = known (word "reg") tt
+    kind (gate NOT ops) = known (word "not") tt
+    kind (gate XOR ops) = known (word "xor") tt
+    kind (gate AND ops) = known (word "and") tt
+    kind (gate OR ops) = known (word "or") tt
+    kind (gate register ops) = known (word "reg") tt
 
     numbers : (xs : List ℕ) → Each Field (map decimal xs)
     numbers [] = tt
@@ -53,10 +58,14 @@ Small end = Unit {0}
 Small (variable c) = Unit {0}
 Small (node cell) = (setOf cell < most-sets) × All (λ a. a < 256) (operands cell)
 
--- an operand
-operand-read : (goes-on : ℕ → Said) (a : ℕ) → a < 256 → withOperand goes-on (decimal a) ≡ goes-on a
-unfolding withOperand
-operand-read goes-on a h = rw (cut-decimal 256 a h (omega arith), lt-ltb a 256 h)
+-- operands: each is below 256
+operands-below : (l : List ℕ) → All (λ a. a < 256) l → (map operandIn (map decimal l) ≡ l) × (notBelow 256 l ≡ false)
+unfolding notBelow
+operands-below [] h = (refl, refl)
+operands-below (a ∷ l) h =
+    let own = h a (member-head a l) in
+    let (others, below) = operands-below l (λ b t. h b (member-tail b a l t)) in
+    (rw (cut-decimal 256 a own (omega arith), others), rw (lt-leb 256 a own, below))
 
 -- the variables of an input
 one-bit-more : (k s : ℕ) → s % 2 ^ suc k ≡ (s / 2 ^ k % 2) * 2 ^ k + s % 2 ^ k
@@ -82,39 +91,38 @@ variables-read zero s rest h = rw (mod-one s)
 variables-read (suc k) s rest h = rw (map-append, append-assoc, variables-read k s _ (omega arith)) (next-variable k s rest h (odd (s / 2 ^ k)) refl)
 
 -- what stands behind a name is read
-one-read : (cell : ℕ → Cell) (a : ℕ) → a < 256 → withOne cell (decimal a ∷ []) ≡ says (node (cell a))
-unfolding withOne
-one-read cell a h = operand-read _ a h
-
-two-read : (cell : ℕ → ℕ → Cell) (a b : ℕ) → a < 256 → b < 256 → withTwo cell (decimal a ∷ decimal b ∷ []) ≡ says (node (cell a b))
-unfolding withTwo
-two-read cell a b h l = operand-read _ a h ∙ operand-read _ b l
+operands-read : (kind : Kind) (ops : Operands (operandCount kind)) → All (λ a. a < 256) (listed (operandCount kind) ops)
+    → withOperands kind (map decimal (listed (operandCount kind) ops)) ≡ says (node (gate kind ops))
+operands-read kind ops h =
+    let own = listed (operandCount kind) ops in
+    let (same-numbers, below) = operands-below own h in
+    let first = rw append-nil at (first-listed (operandCount kind) ops []) in
+    rw (so-many-operands kind (map decimal own) (length-map own decimal ∙ listed-length (operandCount kind) ops), same-numbers, below, first)
 
 input-read : (s : ℕ) → s < most-sets → withVariables 0 (map decimal (variablesBelow most-variables s)) ≡ says (node (input s))
 unfolding withVariables
 input-read s h =
     ap (withVariables 0) (sym (append-nil (map decimal (variablesBelow most-variables s)))) ∙ variables-read most-variables s [] (omega arith) ∙ ap (λ (set : ℕ). says (node (input set))) (mod-eq-of-lt h)
 
-module _ (a : ℕ) where
-  first : (others : List ℕ) → All (λ x. x < 256) (a ∷ others) → a < 256
-  first others h = h a (entry-member (a ∷ others) 0 0 (omega arith))
-
-  second : (b : ℕ) → All (λ x. x < 256) (a ∷ b ∷ []) → b < 256
-  second b h = h b (entry-member (a ∷ b ∷ []) 0 1 (omega arith))
+-- by the name of its kind
+kind-read : (kind : Kind) (numbers : List (List ℕ)) → readBy forms (nameOf kind) numbers ≡ withOperands kind numbers
+unfolding readBy forms same word nameOf
+kind-read NOT numbers = refl
+kind-read XOR numbers = refl
+kind-read AND numbers = refl
+kind-read OR numbers = refl
+kind-read register numbers = refl
 
 -- the words of a record say the record
 pub record-read : (r : Record) → Small r → recordIn (recordWords r) ≡ says r
-unfolding recordIn readBy forms same alone word className kindName operands setOf variablesBelow numbersOf recordWords Small
+unfolding recordIn readBy forms same withNumbers alone word className kindName operands setOf variablesBelow numbersOf recordWords Small
 record-read end h = refl
 record-read (variable secret) h = refl
 record-read (variable mask) h = refl
 record-read (variable public) h = refl
 record-read (node (input s)) h = input-read s (h .0)
-record-read (node (NOT a)) h = one-read NOT a (first a [] (h .1))
-record-read (node (XOR a b)) h = two-read XOR a b (first a (b ∷ []) (h .1)) (second a b (h .1))
-record-read (node (AND a b)) h = two-read AND a b (first a (b ∷ []) (h .1)) (second a b (h .1))
-record-read (node (OR a b)) h = two-read OR a b (first a (b ∷ []) (h .1)) (second a b (h .1))
-record-read (node (register a)) h = one-read register a (first a [] (h .1))
+record-read (node (gate kind ops)) h =
+    rw (append-nil, kind-read kind (map decimal (listed (operandCount kind) ops))) (operands-read kind ops (h .1))
 
 -- ---- the block
 

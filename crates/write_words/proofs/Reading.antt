@@ -13,9 +13,9 @@ use Rattle.rules.specs.Listing.{decimal, line}
 use Rattle.rules.proofs.Each.{Each, each-append}
 use Rattle.rules.proofs.Tests.{lt-or-le, and-left, and-right}
 use Rattle.rules.proofs.Decimal.{decimal-less, decimal-more, standsFor, decimal-value, Digit, decimal-digits}
-use Rattle.read_words.specs.declared.Number.the-variants as Number
-use Rattle.read_words.specs.Numbers.{allDigits, valueBehind, numberBehind, numberIn}
-use Rattle.read_words.specs.Words.{closed, linesBehind, isBlank, startsComment, wordsBehind, words, cut}
+use Rattle.scanner.specs.declared.Number.the-variants as Number
+use Rattle.scanner.specs.Numbers.{allDigits, valueBehind, numberBehind, numberIn, cut}
+use Rattle.scanner.specs.Words.{closed, linesBehind, isBlank, startsComment, wordsBehind, words}
 
 -- ---- numbers
 

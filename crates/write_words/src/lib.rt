@@ -8,7 +8,7 @@ ghost use mathlib.Core.List.{List, _++_, map};
 ghost use Prim.Native.Nat.{ℕ, _+_, _*_, _≤_};
 ghost use lib.ListN.{length, drop};
 ghost use Rattle.rules.specs.Records as Records;
-ghost use Rattle.rules.specs.Records.{Class, Cell, WellFormed, classByte, most-variables, most-nodes};
+ghost use Rattle.rules.specs.Records.{Class, Cell, WellFormed, classByte, most-variables, most-nodes, most-body};
 ghost use Rattle.rules.specs.Slices.{entry};
 ghost use Rattle.listing_lines.specs.Text.{Room, Appended};
 ghost use Rattle.netlists.specs.Netlists.{flatOf};
@@ -17,7 +17,6 @@ ghost use Rattle.write_words.specs.Worded.{variablesBelow, numbersOf, fi
 ghost use Rattle.write_words.specs.Worded.{most-variable-line, most-numbers, most-node-line, most-words};
 use edit_rules::State;
 use listing_lines::name_of;
-use listing_lines::operands_of;
 use listing_lines::put_byte;
 use listing_lines::put_field;
 use listing_lines::put_name;
@@ -71,16 +70,20 @@ fn put_numbers(text: &mut [u8], at: usize, node: Node) -> usize
     requires { ⌜ Room (now text) at most-numbers ⌝ }
     ensures { λ r. ⌜ ((cell : Cell) → node ≡ entry cell →
         Appended (now (text .entry)) (now (text .exit)) at r (fields (numbersOf cell))) ⌝ }
-    ensures few { λ r. ⌜ (r ≤ at + most-numbers) × ((node .kind ≡ 2) ⊎ (r ≤ at + 8)) ⌝ }
+    ensures few { λ r. ⌜ (r ≤ at + most-numbers) × ((node .kind ≡ 2) ⊎ (r ≤ at + 4 * most-body)) ⌝ }
 {
     if node.kind == 2 {
         return put_set(text, at, node.set);
     }
-    let end = put_field(text, at, node.first as usize);
-    if operands_of(node.kind) == 1 {
-        return end;
+    let operands = netlists::operands_of(node);
+    let count = records::operand_count(node.kind);
+    let mut end = at;
+    let mut j = 0;
+    while j < count {
+        end = put_field(text, end, operands[j] as usize);
+        j += 1;
     }
-    put_field(text, end, node.second as usize)
+    end
 }
 
 // A node: the name of its kind, and its numbers.

@@ -6,30 +6,12 @@ use Rattle.bench_derivations.specs.Packed.{packedSteps}
 use Rattle.bench_derivations.proofs.telgouin_derive.Statement.{statement}
 use Rattle.bench_derivations.proofs.telgouin_derive.Tie as tie
 
-derive-requires : tie.Need-derive-requires
-derive-requires c κs = search needs
-
-enum-known-reply : tie.Need-enum-known-reply
-enum-known-reply c = search needs
-
-packed-requires : tie.Need-packed-requires
-packed-requires c κs = search needs
-
-enum-known-reply-2 : tie.Need-enum-known-reply-2
-enum-known-reply-2 c = search needs
-
-same-length : tie.Need-same-length
-same-length c = search needs
-
 returns : tie.Need-returns
 unfolding packedSteps
 returns c =
     let (reply, (steps, _)) = c .before .before .before .before .before .before .derive .ensures in
     let is = c .before .before .reply .given .1 in
     (c .packed .ensures ∙ ap packedSteps (sym (ap derivedOf is) ∙ reply), steps)
-
-same-length-2 : tie.Need-same-length-2
-same-length-2 c = search needs
 
 returns-2 : tie.Need-returns-2
 unfolding packedSteps
@@ -40,12 +22,5 @@ returns-2 c =
 pub telgouin-derive-spec : {M : Type 1} → statement M
 telgouin-derive-spec =
     tie.close
-    (tie.spec
-    derive-requires
-    enum-known-reply
-    packed-requires
-    enum-known-reply-2
-    same-length
-    returns
-    same-length-2
-    returns-2)
+    (tie.spec (λ c κs. search needs) (λ c. search needs) (λ c κs. search needs) (λ c. search needs)
+    (λ c. search needs) returns (λ c. search needs) returns-2)

@@ -9,15 +9,6 @@ use Rattle.checker.proofs.admit.Tie as tie
 slices-fit-requires : tie.Need-slices-fit-requires
 slices-fit-requires c κs = few-nodes (c .before .pre)
 
-enum-known-refusal : tie.Need-enum-known-refusal
-enum-known-refusal c = search needs
-
-refused-requires : tie.Need-refused-requires
-refused-requires c κs = search needs
-
-enum-told : tie.Need-enum-told
-enum-told c = search needs
-
 answer-requires : tie.Need-answer-requires
 answer-requires c κs =
     let told = c .before .before .before in
@@ -30,9 +21,6 @@ returns c =
     rw (too-short (taken .before .before .slices-fit .ensures) n (value-count n e) (taken .refusal .given .1))
     (refusal _ _ _ _ _ refl refl (c .refused .ensures .0) (c .refused .ensures .1))
 
-same-length : tie.Need-same-length
-same-length c = search needs
-
 returns-2 : tie.Need-returns-2
 returns-2 c =
     let answered = c .before .before in
@@ -41,4 +29,7 @@ returns-2 c =
     rw (both-hold (taken .before .before .slices-fit .ensures) n (value-count n e) (taken .enum-told .given .1)) (answered .answer .ensures n e)
 
 pub admit-spec : {M : Type 1} → statement M
-admit-spec = tie.close (tie.spec slices-fit-requires enum-known-refusal refused-requires enum-told answer-requires returns same-length returns-2)
+admit-spec =
+    tie.close
+    (tie.spec slices-fit-requires (λ c. search needs) (λ c κs. search needs) (λ c. search needs)
+    answer-requires returns (λ c. search needs) returns-2)

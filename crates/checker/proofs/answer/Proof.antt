@@ -8,9 +8,6 @@ use Rattle.checker.proofs.Core.{answers}
 use Rattle.checker.proofs.answer.Statement.{statement}
 use Rattle.checker.proofs.answer.Tie as tie
 
-all-families-requires : tie.Need-all-families-requires
-all-families-requires c κs = search needs
-
 all-marks-requires : tie.Need-all-marks-requires
 all-marks-requires c κs =
     let ready = c .before .before .before .before .before .before .pre in
@@ -18,9 +15,6 @@ all-marks-requires c κs =
 
 read-marks-requires : tie.Need-read-marks-requires
 read-marks-requires c κs = few-nodes (c .before .before .before .before .before .before .before .pre .formed)
-
-same-length : tie.Need-same-length
-same-length c = search needs
 
 returns : tie.Need-returns
 returns c =
@@ -32,4 +26,6 @@ returns c =
 
 pub answer-spec : {M : Type 1} → statement M
 answer-spec =
-    tie.close (tie.spec all-families-requires all-marks-requires read-marks-requires same-length returns)
+    tie.close
+    (tie.spec (λ c κs. search needs) all-marks-requires read-marks-requires (λ c. search needs)
+    returns)

@@ -6,18 +6,6 @@ use Rattle.checker.proofs.Core.{of-read, of-refused, promises}
 use Rattle.checker.proofs.examine.Statement.{statement}
 use Rattle.checker.proofs.examine.Tie as tie
 
-read-requires : tie.Need-read-requires
-read-requires c κs = search needs
-
-enum-known-outcome : tie.Need-enum-known-outcome
-enum-known-outcome c = search needs
-
-refused-requires : tie.Need-refused-requires
-refused-requires c κs = search needs
-
-enum-told : tie.Need-enum-told
-enum-told c = search needs
-
 admit-requires : tie.Need-admit-requires
 admit-requires c κs = read-formed _ (read-stands _ (c .before .before .before .before .read .ensures) (c .before .enum-told .given .1))
 
@@ -28,9 +16,6 @@ returns c =
     (read-refused _ _ (c .before .before .before .before .before .read .ensures) (c .before .before .outcome .given .1))
     (c .refused .ensures .0) (c .refused .ensures .1))
 
-same-length : tie.Need-same-length
-same-length c = search needs
-
 returns-2 : tie.Need-returns-2
 returns-2 c =
     let stands = read-stands _ (c .before .before .before .before .before .before .before .read .ensures) (c .before .before .before .before .enum-told .given .1) in
@@ -39,12 +24,5 @@ returns-2 c =
 pub examine-spec : {M : Type 1} → statement M
 examine-spec =
     tie.close
-    (tie.spec
-    read-requires
-    enum-known-outcome
-    refused-requires
-    enum-told
-    admit-requires
-    returns
-    same-length
-    returns-2)
+    (tie.spec (λ c κs. search needs) (λ c. search needs) (λ c κs. search needs) (λ c. search needs)
+    admit-requires returns (λ c. search needs) returns-2)

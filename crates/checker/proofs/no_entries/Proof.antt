@@ -4,12 +4,9 @@ use Rattle.checker.specs.Work.{noEntries}
 use Rattle.checker.proofs.no_entries.Statement.{statement}
 use Rattle.checker.proofs.no_entries.Tie as tie
 
-blank-node-requires : tie.Need-blank-node-requires
-blank-node-requires c κs = search needs
-
 returns : tie.Need-returns
 unfolding noEntries
 returns c = rw (c .blank-node .ensures)
 
 pub no-entries-spec : {M : Type 1} → statement M
-no-entries-spec = tie.close (tie.spec blank-node-requires returns)
+no-entries-spec = tie.close (tie.spec (λ c κs. search needs) returns)

@@ -5,14 +5,8 @@ use Rattle.checker.proofs.Core.{looks}
 use Rattle.checker.proofs.read_marks.Statement.{statement}
 use Rattle.checker.proofs.read_marks.Tie as tie
 
-lowest-marked-requires : tie.Need-lowest-marked-requires
-lowest-marked-requires c κs = search needs
-
-lowest-marked-requires-2 : tie.Need-lowest-marked-requires-2
-lowest-marked-requires-2 c κs = search needs
-
 returns : tie.Need-returns
 returns c = looks _ _ _ _ (c .before .lowest-marked .ensures) (c .lowest-marked2 .ensures)
 
 pub read-marks-spec : {M : Type 1} → statement M
-read-marks-spec = tie.close (tie.spec lowest-marked-requires lowest-marked-requires-2 returns)
+read-marks-spec = tie.close (tie.spec (λ c κs. search needs) (λ c κs. search needs) returns)

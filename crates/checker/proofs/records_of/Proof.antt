@@ -15,41 +15,8 @@ Inv-loop netlist marks count records₀ i₀ records i = (i ≤ count) × (recor
 abbrev μ-loop : tie.MeasureT-loop
 μ-loop netlist marks count records₀ i₀ records i = count - i
 
-no-entries-requires : tie.Need-no-entries-requires Inv-loop μ-loop
-no-entries-requires c κs = search needs
-
 loop-holds : tie.Need-loop-holds Inv-loop μ-loop
 loop-holds c = (omega arith, rw (c .no-entries .ensures) (sym (stored-none _ _)))
-
-mul-t9 : tie.Need-mul-t9 Inv-loop μ-loop
-mul-t9 c = omega arith
-
-element-copy-out-t12 : tie.Need-element-copy-out-t12 Inv-loop μ-loop
-element-copy-out-t12 c = omega arith
-
-mul-t13 : tie.Need-mul-t13 Inv-loop μ-loop
-mul-t13 c = omega arith
-
-element-copy-out-t16 : tie.Need-element-copy-out-t16 Inv-loop μ-loop
-element-copy-out-t16 c = omega arith
-
-mul-t17 : tie.Need-mul-t17 Inv-loop μ-loop
-mul-t17 c = omega arith
-
-element-copy-out-t20 : tie.Need-element-copy-out-t20 Inv-loop μ-loop
-element-copy-out-t20 c = omega arith
-
-mul-records : tie.Need-mul-records Inv-loop μ-loop
-mul-records c = omega arith
-
-array-set-from-records : tie.Need-array-set-from-records Inv-loop μ-loop
-array-set-from-records c = omega arith
-
-add-i : tie.Need-add-i Inv-loop μ-loop
-add-i c = omega arith
-
-loop-less : tie.Need-loop-less Inv-loop μ-loop
-loop-less c = omega arith
 
 loop-again : tie.Need-loop-again Inv-loop μ-loop
 loop-again c =
@@ -65,20 +32,6 @@ returns c =
 pub records-of-spec : {M : Type 1} → statement M
 records-of-spec =
     tie.close
-    (tie.spec
-    Inv-loop
-    μ-loop
-    no-entries-requires
-    loop-holds
-    mul-t9
-    element-copy-out-t12
-    mul-t13
-    element-copy-out-t16
-    mul-t17
-    element-copy-out-t20
-    mul-records
-    array-set-from-records
-    add-i
-    loop-less
-    loop-again
-    returns)
+    (tie.spec Inv-loop μ-loop (λ c κs. search needs) loop-holds (λ c. omega arith)
+    (λ c. omega arith) (λ c. omega arith) (λ c. omega arith) (λ c. omega arith) (λ c. omega arith)
+    (λ c. omega arith) (λ c. omega arith) (λ c. omega arith) (λ c. omega arith) loop-again returns)

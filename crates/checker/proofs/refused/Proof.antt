@@ -6,15 +6,9 @@ use Rattle.marks.specs.Marks.{marksOf}
 use Rattle.checker.proofs.refused.Statement.{statement}
 use Rattle.checker.proofs.refused.Tie as tie
 
-no-records-requires : tie.Need-no-records-requires
-no-records-requires c κs = search needs
-
-no-marks-requires : tie.Need-no-marks-requires
-no-marks-requires c κs = search needs
-
 returns : tie.Need-returns
 unfolding marksOf layerMarks marks
 returns c = (refl, (c .before .no-records .ensures, c .no-marks .ensures))
 
 pub refused-spec : {M : Type 1} → statement M
-refused-spec = tie.close (tie.spec no-records-requires no-marks-requires returns)
+refused-spec = tie.close (tie.spec (λ c κs. search needs) (λ c κs. search needs) returns)

@@ -8,9 +8,6 @@ use Rattle.rules.specs.Checks.{andThen, judged, slicesFit}
 use Rattle.checker.proofs.slices_fit.Statement.{statement}
 use Rattle.checker.proofs.slices_fit.Tie as tie
 
-mul-bytes : tie.Need-mul-bytes
-mul-bytes c = search needs
-
 returns : tie.Need-returns
 unfolding slicesFit judged andThen
 returns c = record { says = λ n same. rw (← same, lt-ltb _ _ (c .if1 .taken)); room = λ is. let z : _≡_ {A = ℕ} 0 1 = cc in absurd (omega arith) }
@@ -24,4 +21,4 @@ unfolding slicesFit judged andThen
 returns-3 c = record { says = λ n same. rw (← same, le-ltb _ _ (c .before .if1 .left), le-ltb _ _ (c .if2 .left)); room = λ is. (omega arith, omega arith) }
 
 pub slices-fit-spec : {M : Type 1} → statement M
-slices-fit-spec = tie.close (tie.spec mul-bytes returns returns-2 returns-3)
+slices-fit-spec = tie.close (tie.spec (λ c. search needs) returns returns-2 returns-3)

@@ -7,15 +7,6 @@ use Rattle.derivation_steps.proofs.Claims.{part-of}
 use Rattle.derivation_steps.proofs.has.Statement.{statement}
 use Rattle.derivation_steps.proofs.has.Tie as tie
 
-mul-holds : tie.Need-mul-holds
-mul-holds c = search needs
-
-add-holds : tie.Need-add-holds
-add-holds c = search needs
-
-holds-requires : tie.Need-holds-requires
-holds-requires c κs = search needs
-
 returns : tie.Need-returns
 unfolding claimed
 returns c =
@@ -23,4 +14,5 @@ returns c =
     c .holds .ensures ∙ ap (member _) (sym (part-of _ _ _ (start .pre .1) (start .pre .2)))
 
 pub has-spec : {M : Type 1} → statement M
-has-spec = tie.close (tie.spec mul-holds add-holds holds-requires returns)
+has-spec =
+    tie.close (tie.spec (λ c. search needs) (λ c. search needs) (λ c κs. search needs) returns)

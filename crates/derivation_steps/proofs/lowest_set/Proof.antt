@@ -59,9 +59,6 @@ returns c =
     let a = c .before .before .before .before .before .args in
     stopped (a .work .now) (a .layer) (a .first) (a .second) (a .set) _ (inv .1) (inv .0) (λ _. sym (c .before .works .ensures) ∙ c .if1 .taken)
 
-add-lowest : tie.Need-add-lowest Inv-loop μ-loop
-add-lowest c = search needs
-
 loop-less : tie.Need-loop-less Inv-loop μ-loop
 loop-less c = omega arith
 
@@ -79,13 +76,5 @@ returns-2 c =
 pub lowest-set-spec : {M : Type 1} → statement M
 lowest-set-spec =
     tie.close
-    (tie.spec
-    Inv-loop
-    μ-loop
-    loop-holds
-    works-requires
-    returns
-    add-lowest
-    loop-less
-    loop-again
-    returns-2)
+    (tie.spec Inv-loop μ-loop loop-holds works-requires returns (λ c. search needs) loop-less
+    loop-again returns-2)

@@ -8,50 +8,17 @@ use Rattle.derivation_steps.proofs.Bytes.{five-bytes}
 use Rattle.derivation_steps.proofs.put_step.Statement.{statement}
 use Rattle.derivation_steps.proofs.put_step.Tie as tie
 
-mul-from : tie.Need-mul-from
-mul-from c = search needs
-
-cast-steps : tie.Need-cast-steps
-cast-steps c = search needs
-
-slice-write-steps : tie.Need-slice-write-steps
-slice-write-steps c = search needs
-
-cast-steps-2 : tie.Need-cast-steps-2
-cast-steps-2 c = search needs
-
-add-steps : tie.Need-add-steps
-add-steps c = search needs
-
 slice-write-steps-2 : tie.Need-slice-write-steps-2
 slice-write-steps-2 c = rw (length-set) (omega (arith, c .before .before .pre .0))
-
-add-steps-2 : tie.Need-add-steps-2
-add-steps-2 c = search needs
 
 slice-write-steps-3 : tie.Need-slice-write-steps-3
 slice-write-steps-3 c = rw (length-set, length-set) (omega (arith, c .before .before .pre .0))
 
-cast-steps-3 : tie.Need-cast-steps-3
-cast-steps-3 c = search needs
-
-add-steps-3 : tie.Need-add-steps-3
-add-steps-3 c = search needs
-
 slice-write-steps-4 : tie.Need-slice-write-steps-4
 slice-write-steps-4 c = rw (length-set, length-set, length-set) (omega (arith, c .before .before .before .pre .0))
 
-cast-steps-4 : tie.Need-cast-steps-4
-cast-steps-4 c = search needs
-
-add-steps-4 : tie.Need-add-steps-4
-add-steps-4 c = search needs
-
 slice-write-steps-5 : tie.Need-slice-write-steps-5
 slice-write-steps-5 c = rw (length-set, length-set, length-set, length-set) (omega (arith, c .before .before .before .before .pre .0))
-
-same-length : tie.Need-same-length
-same-length c = search needs
 
 returns : tie.Need-returns
 unfolding stepBytes
@@ -63,20 +30,7 @@ returns c =
 pub put-step-spec : {M : Type 1} → statement M
 put-step-spec =
     tie.close
-    (tie.spec
-    mul-from
-    cast-steps
-    slice-write-steps
-    cast-steps-2
-    add-steps
-    slice-write-steps-2
-    add-steps-2
-    slice-write-steps-3
-    cast-steps-3
-    add-steps-3
-    slice-write-steps-4
-    cast-steps-4
-    add-steps-4
-    slice-write-steps-5
-    same-length
-    returns)
+    (tie.spec (λ c. search needs) (λ c. search needs) (λ c. search needs) (λ c. search needs)
+    (λ c. search needs) slice-write-steps-2 (λ c. search needs) slice-write-steps-3
+    (λ c. search needs) (λ c. search needs) slice-write-steps-4 (λ c. search needs)
+    (λ c. search needs) slice-write-steps-5 (λ c. search needs) returns)

@@ -1,18 +1,13 @@
 -- `way_of_both` meets its contract. Assumes nothing.
+use native.Mathlib.Omega.{arith}
 use borrow.Author.Needs.{needs}
-use Rattle.derivation_rules.specs.Derivations.{wayOfBoth}
-use Rattle.derivation_steps.specs.Meaning.{needsOf, Layered}
+use Rattle.derivation_rules.specs.Derivations.{claimed, productOf, needed}
 use Rattle.derivation_steps.proofs.way_of_both.Statement.{statement}
 use Rattle.derivation_steps.proofs.way_of_both.Tie as tie
 
--- src/lib.rt:83:9
-lowest-set-requires : tie.Need-lowest-set-requires
-lowest-set-requires c κs = search needs
-
--- src/lib.rt:78:1
 returns : tie.Need-returns
-unfolding wayOfBoth needsOf Layered
-returns c = (rw (c .lowest-set .ensures), (c .before .before .pre .3, c .before .before .pre .3))
+unfolding claimed productOf needed
+returns c = let low = c .before .before .pre .3 in (rw (c .lowest-set .ensures), (omega arith, omega arith, (low, (low, tt))))
 
 pub way-of-both-spec : {M : Type 1} → statement M
-way-of-both-spec = tie.close (tie.spec lowest-set-requires returns)
+way-of-both-spec = tie.close (tie.spec (λ c κs. search needs) (λ c. search needs) returns)

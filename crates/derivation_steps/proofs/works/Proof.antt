@@ -14,9 +14,6 @@ first-fails q e f = rw (← e, f)
 second-decides : {p q r s : Bool} → r ≡ p → r ≡ true → s ≡ q → s ≡ (p && q)
 second-decides e t f = rw (← e, t, f)
 
-has-requires : tie.Need-has-requires
-has-requires c κs = search needs
-
 returns : tie.Need-returns
 returns c = first-fails _ (c .before .has .ensures) (not-true _ (c .if1 .taken))
 
@@ -29,4 +26,4 @@ returns-2 : tie.Need-returns-2
 returns-2 c = second-decides (c .before .before .has .ensures) (not-false _ (c .before .if1 .left)) (c .has2 .ensures)
 
 pub works-spec : {M : Type 1} → statement M
-works-spec = tie.close (tie.spec has-requires returns has-requires-2 returns-2)
+works-spec = tie.close (tie.spec (λ c κs. search needs) returns has-requires-2 returns-2)

@@ -2,17 +2,22 @@
 -- that works, and behind it those of what it needs. The node number falls: an operand's is below that of the
 -- node whose step needs it, and so 2 × node + 1 of a claim falls to 2 × node of what its step needs, and that
 -- to the next claim's. Assumes nothing.
-use Prim.Native.Nat.{ℕ, _+_, _*_, _<_}
-use mathlib.Core.List.{append-nil}
+use Prim.Native.Nat.{ℕ, _+_, _*_, _-_, _≤_, _<_}
+use mathlib.Core.Path.{_≡_, refl}
+use mathlib.Core.List.{map}
+use native.Mathlib.Numerals.{add-one}
 use native.Mathlib.Omega.{arith}
 use borrow.Author.Needs.{needs}
 use borrow.Fn.Kinds.{In}
 use borrow.Fn.PlainCycle.{Measures, is, falls, and}
-use Rattle.derivation_rules.specs.Derivations.{explained}
-use Rattle.derivation_steps.specs.Meaning.{needsOf}
-use Rattle.derivations.specs.Written.{HeldEach}
+use lib.ListN.{length, take}
+use Rattle.rules.specs.Records as R
+use Rattle.netlists.specs.Netlists.{flatOf}
+use Rattle.derivation_rules.specs.Derivations.{explained, derivation}
+use Rattle.derivation_steps.specs.Meaning.{claimOf}
+use Rattle.derivations.specs.Written.{Written}
 use Rattle.derivations.proofs.Written.{written-none, written-full, written-more, written-step}
-use Rattle.derivations.proofs.Known.{held-higher, node-number, set-number, record-there, steps-some, needs-true, steps-of}
+use Rattle.derivations.proofs.Known.{held-higher, explained-next, node-number, set-number, record-there, steps-some, needs-true, steps-of}
 use Rattle.derivations.proofs.explain_cell.Reads as explain-cell
 use Rattle.derivations.proofs.explain_cell.Kinds as explain-cell-kinds
 use Rattle.derivations.proofs.+explain_cell+explain_operands.Lts-explain_cell as explain-cell-lts
@@ -125,64 +130,64 @@ explain-cell-returns-2 t c =
     rw (steps-of known held (chosen .result) (chosen .ensures .0) n e)
     (written-step _ (fits .if1 .left) (written .put-step .ensures) (c .before .before .explain-operands .ensures n e))
 
-explain-operands-enum-told : (t : ℕ) → explain-operands-lts.Need-enum-told (operands-calls t) (explain-operands-at t) explain-operands.Post
-explain-operands-enum-told t c = search needs
+-- the loop over the claims: so many are told, one behind the other
+abbrev Inv-loop : explain-operands-lts.InvT-loop
+Inv-loop netlist work node steps₀ at room way next₀ told₀ steps next told =
+    (told ≤ way .count) × (length steps ≡ length steps₀)
+    × ((n : R.Netlist) → netlist ≡ flatOf n → Written steps₀ steps at room next (explained (derivation n) (map claimOf (take told (way .claims)))))
 
-explain-operands-enum-known-needs : (t : ℕ) → explain-operands-lts.Need-enum-known-needs (operands-calls t) (explain-operands-at t) explain-operands.Post
-explain-operands-enum-known-needs t c = search needs
+abbrev μ-loop : explain-operands-lts.MeasureT-loop
+μ-loop netlist work node steps₀ at room way next₀ told₀ steps next told = way .count - told
 
-explain-operands-explain-cell-requires : (t : ℕ) → explain-operands-lts.Need-explain-cell-requires (operands-calls t) (explain-operands-at t) explain-operands.Post
-unfolding HeldEach
+explain-operands-loop-holds : (t : ℕ) → explain-operands-lts.Need-loop-holds (operands-calls t) (explain-operands-at t) explain-operands.Post Inv-loop μ-loop
+unfolding explained
+explain-operands-loop-holds t c = (omega arith, refl, λ n e. written-none _ _ _)
+
+explain-operands-mul-explain-cell :
+    (t : ℕ) → explain-operands-lts.Need-mul-explain-cell (operands-calls t) (explain-operands-at t) explain-operands.Post Inv-loop μ-loop
+explain-operands-mul-explain-cell t c = omega (arith, c .before .before .before .before .pre .1 .1 .few, c .loop-test .taken)
+
+explain-operands-element-copy-out-explain-cell :
+    (t : ℕ) → explain-operands-lts.Need-element-copy-out-explain-cell (operands-calls t) (explain-operands-at t) explain-operands.Post Inv-loop μ-loop
+explain-operands-element-copy-out-explain-cell t c = omega (arith, c .before .before .before .before .pre .1 .1 .few, c .loop-test .taken)
+
+explain-operands-explain-cell-requires :
+    (t : ℕ) → explain-operands-lts.Need-explain-cell-requires (operands-calls t) (explain-operands-at t) explain-operands.Post Inv-loop μ-loop
 explain-operands-explain-cell-requires t c κs =
     let start = c .before .before .before .before .before .before in
-    let (known, each, there, long, few) = start .pre .1 in
-    let one = rw (c .before .before .needs .given .1) at each in
-    (omega (arith, start .pre .0, one .below), (known, held-higher one (omega arith), long, few))
+    let loop = c .before .before in
+    let (known, needed, there, long, most) = start .pre .1 in
+    let held = needed .each _ (loop .loop-test .taken) in
+    (omega (arith, start .pre .0, held .below), (known, held-higher held (omega arith), omega (arith, long, loop .before .loop .inv .1), most))
 
-explain-operands-enum-known-needs-2 : (t : ℕ) → explain-operands-lts.Need-enum-known-needs-2 (operands-calls t) (explain-operands-at t) explain-operands.Post
-explain-operands-enum-known-needs-2 t c = search needs
+explain-operands-add-told : (t : ℕ) → explain-operands-lts.Need-add-told (operands-calls t) (explain-operands-at t) explain-operands.Post Inv-loop μ-loop
+explain-operands-add-told t c =
+    let loop = c .before .before .before .before .before in
+    omega (arith, loop .before .before .before .before .pre .1 .1 .few, loop .loop-test .taken)
 
-explain-operands-explain-cell-requires-2 :
-    (t : ℕ) → explain-operands-lts.Need-explain-cell-requires-2 (operands-calls t) (explain-operands-at t) explain-operands.Post
-unfolding HeldEach
-explain-operands-explain-cell-requires-2 t c κs =
-    let start = c .before .before .before .before .before .before in
-    let (known, each, there, long, few) = start .pre .1 in
-    let (first, second) = rw (c .before .before .needs2 .given .1) at each in
-    (omega (arith, start .pre .0, first .below), (known, held-higher first (omega arith), long, few))
+explain-operands-loop-less : (t : ℕ) → explain-operands-lts.Need-loop-less (operands-calls t) (explain-operands-at t) explain-operands.Post Inv-loop μ-loop
+explain-operands-loop-less t c = omega arith
 
-explain-operands-explain-cell-requires-3 :
-    (t : ℕ) → explain-operands-lts.Need-explain-cell-requires-3 (operands-calls t) (explain-operands-at t) explain-operands.Post
-unfolding HeldEach
-explain-operands-explain-cell-requires-3 t c κs =
-    let start = c .before .before .before .before .before .before .before .before .before .before in
-    let (known, each, there, long, few) = start .pre .1 in
-    let (first, second) = rw (c .before .before .before .before .before .before .needs2 .given .1) at each in (
-      omega (arith, start .pre .0, second .below),
-      (known, held-higher second (omega arith), omega (arith, long, c .before .before .before .explain-cell2 .kept .1 .1 .1 .0), few),
+explain-operands-loop-again : (t : ℕ) → explain-operands-lts.Need-loop-again (operands-calls t) (explain-operands-at t) explain-operands.Post Inv-loop μ-loop
+explain-operands-loop-again t c =
+    let loop = c .before .before .before .before .before in
+    let needed = loop .before .before .before .before .pre .1 .1 in
+    let (_, same, so-far) = loop .before .loop .inv in
+    let claims = loop .before .before .before .before .args .t4 .claims in (
+      omega (arith, loop .loop-test .taken),
+      omega (arith, same, c .before .before .explain-cell .kept .1 .1 .1 .0),
+      λ n e.
+          rw (add-one, explained-next (derivation n) claims (loop .before .loop .told) (omega (arith, loop .loop-test .taken, needed .all, needed .few)))
+          (written-more (so-far n e) (c .before .before .explain-cell .ensures n e)),
     )
 
-explain-operands-returns : (t : ℕ) → explain-operands-lts.Need-returns (operands-calls t) (explain-operands-at t) explain-operands.Post
-unfolding needsOf explained
-explain-operands-returns t c = λ n e. rw (c .enum-told .given .1) (written-none _ _ _)
+explain-operands-same-length : (t : ℕ) → explain-operands-lts.Need-same-length (operands-calls t) (explain-operands-at t) explain-operands.Post Inv-loop μ-loop
+explain-operands-same-length t c = c .before .loop .inv .1
 
-explain-operands-same-length : (t : ℕ) → explain-operands-lts.Need-same-length (operands-calls t) (explain-operands-at t) explain-operands.Post
-explain-operands-same-length t c = search needs
-
-explain-operands-returns-2 : (t : ℕ) → explain-operands-lts.Need-returns-2 (operands-calls t) (explain-operands-at t) explain-operands.Post
-unfolding needsOf explained
-explain-operands-returns-2 t c = λ n e. rw (c .before .before .before .before .before .needs .given .1, append-nil) (c .before .before .explain-cell .ensures n e)
-
-explain-operands-same-length-2 : (t : ℕ) → explain-operands-lts.Need-same-length-2 (operands-calls t) (explain-operands-at t) explain-operands.Post
-explain-operands-same-length-2 t c = search needs
-
-explain-operands-returns-3 : (t : ℕ) → explain-operands-lts.Need-returns-3 (operands-calls t) (explain-operands-at t) explain-operands.Post
-unfolding needsOf explained
-explain-operands-returns-3 t c =
-    let first = c .before .before .before .before .before .before in
-    λ n e.
-    rw (first .before .before .before .needs2 .given .1, append-nil)
-    (written-more (first .explain-cell2 .ensures n e) (c .before .before .explain-cell3 .ensures n e))
+explain-operands-returns : (t : ℕ) → explain-operands-lts.Need-returns (operands-calls t) (explain-operands-at t) explain-operands.Post Inv-loop μ-loop
+explain-operands-returns t c = λ n e.
+    let told : c .before .loop .told ≡ c .before .before .before .before .args .t4 .count = omega (arith, c .before .loop .inv .0, c .loop-test .left) in
+    rw (← told) (c .before .loop .inv .2 n e)
 
 pub +explain-cell+explain-operands-spec : {M : Type 1} → statement M
 +explain-cell+explain-operands-spec =
@@ -203,14 +208,14 @@ pub +explain-cell+explain-operands-spec : {M : Type 1} → statement M
     (operands-calls t)
     (explain-operands-at t)
     explain-operands.Post
-    (explain-operands-enum-told t)
-    (explain-operands-enum-known-needs t)
+    Inv-loop
+    μ-loop
+    (explain-operands-loop-holds t)
+    (explain-operands-mul-explain-cell t)
+    (explain-operands-element-copy-out-explain-cell t)
     (explain-operands-explain-cell-requires t)
-    (explain-operands-enum-known-needs-2 t)
-    (explain-operands-explain-cell-requires-2 t)
-    (explain-operands-explain-cell-requires-3 t)
-    (explain-operands-returns t)
+    (explain-operands-add-told t)
+    (explain-operands-loop-less t)
+    (explain-operands-loop-again t)
     (explain-operands-same-length t)
-    (explain-operands-returns-2 t)
-    (explain-operands-same-length-2 t)
-    (explain-operands-returns-3 t)
+    (explain-operands-returns t)

@@ -23,15 +23,6 @@ all-known : {value : Netlist} (f : Formed value) (before work : List ℕ) → le
     → ((n : R.Netlist) → value ≡ flatOf n → work ≡ workBytes (families n) ++ drop (length (workBytes (families n))) before) → Known value work
 all-known f before work size made = record { formed = f; rest = _; held = made (f .netlist) (f .is); size = size }
 
-ask-with-requires : tie.Need-ask-with-requires
-ask-with-requires c κs = search needs
-
-enum-known-outcome : tie.Need-enum-known-outcome
-enum-known-outcome c = search needs
-
-enum-told : tie.Need-enum-told
-enum-told c = search needs
-
 -- a query that stands
 stands : (c : tie.After-enum-told) → let asked = c .before .before .before in
     Stands (asked .ask-with .result) (queriedWith (asked .before .before .before .args .bytes .now) (asked .before .before .before .args .node) (asked .before .before .before .args .set))
@@ -40,9 +31,6 @@ stands c = read-stands _ (c .before .before .before .ask-with .ensures) (c .enum
 -- what is read has a netlist that obeys the record rules
 formed : (c : tie.After-enum-told) → Formed (c .before .before .before .ask-with .result .netlist)
 formed c = stands-formed _ _ (stands-with _ _ _ (stands c))
-
-slice-aggregate-all-families : tie.Need-slice-aggregate-all-families
-slice-aggregate-all-families c = search needs
 
 all-families-requires : tie.Need-all-families-requires
 all-families-requires c κs = all-ready (formed (c .before)) _ (length-replicate {A = ℕ} most-work 0)
@@ -60,9 +48,6 @@ returns c =
     let (reply, slice) = query-refused _ _ _ _ _ _ refuses _ in
     (reply, (slice, (λ count e. absurd (no-answer e), λ count e. absurd (no-answer e))))
 
-same-length : tie.Need-same-length
-same-length c = search needs
-
 returns-2 : tie.Need-returns-2
 returns-2 c =
     let told = c .before .before .before .before .before .before .before .before in
@@ -74,14 +59,6 @@ returns-2 c =
 pub derive-spec : {M : Type 1} → statement M
 derive-spec =
     tie.close
-    (tie.spec
-    ask-with-requires
-    enum-known-outcome
-    enum-told
-    slice-aggregate-all-families
-    all-families-requires
-    slice-aggregate-derive-held
-    derive-held-requires
-    returns
-    same-length
-    returns-2)
+    (tie.spec (λ c κs. search needs) (λ c. search needs) (λ c. search needs) (λ c. search needs)
+    all-families-requires slice-aggregate-derive-held derive-held-requires returns
+    (λ c. search needs) returns-2)

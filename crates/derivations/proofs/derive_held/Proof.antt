@@ -38,20 +38,11 @@ few c count is =
     let many = count-few _ _ _ _ slice _ _ (told c (formed .netlist) (formed .is)) count is in
     (many, omega arith, omega (arith, c .explain .kept .1 .1 .1 .0))
 
-fitting-requires : tie.Need-fitting-requires
-fitting-requires c κs = search needs
-
-slice-aggregate-explain : tie.Need-slice-aggregate-explain
-slice-aggregate-explain c = search needs
-
 explain-requires : tie.Need-explain-requires
 explain-requires c κs =
     let start = c .before .before .before .before in
     let (most, _) = fitting-few (length (start .args .steps .now)) in
     rw (c .before .fitting .ensures) (start .pre, omega arith, most)
-
-enum-known-reply : tie.Need-enum-known-reply
-enum-known-reply c = search needs
 
 mul-found : tie.Need-mul-found
 mul-found c = omega (arith, few (c .before .before .before .before) _ (c .before .reply .given .1) .2)
@@ -66,12 +57,6 @@ copy-requires : tie.Need-copy-requires
 copy-requires c κs =
     let (_, fits, whole) = few (c .before .before .before .before .before .before) _ (c .before .before .before .reply .given .1) in
     rw (length-take-le _ _ whole) fits
-
-enum-told : tie.Need-enum-told
-enum-told c = search needs
-
-same-length : tie.Need-same-length
-same-length c = search needs
 
 -- the reply and the slice once the steps are copied, for netlist bytes that are read as the netlist
 both : (c : tie.After-explain) (count : ℕ) → c .explain .result ≡ Steps count → (after : List ℕ)
@@ -120,16 +105,6 @@ returns-2 c =
 pub derive-held-spec : {M : Type 1} → statement M
 derive-held-spec =
     tie.close
-    (tie.spec
-    fitting-requires
-    slice-aggregate-explain
-    explain-requires
-    enum-known-reply
-    mul-found
-    array-share-prefix-found
-    slice-aggregate-copy
-    copy-requires
-    enum-told
-    same-length
-    returns
-    returns-2)
+    (tie.spec (λ c κs. search needs) (λ c. search needs) explain-requires (λ c. search needs)
+    mul-found array-share-prefix-found slice-aggregate-copy copy-requires (λ c. search needs)
+    (λ c. search needs) returns returns-2)

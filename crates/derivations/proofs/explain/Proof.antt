@@ -19,20 +19,11 @@ use Rattle.derivations.proofs.Told.{judged-refused, judged-passed, not-
 use Rattle.derivations.proofs.explain.Statement.{statement}
 use Rattle.derivations.proofs.explain.Tie as tie
 
-judge-requires : tie.Need-judge-requires
-judge-requires c κs = search needs
-
-enum-known-refusal : tie.Need-enum-known-refusal
-enum-known-refusal c = search needs
-
 returns : tie.Need-returns
 returns c = λ n e.
     told-refused _ _ _ _ _ _ _
     (judged-refused _ _ _ _ _ _ _ (ap queryOf (sym (c .before .refusal .given .1)) ∙ c .before .before .before .judge .ensures n e))
     refl
-
-enum-told : tie.Need-enum-told
-enum-told c = search needs
 
 -- the rows of the node and of the set pass
 passed : (c : tie.After-enum-told) (n : R.Netlist) → c .before .before .before .before .before .args .netlist ≡ flatOf n
@@ -70,9 +61,6 @@ explain-cell-requires c κs =
     let (known, long, few) = told .before .before .before .before .before .pre in
     (known, claim-held known _ (there told .0) (found (c .before) (known .formed .netlist) (known .formed .is)), long, few)
 
-same-length : tie.Need-same-length
-same-length c = search needs
-
 returns-3 : tie.Need-returns-3
 unfolding derived
 returns-3 c = λ n e.
@@ -82,9 +70,6 @@ returns-3 c = λ n e.
     (judged-passed _ _ _ _ _ (passed (within .before .before) n e)
     ∙ too-many _ _ _ _ _ (found within n e) (over-all all (c .if2 .taken)))
     refl
-
-same-length-2 : tie.Need-same-length-2
-same-length-2 c = search needs
 
 returns-4 : tie.Need-returns-4
 unfolding derived
@@ -98,15 +83,6 @@ returns-4 c = λ n e.
 pub explain-spec : {M : Type 1} → statement M
 explain-spec =
     tie.close
-    (tie.spec
-    judge-requires
-    enum-known-refusal
-    returns
-    enum-told
-    in-family-requires
-    returns-2
-    explain-cell-requires
-    same-length
-    returns-3
-    same-length-2
-    returns-4)
+    (tie.spec (λ c κs. search needs) (λ c. search needs) returns (λ c. search needs)
+    in-family-requires returns-2 explain-cell-requires (λ c. search needs) returns-3
+    (λ c. search needs) returns-4)

@@ -7,24 +7,6 @@ use Rattle.desk_text.specs.Desk.{behind, parted, countsText}
 use Rattle.desk_text.proofs.counts_fields.Statement.{statement}
 use Rattle.desk_text.proofs.counts_fields.Tie as tie
 
-slice-aggregate-put-fields : tie.Need-slice-aggregate-put-fields
-slice-aggregate-put-fields c = search needs
-
-slice-aggregate-put-fields-2 : tie.Need-slice-aggregate-put-fields-2
-slice-aggregate-put-fields-2 c = search needs
-
-put-fields-requires : tie.Need-put-fields-requires
-put-fields-requires c κs = search needs
-
-slice-aggregate-put-fields-3 : tie.Need-slice-aggregate-put-fields-3
-slice-aggregate-put-fields-3 c = search needs
-
-slice-aggregate-put-fields-4 : tie.Need-slice-aggregate-put-fields-4
-slice-aggregate-put-fields-4 c = search needs
-
-put-fields-requires-2 : tie.Need-put-fields-requires-2
-put-fields-requires-2 c κs = search needs
-
 returns : tie.Need-returns
 unfolding word behind parted countsText
 returns c =
@@ -33,11 +15,5 @@ returns c =
 pub counts-fields-spec : {M : Type 1} → statement M
 counts-fields-spec =
     tie.close
-    (tie.spec
-    slice-aggregate-put-fields
-    slice-aggregate-put-fields-2
-    put-fields-requires
-    slice-aggregate-put-fields-3
-    slice-aggregate-put-fields-4
-    put-fields-requires-2
-    returns)
+    (tie.spec (λ c. search needs) (λ c. search needs) (λ c κs. search needs) (λ c. search needs)
+    (λ c. search needs) (λ c κs. search needs) returns)

@@ -1,9 +1,9 @@
 -- `desk_text::feeding_fields` meets its contract. The loop's invariant: behind the word are the numbers of the marked
 -- nodes below i, each in at most four bytes with its blank. The measure is how many nodes are left. Assumes nothing.
-use Prim.Native.Nat.{ℕ, _+_, _*_, _-_, _≤_}
-use mathlib.Core.Path.{_≡_, ap}
+use Prim.Native.Nat.{_+_, _*_, _-_, _≤_}
+use mathlib.Core.Path.{_≡_}
 use mathlib.Core.Logic.{⊎-elim}
-use mathlib.Core.List.{List, map}
+use mathlib.Core.List.{map}
 use native.Mathlib.Omega.{arith}
 use borrow.Author.Needs.{needs}
 use Rattle.rules.specs.Listing.{word, decimal}
@@ -23,26 +23,14 @@ Inv-loop text₀ marks end₀ i₀ text end i =
 abbrev μ-loop : tie.MeasureT-loop
 μ-loop text₀ marks end₀ i₀ text end i = most-nodes - i
 
-slice-aggregate-put-word : tie.Need-slice-aggregate-put-word Inv-loop μ-loop
-slice-aggregate-put-word c = search needs
-
-put-word-requires : tie.Need-put-word-requires Inv-loop μ-loop
-put-word-requires c κs = search needs
-
 loop-holds : tie.Need-loop-holds Inv-loop μ-loop
 unfolding behind markedBelow
 loop-holds c = (omega arith, omega arith, appended-none _ _)
-
-array-read-if1 : tie.Need-array-read-if1 Inv-loop μ-loop
-array-read-if1 c = search needs
 
 put-field-requires : tie.Need-put-field-requires Inv-loop μ-loop
 put-field-requires c κs =
     let i = c .before .before .before .loop .i in
     omega (arith, decimal-short 3 i (omega arith) (omega arith))
-
-add-i : tie.Need-add-i Inv-loop μ-loop
-add-i c = search needs
 
 loop-less : tie.Need-loop-less Inv-loop μ-loop
 loop-less c = omega arith
@@ -71,15 +59,5 @@ returns c =
 pub feeding-fields-spec : {M : Type 1} → statement M
 feeding-fields-spec =
     tie.close
-    (tie.spec
-    Inv-loop
-    μ-loop
-    slice-aggregate-put-word
-    put-word-requires
-    loop-holds
-    array-read-if1
-    put-field-requires
-    add-i
-    loop-less
-    loop-again
-    returns)
+    (tie.spec Inv-loop μ-loop (λ c. search needs) (λ c κs. search needs) loop-holds
+    (λ c. search needs) put-field-requires (λ c. search needs) loop-less loop-again returns)

@@ -8,24 +8,6 @@ use Rattle.desk_text.specs.Desk.{behind, parted, memberText}
 use Rattle.desk_text.proofs.member_fields.Statement.{statement}
 use Rattle.desk_text.proofs.member_fields.Tie as tie
 
-slice-aggregate-put-word : tie.Need-slice-aggregate-put-word
-slice-aggregate-put-word c = search needs
-
-put-word-requires : tie.Need-put-word-requires
-put-word-requires c κs = search needs
-
-put-membership-requires : tie.Need-put-membership-requires
-put-membership-requires c κs = search needs
-
-slice-aggregate-put-word-2 : tie.Need-slice-aggregate-put-word-2
-slice-aggregate-put-word-2 c = search needs
-
-put-word-requires-2 : tie.Need-put-word-requires-2
-put-word-requires-2 c κs = search needs
-
-put-membership-requires-2 : tie.Need-put-membership-requires-2
-put-membership-requires-2 c κs = search needs
-
 returns : tie.Need-returns
 unfolding word behind parted memberText
 returns c =
@@ -42,11 +24,5 @@ returns c =
 pub member-fields-spec : {M : Type 1} → statement M
 member-fields-spec =
     tie.close
-    (tie.spec
-    slice-aggregate-put-word
-    put-word-requires
-    put-membership-requires
-    slice-aggregate-put-word-2
-    put-word-requires-2
-    put-membership-requires-2
-    returns)
+    (tie.spec (λ c. search needs) (λ c κs. search needs) (λ c κs. search needs) (λ c. search needs)
+    (λ c κs. search needs) (λ c κs. search needs) returns)

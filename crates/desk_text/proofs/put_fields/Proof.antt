@@ -5,15 +5,6 @@ use Rattle.listing_lines.proofs.Text.{appended-more}
 use Rattle.desk_text.proofs.put_fields.Statement.{statement}
 use Rattle.desk_text.proofs.put_fields.Tie as tie
 
-put-word-requires : tie.Need-put-word-requires
-put-word-requires c κs = search needs
-
-put-numbers-requires : tie.Need-put-numbers-requires
-put-numbers-requires c κs = search needs
-
-same-length : tie.Need-same-length
-same-length c = search needs
-
 returns : tie.Need-returns
 returns c =
     let numbers = c .before .before in
@@ -21,4 +12,5 @@ returns c =
     (appended-more (words .put-word .ensures) (numbers .put-numbers .ensures .0), omega arith)
 
 pub put-fields-spec : {M : Type 1} → statement M
-put-fields-spec = tie.close (tie.spec put-word-requires put-numbers-requires same-length returns)
+put-fields-spec =
+    tie.close (tie.spec (λ c κs. search needs) (λ c κs. search needs) (λ c. search needs) returns)

@@ -6,27 +6,6 @@ use Rattle.desk_text.specs.Desk.{behind, parted, halfText}
 use Rattle.desk_text.proofs.put_half.Statement.{statement}
 use Rattle.desk_text.proofs.put_half.Tie as tie
 
-enum-told : tie.Need-enum-told
-enum-told c = search needs
-
-put-word-requires : tie.Need-put-word-requires
-put-word-requires c κs = search needs
-
-slice-aggregate-put-word : tie.Need-slice-aggregate-put-word
-slice-aggregate-put-word c = search needs
-
-put-word-requires-2 : tie.Need-put-word-requires-2
-put-word-requires-2 c κs = search needs
-
-enum-known-half : tie.Need-enum-known-half
-enum-known-half c = search needs
-
-slice-aggregate-put-fields : tie.Need-slice-aggregate-put-fields
-slice-aggregate-put-fields c = search needs
-
-put-fields-requires : tie.Need-put-fields-requires
-put-fields-requires c κs = search needs
-
 returns : tie.Need-returns
 unfolding word behind parted halfText
 returns c =
@@ -40,13 +19,5 @@ returns-2 c = (rw (c .before .before .before .before .half .given .1) (c .put-fi
 pub put-half-spec : {M : Type 1} → statement M
 put-half-spec =
     tie.close
-    (tie.spec
-    enum-told
-    put-word-requires
-    slice-aggregate-put-word
-    put-word-requires-2
-    enum-known-half
-    slice-aggregate-put-fields
-    put-fields-requires
-    returns
-    returns-2)
+    (tie.spec (λ c. search needs) (λ c κs. search needs) (λ c. search needs) (λ c κs. search needs)
+    (λ c. search needs) (λ c. search needs) (λ c κs. search needs) returns returns-2)

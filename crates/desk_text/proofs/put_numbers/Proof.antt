@@ -29,21 +29,12 @@ loop-holds : tie.Need-loop-holds Inv-loop μ-loop
 unfolding behind
 loop-holds c = (omega arith, omega arith, appended-none _ _)
 
-mul-put-field : tie.Need-mul-put-field Inv-loop μ-loop
-mul-put-field c = search needs
-
-shared-slice-read-put-field : tie.Need-shared-slice-read-put-field Inv-loop μ-loop
-shared-slice-read-put-field c = search needs
-
 put-field-requires : tie.Need-put-field-requires Inv-loop μ-loop
 put-field-requires c κs =
     let turn = c .before .before .before in
     let number = getD (now (turn .before .before .before .args .numbers)) (turn .loop .k) 0 in
     let fits = c .shared-slice-known2 .given (turn .loop .k) in
     omega (arith, decimal-short 20 number (omega arith) (omega (arith, fits)))
-
-add-k : tie.Need-add-k Inv-loop μ-loop
-add-k c = search needs
 
 loop-less : tie.Need-loop-less Inv-loop μ-loop
 loop-less c = omega arith
@@ -72,15 +63,5 @@ returns c =
 pub put-numbers-spec : {M : Type 1} → statement M
 put-numbers-spec =
     tie.close
-    (tie.spec
-    Inv-loop
-    μ-loop
-    loop-holds
-    mul-put-field
-    shared-slice-read-put-field
-    put-field-requires
-    add-k
-    loop-less
-    loop-again
-    same-length
-    returns)
+    (tie.spec Inv-loop μ-loop loop-holds (λ c. search needs) (λ c. search needs) put-field-requires
+    (λ c. search needs) loop-less loop-again same-length returns)

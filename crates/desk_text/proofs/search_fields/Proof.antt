@@ -6,20 +6,10 @@ use Rattle.desk_text.proofs.Desk.{parted-more}
 use Rattle.desk_text.proofs.search_fields.Statement.{statement}
 use Rattle.desk_text.proofs.search_fields.Tie as tie
 
-put-found-requires : tie.Need-put-found-requires
-put-found-requires c κs = search needs
-
-slice-aggregate-put-numbers : tie.Need-slice-aggregate-put-numbers
-slice-aggregate-put-numbers c = search needs
-
-put-numbers-requires : tie.Need-put-numbers-requires
-put-numbers-requires c κs = search needs
-
 returns : tie.Need-returns
 unfolding pairsText
 returns c = (appended-as (parted-more _ _ _) (appended-more (c .before .before .before .put-found .ensures .0) (c .put-numbers .ensures .0)), search needs)
 
 pub search-fields-spec : {M : Type 1} → statement M
 search-fields-spec =
-    tie.close
-    (tie.spec put-found-requires slice-aggregate-put-numbers put-numbers-requires returns)
+    tie.close (tie.spec (λ c κs. search needs) (λ c. search needs) (λ c κs. search needs) returns)

@@ -8,17 +8,8 @@ use Rattle.desk_text.specs.Desk.{parted, stepText}
 use Rattle.desk_text.proofs.step_fields.Statement.{statement}
 use Rattle.desk_text.proofs.step_fields.Tie as tie
 
-mul-set : tie.Need-mul-set
-mul-set c = search needs
-
-add-set : tie.Need-add-set
-add-set c = search needs
-
 put-decimal-requires : tie.Need-put-decimal-requires
 put-decimal-requires c κs = omega (arith, decimal-short 3 (c .before .args .node) (omega arith) (omega arith))
-
-slice-aggregate-put-numbers : tie.Need-slice-aggregate-put-numbers
-slice-aggregate-put-numbers c = search needs
 
 put-numbers-requires : tie.Need-put-numbers-requires
 put-numbers-requires c κs = omega (arith, decimal-short 3 (c .before .before .before .before .args .node) (omega arith) (omega arith))
@@ -33,10 +24,5 @@ returns c = (
 pub step-fields-spec : {M : Type 1} → statement M
 step-fields-spec =
     tie.close
-    (tie.spec
-    mul-set
-    add-set
-    put-decimal-requires
-    slice-aggregate-put-numbers
-    put-numbers-requires
-    returns)
+    (tie.spec (λ c. search needs) (λ c. search needs) put-decimal-requires (λ c. search needs)
+    put-numbers-requires returns)

@@ -5,18 +5,6 @@ use Rattle.desk_text.specs.Desk.{behind, parted, valueText}
 use Rattle.desk_text.proofs.value_fields.Statement.{statement}
 use Rattle.desk_text.proofs.value_fields.Tie as tie
 
-slice-aggregate-put-word : tie.Need-slice-aggregate-put-word
-slice-aggregate-put-word c = search needs
-
-put-word-requires : tie.Need-put-word-requires
-put-word-requires c κs = search needs
-
-slice-aggregate-put-word-2 : tie.Need-slice-aggregate-put-word-2
-slice-aggregate-put-word-2 c = search needs
-
-put-word-requires-2 : tie.Need-put-word-requires-2
-put-word-requires-2 c κs = search needs
-
 returns : tie.Need-returns
 unfolding word digits decimal behind parted valueText
 returns c = (rw (c .before .before .before .if1 .taken) (c .put-word .ensures), search needs)
@@ -28,10 +16,5 @@ returns-2 c = (rw (c .before .before .before .if1 .left) (c .put-word2 .ensures)
 pub value-fields-spec : {M : Type 1} → statement M
 value-fields-spec =
     tie.close
-    (tie.spec
-    slice-aggregate-put-word
-    put-word-requires
-    slice-aggregate-put-word-2
-    put-word-requires-2
-    returns
-    returns-2)
+    (tie.spec (λ c. search needs) (λ c κs. search needs) (λ c. search needs) (λ c κs. search needs)
+    returns returns-2)

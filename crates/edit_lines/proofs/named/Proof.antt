@@ -6,18 +6,15 @@ use Rattle.edit_lines.proofs.Asks.{writes-none, writes-part}
 use Rattle.edit_lines.proofs.named.Statement.{statement}
 use Rattle.edit_lines.proofs.named.Tie as tie
 
-only-word-requires : tie.Need-only-word-requires
-only-word-requires c κs = search needs
-
 returns : tie.Need-returns
 returns c =
     let one = c .before .only-word .ensures in
-    (writes-none _ _ _ (one .0) (one .1) (c .if1 .taken) ∙ ap written (one .2), tt)
+    (λ own. writes-none _ _ _ (one .0) (one .1) (c .if1 .taken) ∙ ap written (one .2), tt)
 
 returns-2 : tie.Need-returns-2
 returns-2 c =
     let one = c .before .only-word .ensures in
-    (writes-part _ _ _ (one .0) (one .1) (c .if1 .left) ∙ ap written (one .2), (one .0, one .1))
+    (λ own. writes-part _ _ _ (one .0) (one .1) (c .if1 .left) ∙ ap written (one .2), (one .0, one .1))
 
 pub named-spec : {M : Type 1} → statement M
-named-spec = tie.close (tie.spec only-word-requires returns returns-2)
+named-spec = tie.close (tie.spec (λ c κs. search needs) returns returns-2)

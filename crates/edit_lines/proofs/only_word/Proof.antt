@@ -2,22 +2,16 @@
 use native.Mathlib.Omega.{arith}
 use native.Mathlib.Nat.{sub-self}
 use borrow.Author.Needs.{needs}
-use Rattle.read_words.proofs.Words.{none-left, one-more}
+use Rattle.scanner.proofs.Words.{none-left, one-more}
 use Rattle.edit_lines.specs.Asks.{only}
 use Rattle.edit_lines.proofs.only_word.Statement.{statement}
 use Rattle.edit_lines.proofs.only_word.Tie as tie
-
-next-word-requires : tie.Need-next-word-requires
-next-word-requires c κs = search needs
 
 returns : tie.Need-returns
 unfolding only
 returns c =
     let one = c .before .before .next-word .ensures in
     (one .ordered, one .within, rw (none-left one (c .if1 .taken), c .if1 .taken, sub-self))
-
-next-word-requires-2 : tie.Need-next-word-requires-2
-next-word-requires-2 c κs = search needs
 
 returns-2 : tie.Need-returns-2
 unfolding only
@@ -35,4 +29,4 @@ returns-3 c =
 
 pub only-word-spec : {M : Type 1} → statement M
 only-word-spec =
-    tie.close (tie.spec next-word-requires returns next-word-requires-2 returns-2 returns-3)
+    tie.close (tie.spec (λ c κs. search needs) returns (λ c κs. search needs) returns-2 returns-3)

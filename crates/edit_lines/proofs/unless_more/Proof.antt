@@ -1,20 +1,17 @@
 -- `edit_lines::unless_more` meets its contract: whether there is a word behind the first. Assumes nothing.
 use borrow.Author.Needs.{needs}
-use Rattle.read_words.proofs.Words.{none-left, one-more}
+use Rattle.scanner.proofs.Words.{none-left, one-more}
 use Rattle.edit_lines.specs.Asks.{alone}
 use Rattle.edit_lines.proofs.unless_more.Statement.{statement}
 use Rattle.edit_lines.proofs.unless_more.Tie as tie
 
-next-word-requires : tie.Need-next-word-requires
-next-word-requires c κs = search needs
-
 returns : tie.Need-returns
 unfolding alone
-returns c = (rw (none-left (c .before .before .next-word .ensures) (c .if1 .taken)), λ h. h)
+returns c = (λ own. rw (none-left (c .before .before .next-word .ensures) (c .if1 .taken)), λ h. h)
 
 returns-2 : tie.Need-returns-2
 unfolding alone
-returns-2 c = (rw (one-more (c .before .before .next-word .ensures) (c .if1 .left)), λ h. tt)
+returns-2 c = (λ own. rw (one-more (c .before .before .next-word .ensures) (c .if1 .left)), λ h. tt)
 
 pub unless-more-spec : {M : Type 1} → statement M
-unless-more-spec = tie.close (tie.spec next-word-requires returns returns-2)
+unless-more-spec = tie.close (tie.spec (λ c κs. search needs) returns returns-2)

@@ -5,9 +5,6 @@ use Rattle.edit_rules.specs.Edits.{lowered}
 use Rattle.edit_parts.proofs.lowered.Statement.{statement}
 use Rattle.edit_parts.proofs.lowered.Tie as tie
 
-sub-result : tie.Need-sub-result
-sub-result c = search needs
-
 returns : tie.Need-returns
 unfolding lowered
 returns c = rw (lt-ltb _ _ (c .if1 .taken))
@@ -17,4 +14,4 @@ unfolding lowered
 returns-2 c = rw (le-ltb _ _ (c .if1 .left))
 
 pub lowered-spec : {M : Type 1} → statement M
-lowered-spec = tie.close (tie.spec sub-result returns returns-2)
+lowered-spec = tie.close (tie.spec (λ c. search needs) returns returns-2)

@@ -33,9 +33,6 @@ mul-uses c = omega arith
 element-copy-out-uses : tie.Need-element-copy-out-uses Inv-loop μ-loop
 element-copy-out-uses c = omega arith
 
-uses-requires : tie.Need-uses-requires Inv-loop μ-loop
-uses-requires c κs = search needs
-
 returns : tie.Need-returns Inv-loop μ-loop
 returns c n e =
     let turn = c .before .before .before in
@@ -63,15 +60,5 @@ returns-2 c n e =
 pub lowest-user-spec : {M : Type 1} → statement M
 lowest-user-spec =
     tie.close
-    (tie.spec
-    Inv-loop
-    μ-loop
-    loop-holds
-    mul-uses
-    element-copy-out-uses
-    uses-requires
-    returns
-    add-j
-    loop-less
-    loop-again
-    returns-2)
+    (tie.spec Inv-loop μ-loop loop-holds mul-uses element-copy-out-uses (λ c κs. search needs)
+    returns add-j loop-less loop-again returns-2)

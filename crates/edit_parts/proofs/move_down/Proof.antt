@@ -2,13 +2,12 @@
 -- first `at - 256 * removed` have moved down by 256, and all others stand. So what is read 256 further on is still the
 -- byte that stood there. The measure is what is left of the bytes. Assumes nothing.
 use Prim.Native.Nat.{ℕ, suc, _+_, _*_, _-_, _≤_, _<_}
-use mathlib.Core.Path.{_≡_, refl, subst}
+use mathlib.Core.Path.{_≡_, refl, sym, ap, subst, _∙_}
 use mathlib.Core.List.{List}
 use native.Mathlib.Omega.{arith}
 use lib.ListN.{length, getD, drop, set, length-drop, length-set}
-use lib.Seq.{paste, paste-zero, getD-drop}
+use lib.Seq.{paste, paste-zero, paste-suc, drop-paste, getD-drop}
 use Rattle.edit_parts.specs.Parts.{movedDown}
-use Rattle.netlists.proofs.Without.{moved-next}
 use Rattle.edit_parts.proofs.move_down.Statement.{statement}
 use Rattle.edit_parts.proofs.move_down.Tie as tie
 
@@ -21,16 +20,26 @@ none-shifted old removed =
     let none : 256 * removed - 256 * removed ≡ 0 = omega arith in
     rw none (paste-zero old (256 * removed) (drop (256 * (removed + 1)) old))
 
+-- what is read 256 further on still stands
+next : (old new : List ℕ) (at j : ℕ) → at + j < length old → j < length new → getD new j 0 ≡ getD old (at + j + 256) 0
+    → set (paste old at new j) (at + j) (getD (paste old at new j) (at + j + 256) 0) ≡ paste old at new (suc j)
+next old new at j h l e = ap (set (paste old at new j) (at + j)) (stands ∙ sym e) ∙ paste-suc old at new j 0 h l
+  where
+    stands : getD (paste old at new j) (at + j + 256) 0 ≡ getD old (at + j + 256) 0
+    stands =
+        sym (getD-drop (at + j) (paste old at new j) 256 0)
+        ∙ ap (λ (xs : List ℕ). getD xs 256 0) (drop-paste old at new j (omega arith) (omega arith)) ∙ getD-drop (at + j) old 256 0
+
 shifted-next : (old : List ℕ) (removed at : ℕ) → 256 * removed ≤ at → at + 256 < length old
     → set (shifted old removed at) at (getD (shifted old removed at) (at + 256) 0) ≡ shifted old removed (at + 1)
 shifted-next old removed at from room =
     let j = at - 256 * removed in
     let here : 256 * removed + j ≡ at = omega arith in
-    let next : at + 1 - 256 * removed ≡ suc j = omega arith in
+    let more : at + 1 - 256 * removed ≡ suc j = omega arith in
     let beyond : 256 * (removed + 1) + j ≡ at + 256 = omega arith in
-    rw next
+    rw more
     (subst (λ i. set (shifted old removed at) i (getD (shifted old removed at) (i + 256) 0) ≡ paste old (256 * removed) (drop (256 * (removed + 1)) old) (suc j)) here
-    (moved-next old (256 * removed) (drop (256 * (removed + 1)) old) 256 (λ b. b) 0 j (omega arith) (omega (arith, length-drop (256 * (removed + 1)) old))
+    (next old (drop (256 * (removed + 1)) old) (256 * removed) j (omega arith) (omega (arith, length-drop (256 * (removed + 1)) old))
     (rw (here, ← beyond) (getD-drop (256 * (removed + 1)) old j 0))))
 
 abbrev Inv-loop : tie.InvT-loop

@@ -1,90 +1,90 @@
--- `edit_parts::uses` meets its contract: whether a node uses another is one test of its record, by cases on the node,
--- and each arm of the match has the kind that the test's case is of. Assumes nothing.
-use Prim.Native.Nat.{ℕ}
-use mathlib.Core.Path.{_≡_, refl, sym, _∙_}
-use mathlib.Core.Logic.{_⊎_, inl, inr}
-use mathlib.Core.Bool.{Bool, true, false, cond, _||_, or-false}
+-- `edit_parts::uses` meets its contract. The loop's invariant: of the first j operands one is node i exactly if it was
+-- met. The measure is the number of fields left. Assumes nothing.
+use Prim.Native.Nat.{ℕ, _+_, _-_, _≤_, _<_}
+use mathlib.Core.Path.{_≡_, refl, sym, ap, _∙_, subst}
+use mathlib.Core.Logic.{⊎-elim}
+use mathlib.Core.Bool.{Bool, true, false, _&&_, _||_}
+use mathlib.Core.List.{List}
+use native.Mathlib.Omega.{arith}
 use borrow.Author.Needs.{needs}
-use borrow.Author.Tests.{eqb-true, eqb-false, eq-eqb, ne-eqb}
-use lib.Dec.{eqb}
+use borrow.Author.Tests.{ltb-true, lt-ltb, eqb-true, eq-eqb}
+use lib.Dec.{T, eqb, ltb}
+use lib.ListN.{length, getD}
 use Rattle.rules.specs.declared.Node.{Node}
 use Rattle.rules.specs.Lists.{member}
-use Rattle.rules.specs.Records.{Cell, input, NOT, XOR, AND, OR, register, kindOf, operands, setOf}
+use Rattle.rules.specs.Records.{Cell, operands, most-body}
 use Rattle.rules.specs.Slices.{entry}
+use Rattle.rules.proofs.Tests.{pass, or-left, or-right, or-cases, and-left, and-right, and-both, same-test}
+use Rattle.rules.proofs.Members.{entry-member, member-entry}
+use Rattle.rules.proofs.Operands.{few-operands}
+use Rattle.records.proofs.Turns.{one-more}
+use Rattle.netlists.specs.Netlists.{padded}
+use Rattle.netlists.proofs.Netlists.{padded-same}
 use Rattle.edit_rules.specs.Edits.{uses}
 use Rattle.edit_parts.proofs.uses.Statement.{statement}
 use Rattle.edit_parts.proofs.uses.Tie as tie
 
--- the code compares an operand with the node's number, and the rules the number with the operand
-turned : (i a : ℕ) → eqb i a ≡ eqb a i
-turned i a = go (eqb a i) refl
+is-true : (b : Bool) → T b → b ≡ true
+is-true true t = refl
+is-true false t = absurd t
+
+-- whether one of the first operands, of which there are so many, is node i
+record Met (i : ℕ) (own : List ℕ) (count j : ℕ) (used : Bool) : Type 0 where
+  each : (k : ℕ) → k < j → k < count → getD own k 0 ≡ i → T used
+  one : T used → (k : ℕ) × (k < count) × (getD own k 0 ≡ i)
+
+met-more : (i : ℕ) (own : List ℕ) (count j : ℕ) (used : Bool) → Met i own count j used
+    → Met i own count (j + 1) (used || (ltb j count && eqb (getD own j 0) i))
+met-more i own count j used met = record {
+  each =
+      one-more (λ k. k < count → getD own k 0 ≡ i → T (used || here)) j (λ k h n e. or-left used here (met .each k h n e))
+      (λ n e. or-right used here (and-both (ltb j count) (eqb (getD own j 0) i) (pass (lt-ltb j count n)) (pass (eq-eqb (getD own j 0) i e))));
+  one = λ t.
+      ⊎-elim (met .one)
+      (λ u. (
+        j,
+        ltb-true j count (is-true _ (and-left (ltb j count) (eqb (getD own j 0) i) u)),
+        eqb-true (getD own j 0) i (is-true _ (and-right (ltb j count) (eqb (getD own j 0) i) u)),
+      ))
+      (or-cases used here t);
+}
   where
-    go : (t : Bool) → eqb a i ≡ t → eqb i a ≡ t
-    go true e = eq-eqb i a (sym (eqb-true a i e))
-    go false e = ne-eqb i a (λ same. eqb-false a i e (sym same))
+    here : Bool
+    here = ltb j count && eqb (getD own j 0) i
 
-last : (i a : ℕ) → (eqb i a || false) ≡ eqb a i
-last i a = or-false (eqb i a) ∙ turned i a
+-- of all of them it tells whether the node uses node i
+met-all : (i : ℕ) (cell : Cell) {own : List ℕ} {count : ℕ} {used : Bool} {j : ℕ} → own ≡ padded most-body 0 (operands cell) → count ≡ length (operands cell)
+    → most-body ≤ j → Met i own count j used → used ≡ uses i cell
+unfolding uses
+met-all i cell {own} are many all met =
+    same-test _ (member i (operands cell))
+    (λ t. let (k, h, e) = met .one t in subst (λ a. T (member a (operands cell))) (sym (operand k) ∙ e) (entry-member (operands cell) 0 k (omega arith)))
+    (λ t. let (k, h, e) = member-entry (operands cell) 0 i t in met .each k (omega (arith, few-operands cell)) (omega arith) (operand k ∙ e))
+  where
+    operand : (j : ℕ) → getD own j 0 ≡ getD (operands cell) j 0
+    operand j = ap (λ (l : List ℕ). getD l j 0) are ∙ padded-same most-body 0 (operands cell) j
 
-two : (i a b : ℕ) → (eqb a i || eqb b i) ≡ (eqb i a || (eqb i b || false))
-two i a b = rw (last i b, turned i a)
+abbrev Inv-loop : tie.InvT-loop
+Inv-loop i operands count used₀ j₀ used j = (j ≤ most-body) × Met i operands count j used
 
--- the test of the record
-usesBy : (i : ℕ) → Node → Bool
-usesBy i n =
-    cond (eqb (n .kind) 2) false
-    (cond (eqb (n .kind) 3 || eqb (n .kind) 7) (eqb (n .first) i) (eqb (n .first) i || eqb (n .second) i))
+abbrev μ-loop : tie.MeasureT-loop
+μ-loop i operands count used₀ j₀ used j = most-body - j
 
-uses-by : (i : ℕ) (cell : Cell) → usesBy i (entry cell) ≡ uses i cell
-unfolding usesBy uses member entry kindOf operands setOf
-uses-by i (input s) = refl
-uses-by i (NOT a) = sym (last i a)
-uses-by i (XOR a b) = two i a b
-uses-by i (AND a b) = two i a b
-uses-by i (OR a b) = two i a b
-uses-by i (register a) = sym (last i a)
+loop-holds : tie.Need-loop-holds Inv-loop μ-loop
+loop-holds c = (omega arith, record { each = λ k h. absurd (omega arith); one = λ t. absurd t })
 
--- in each arm of the match on the kind
-module _ (i : ℕ) {node : Node} (cell : Cell) (e : node ≡ entry cell) where
-  by-record : usesBy i node ≡ uses i cell
-  by-record = rw e (uses-by i cell)
+loop-again : tie.Need-loop-again Inv-loop μ-loop
+loop-again c = (omega arith, met-more _ _ _ (c .before .loop .j) (c .before .loop .used) (c .before .loop .inv .1))
 
-  no-operand : node .kind ≡ 2 → false ≡ uses i cell
-  unfolding usesBy
-  no-operand k = rw k at by-record
-
-  one-operand : (node .kind ≡ 3) ⊎ (node .kind ≡ 7) → eqb (node .first) i ≡ uses i cell
-  unfolding usesBy
-  one-operand (inl k) = rw k at by-record
-  one-operand (inr k) = rw k at by-record
-
-  two-operands : (Unit {0} × (node .kind ≡ 2 → ⊥)) × ((node .kind ≡ 3) ⊎ (node .kind ≡ 7) → ⊥)
-      → (eqb (node .first) i || eqb (node .second) i) ≡ uses i cell
-  unfolding usesBy
-  two-operands r =
-      rw (ne-eqb (node .kind) 2 (r .0 .1), ne-eqb (node .kind) 3 (λ k. r .1 (inl k)), ne-eqb (node .kind) 7 (λ k. r .1 (inr k))) at by-record
-
-cast-first : tie.Need-cast-first
-cast-first c = search needs
-
-cast-result : tie.Need-cast-result
-cast-result c = search needs
-
-returns : tie.Need-returns
-returns c cell e = no-operand _ cell e (c .match .keys1)
-
-returns-2 : tie.Need-returns-2
-returns-2 c cell e = one-operand _ cell e (c .match .keys2)
-
-returns-3 : tie.Need-returns-3
-returns-3 c cell e =
-    let i = c .before .before .before .args .i in
-    rw (c .if1 .taken) (rw (c .if1 .taken) at (two-operands i cell e (c .before .match .rest)))
-
-returns-4 : tie.Need-returns-4
-returns-4 c cell e =
-    let i = c .before .before .before .before .args .i in
-    rw (c .before .if1 .left) at (two-operands i cell e (c .before .before .match .rest))
+returns : tie.Need-returns Inv-loop μ-loop
+unfolding entry
+returns c cell e =
+    let count = c .before .before in
+    met-all _ cell (count .before .operands-of .ensures cell e) (count .operand-count .ensures .0 cell (ap (λ (n : Node). n .kind) e))
+    (c .loop-test .left) (c .before .loop .inv .1)
 
 pub uses-spec : {M : Type 1} → statement M
-uses-spec = tie.close (tie.spec cast-first cast-result returns returns-2 returns-3 returns-4)
+uses-spec =
+    tie.close
+    (tie.spec Inv-loop μ-loop (λ c κs. search needs) (λ c κs. search needs) loop-holds
+    (λ c. search needs) (λ c. search needs) (λ c. search needs) (λ c. search needs) loop-again returns)

@@ -1,11 +1,11 @@
 -- `edit_parts::without_node` meets its contract. The loop's invariant: of the node records behind
 -- the one that is removed those up to `i` have moved down by one, renumbered, and all others stand.
 -- The measure is what is left of the records. Assumes nothing.
-use Prim.Native.Nat.{_-_, _≤_}
-use mathlib.Core.Path.{ap}
+use Prim.Native.Nat.{_+_, _-_, _≤_, _<_}
+use mathlib.Core.Path.{refl}
 use native.Mathlib.Omega.{arith}
-use Rattle.netlists.specs.declared.Netlist as Value
-use Rattle.edit_parts.proofs.MovesDown.{Reached, none-moved, next-moved, all-moved}
+use Rattle.netlists.proofs.Netlists.{value-count}
+use Rattle.edit_parts.proofs.MovesDown.{Reached, none-moved, next-moved, shortened-formed}
 use Rattle.edit_parts.proofs.without_node.Statement.{statement}
 use Rattle.edit_parts.proofs.without_node.Tie as tie
 
@@ -19,7 +19,9 @@ sub-last : tie.Need-sub-last Inv-loop μ-loop
 sub-last c = omega arith
 
 loop-holds : tie.Need-loop-holds Inv-loop μ-loop
-loop-holds c = (omega arith, omega arith, none-moved (c .before .args .block) (c .before .args .removed))
+loop-holds c =
+    let there = c .before .pre .0 in
+    (omega arith, omega arith, record { variables = refl; classes = refl; moving = λ n formed is. rw is (none-moved n _ formed (omega (arith, value-count n is))) })
 
 add-renumbered : tie.Need-add-renumbered Inv-loop μ-loop
 add-renumbered c = omega arith
@@ -48,7 +50,17 @@ loop-less c = omega arith
 loop-again : tie.Need-loop-again Inv-loop μ-loop
 loop-again c =
     let (from, most, reached) = c .before .before .before .loop .inv in
-    (omega arith, omega arith, next-moved _ _ _ _ _ from reached (c .renumbered .ensures))
+    let more : c .before .before .before .loop .i + 1 < c .before .before .before .before .before .args .block .count = omega arith in (
+      omega arith,
+      omega arith,
+      record {
+        variables = reached .variables;
+        classes = reached .classes;
+        moving = λ n formed is.
+            let count = value-count n is in
+            next-moved n _ formed (omega arith) _ _ _ from (omega arith) (c .renumbered .ensures) (reached .moving n formed is);
+      },
+    )
 
 blank-node-requires : tie.Need-blank-node-requires Inv-loop μ-loop
 blank-node-requires c κs = tt
@@ -62,8 +74,7 @@ element-set-from-shorter-2 c = omega arith
 returns : tie.Need-returns Inv-loop μ-loop
 returns c =
     let (from, most, reached) = c .before .before .loop .inv in
-    rw (c .blank-node .ensures)
-    ((ap (λ (block : Value.Netlist). block .variables) reached, omega arith), all-moved _ _ _ _ (omega arith) (omega arith) reached)
+    rw (c .blank-node .ensures) ((reached .variables, omega arith), shortened-formed _ _ _ _ (omega arith) (omega arith) reached)
 
 pub without-node-spec : {M : Type 1} → statement M
 without-node-spec =

@@ -14,31 +14,16 @@ use Rattle.edit_steps.proofs.add_node.Tie as tie
 offers : (c : tie.After-node) → let args = c .before .before .before .before .before .args in OffersNode (offeredTo (args .block) (args .bytes .now)) (c .node .given .0 .0)
 offers c = offers-node _ _ (ap offeredOf (sym (c .node .given .1)) ∙ c .before .before .offered .ensures)
 
-offered-requires : tie.Need-offered-requires
-offered-requires c κs = search needs
-
-enum-known-refusal : tie.Need-enum-known-refusal
-enum-known-refusal c = search needs
-
-refused-requires : tie.Need-refused-requires
-refused-requires c κs = search needs
-
-enum-known-node : tie.Need-enum-known-node
-enum-known-node c = search needs
-
 add-offered-requires : tie.Need-add-offered-requires
 add-offered-requires c κs =
     let o = offers (c .before .before) in
     let limited = c .before .before .before .before .before .before .before .pre in
-    (limited, offered-room _ _ _ _ _ _ _ (o .is), rw (o .its) (offered-placed _ _ _ _ _ _ _ (o .is) (limited .variables)))
+    (limited, offered-room _ _ _ _ _ _ (o .is), rw (o .its) (offered-placed _ _ _ _ _ _ (o .is) (limited .variables)))
 
 returns : tie.Need-returns
 returns c =
     let found = ap offeredOf (sym (c .before .before .refusal .given .1)) ∙ c .before .before .before .before .offered .ensures in
     refuses _ _ _ _ _ _ _ found (c .refused .ensures .0) (c .refused .ensures .1)
-
-same-length : tie.Need-same-length
-same-length c = search needs
 
 returns-2 : tie.Need-returns-2
 returns-2 c = adds _ _ _ _ _ _ _ _ (offers (c .before .before .before .before .before)) (c .before .before .add-offered .ensures)
@@ -46,12 +31,5 @@ returns-2 c = adds _ _ _ _ _ _ _ _ (offers (c .before .before .before .before .b
 pub add-node-spec : {M : Type 1} → statement M
 add-node-spec =
     tie.close
-    (tie.spec
-    offered-requires
-    enum-known-refusal
-    refused-requires
-    enum-known-node
-    add-offered-requires
-    returns
-    same-length
-    returns-2)
+    (tie.spec (λ c κs. search needs) (λ c. search needs) (λ c κs. search needs) (λ c. search needs)
+    add-offered-requires returns (λ c. search needs) returns-2)

@@ -6,29 +6,11 @@ use Rattle.edit_steps.proofs.Adding.{no-room, looked}
 use Rattle.edit_steps.proofs.add_offered.Statement.{statement}
 use Rattle.edit_steps.proofs.add_offered.Tie as tie
 
-add-slices-fit : tie.Need-add-slices-fit
-add-slices-fit c = search needs
-
-slices-fit-requires : tie.Need-slices-fit-requires
-slices-fit-requires c κs = search needs
-
-enum-known-refusal : tie.Need-enum-known-refusal
-enum-known-refusal c = search needs
-
-refused-requires : tie.Need-refused-requires
-refused-requires c κs = search needs
-
-enum-told : tie.Need-enum-told
-enum-told c = search needs
-
 node-families-requires : tie.Need-node-families-requires
 node-families-requires c κs =
     let taken = c .before in
     let room = taken .before .before .slices-fit .ensures .room (taken .enum-told .given .1) in
     search needs
-
-with-node-requires : tie.Need-with-node-requires
-with-node-requires c κs = search needs
 
 with-last-requires : tie.Need-with-last-requires
 with-last-requires c κs =
@@ -36,16 +18,10 @@ with-last-requires c κs =
     let room = taken .before .before .slices-fit .ensures .room (taken .enum-told .given .1) in
     search needs
 
-read-marks-requires : tie.Need-read-marks-requires
-read-marks-requires c κs = search needs
-
 returns : tie.Need-returns
 returns c =
     let taken = c .before .before in
     no-room _ _ _ _ _ _ (taken .before .before .slices-fit .ensures) (taken .refusal .given .1) (c .refused .ensures .0) (c .refused .ensures .1)
-
-same-length : tie.Need-same-length
-same-length c = search needs
 
 returns-2 : tie.Need-returns-2
 returns-2 c =
@@ -59,16 +35,6 @@ returns-2 c =
 pub add-offered-spec : {M : Type 1} → statement M
 add-offered-spec =
     tie.close
-    (tie.spec
-    add-slices-fit
-    slices-fit-requires
-    enum-known-refusal
-    refused-requires
-    enum-told
-    node-families-requires
-    with-node-requires
-    with-last-requires
-    read-marks-requires
-    returns
-    same-length
-    returns-2)
+    (tie.spec (λ c. search needs) (λ c κs. search needs) (λ c. search needs) (λ c κs. search needs)
+    (λ c. search needs) node-families-requires (λ c κs. search needs) with-last-requires
+    (λ c κs. search needs) returns (λ c. search needs) returns-2)

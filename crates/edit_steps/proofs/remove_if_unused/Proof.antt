@@ -5,26 +5,8 @@ use Rattle.edit_steps.proofs.Removing.{still-used, removed-unused}
 use Rattle.edit_steps.proofs.remove_if_unused.Statement.{statement}
 use Rattle.edit_steps.proofs.remove_if_unused.Tie as tie
 
-refused-requires : tie.Need-refused-requires
-refused-requires c κs = search needs
-
 returns : tie.Need-returns
 returns c = still-used _ _ _ _ (search needs) _ _ (c .before .if1 .taken) (c .refused .ensures .0) (c .refused .ensures .1)
-
-move-down-requires : tie.Need-move-down-requires
-move-down-requires c κs = search needs
-
-without-marks-requires : tie.Need-without-marks-requires
-without-marks-requires c κs = search needs
-
-without-node-requires : tie.Need-without-node-requires
-without-node-requires c κs = search needs
-
-read-marks-requires : tie.Need-read-marks-requires
-read-marks-requires c κs = search needs
-
-same-length : tie.Need-same-length
-same-length c = search needs
 
 returns-2 : tie.Need-returns-2
 returns-2 c =
@@ -40,12 +22,5 @@ returns-2 c =
 pub remove-if-unused-spec : {M : Type 1} → statement M
 remove-if-unused-spec =
     tie.close
-    (tie.spec
-    refused-requires
-    returns
-    move-down-requires
-    without-marks-requires
-    without-node-requires
-    read-marks-requires
-    same-length
-    returns-2)
+    (tie.spec (λ c κs. search needs) returns (λ c κs. search needs) (λ c κs. search needs)
+    (λ c κs. search needs) (λ c κs. search needs) (λ c. search needs) returns-2)

@@ -7,27 +7,9 @@ use Rattle.edit_steps.proofs.Removing.{no-such-node, by-slices, removes
 use Rattle.edit_steps.proofs.remove_node.Statement.{statement}
 use Rattle.edit_steps.proofs.remove_node.Tie as tie
 
-lowest-user-requires : tie.Need-lowest-user-requires
-lowest-user-requires c κs = search needs
-
-refused-requires : tie.Need-refused-requires
-refused-requires c κs = search needs
-
 returns : tie.Need-returns
 returns c =
     refused-early _ _ _ _ _ _ _ (λ n formed s. no-such-node _ _ _ _ n (state-count n s) (c .before .if1 .taken)) (c .refused .ensures .0) (c .refused .ensures .1)
-
-slices-fit-requires : tie.Need-slices-fit-requires
-slices-fit-requires c κs = search needs
-
-enum-known-refusal : tie.Need-enum-known-refusal
-enum-known-refusal c = search needs
-
-refused-requires-2 : tie.Need-refused-requires-2
-refused-requires-2 c κs = search needs
-
-enum-told : tie.Need-enum-told
-enum-told c = search needs
 
 remove-if-unused-requires : tie.Need-remove-if-unused-requires
 remove-if-unused-requires c κs =
@@ -43,9 +25,6 @@ returns-2 c =
     (λ n formed s. by-slices _ _ _ _ n (state-count n s) (told .before .if1 .left) ∙ too-short (told .slices-fit .ensures) n (state-count n s) (taken .refusal .given .1))
     (c .refused2 .ensures .0) (c .refused2 .ensures .1)
 
-same-length : tie.Need-same-length
-same-length c = search needs
-
 returns-3 : tie.Need-returns-3
 returns-3 c =
     let removed = c .before .before in
@@ -56,15 +35,6 @@ returns-3 c =
 pub remove-node-spec : {M : Type 1} → statement M
 remove-node-spec =
     tie.close
-    (tie.spec
-    lowest-user-requires
-    refused-requires
-    returns
-    slices-fit-requires
-    enum-known-refusal
-    refused-requires-2
-    enum-told
-    remove-if-unused-requires
-    returns-2
-    same-length
-    returns-3)
+    (tie.spec (λ c κs. search needs) (λ c κs. search needs) returns (λ c κs. search needs)
+    (λ c. search needs) (λ c κs. search needs) (λ c. search needs) remove-if-unused-requires
+    returns-2 (λ c. search needs) returns-3)

@@ -7,74 +7,14 @@ use Rattle.edit_turns.proofs.Outcomes.{unchanged-answers}
 use Rattle.edit_turns.proofs.answer_to.Statement.{statement}
 use Rattle.edit_turns.proofs.answer_to.Tie as tie
 
-enum-known-asked : tie.Need-enum-known-asked
-enum-known-asked c = search needs
-
 change-requires : tie.Need-change-requires
-change-requires c κs = let start = c .before .before .before .before .before .before in rw (c .before .before .before .asked .given .1) at (start .pre)
-
-enum-known-asked-2 : tie.Need-enum-known-asked-2
-enum-known-asked-2 c = search needs
-
-change-requires-2 : tie.Need-change-requires-2
-change-requires-2 c κs = search needs
-
-enum-told : tie.Need-enum-told
-enum-told c = search needs
-
-at-fault-requires : tie.Need-at-fault-requires
-at-fault-requires c κs = search needs
-
-unchanged-requires : tie.Need-unchanged-requires
-unchanged-requires c κs = search needs
-
-enum-told-2 : tie.Need-enum-told-2
-enum-told-2 c = search needs
-
-at-fault-requires-2 : tie.Need-at-fault-requires-2
-at-fault-requires-2 c κs = search needs
-
-unchanged-requires-2 : tie.Need-unchanged-requires-2
-unchanged-requires-2 c κs = search needs
-
-enum-told-3 : tie.Need-enum-told-3
-enum-told-3 c = search needs
-
-at-fault-requires-3 : tie.Need-at-fault-requires-3
-at-fault-requires-3 c κs = search needs
-
-unchanged-requires-3 : tie.Need-unchanged-requires-3
-unchanged-requires-3 c κs = search needs
-
-enum-told-4 : tie.Need-enum-told-4
-enum-told-4 c = search needs
-
-unchanged-requires-4 : tie.Need-unchanged-requires-4
-unchanged-requires-4 c κs = search needs
-
-enum-told-5 : tie.Need-enum-told-5
-enum-told-5 c = search needs
-
-unchanged-requires-5 : tie.Need-unchanged-requires-5
-unchanged-requires-5 c κs = search needs
-
-enum-told-6 : tie.Need-enum-told-6
-enum-told-6 c = search needs
-
-unchanged-requires-6 : tie.Need-unchanged-requires-6
-unchanged-requires-6 c κs = search needs
-
-enum-told-7 : tie.Need-enum-told-7
-enum-told-7 c = search needs
-
-unchanged-requires-7 : tie.Need-unchanged-requires-7
-unchanged-requires-7 c κs = search needs
+change-requires c κs = let start = c .before .before .before .before .before .before .before in rw (c .before .before .before .ask .given .1) at (start .pre)
 
 returns : tie.Need-returns
-returns c = λ s stands. rw (c .before .before .before .before .asked .given .1) (c .change .ensures s stands)
+returns c = λ s stands. rw (c .before .before .before .before .ask .given .1) (c .change .ensures s stands)
 
 returns-2 : tie.Need-returns-2
-returns-2 c = λ s stands. rw (c .before .before .before .before .asked2 .given .1) (c .change2 .ensures s stands)
+returns-2 c = λ s stands. rw (c .before .before .before .before .ask2 .given .1) (c .change2 .ensures s stands)
 
 returns-3 : tie.Need-returns-3
 unfolding afterAsks replyTo failed
@@ -107,34 +47,10 @@ returns-9 c = λ s stands. rw (c .before .enum-told7 .given .1, c .unchanged7 .e
 pub answer-to-spec : {M : Type 1} → statement M
 answer-to-spec =
     tie.close
-    (tie.spec
-    enum-known-asked
-    change-requires
-    enum-known-asked-2
-    change-requires-2
-    enum-told
-    at-fault-requires
-    unchanged-requires
-    enum-told-2
-    at-fault-requires-2
-    unchanged-requires-2
-    enum-told-3
-    at-fault-requires-3
-    unchanged-requires-3
-    enum-told-4
-    unchanged-requires-4
-    enum-told-5
-    unchanged-requires-5
-    enum-told-6
-    unchanged-requires-6
-    enum-told-7
-    unchanged-requires-7
-    returns
-    returns-2
-    returns-3
-    returns-4
-    returns-5
-    returns-6
-    returns-7
-    returns-8
-    returns-9)
+    (tie.spec (λ c. search needs) change-requires (λ c. search needs) (λ c κs. search needs)
+    (λ c. search needs) (λ c κs. search needs) (λ c κs. search needs) (λ c. search needs)
+    (λ c κs. search needs) (λ c κs. search needs) (λ c. search needs) (λ c κs. search needs)
+    (λ c κs. search needs) (λ c. search needs) (λ c κs. search needs) (λ c. search needs)
+    (λ c κs. search needs) (λ c. search needs) (λ c κs. search needs) (λ c. search needs)
+    (λ c κs. search needs) returns returns-2 returns-3 returns-4 returns-5 returns-6 returns-7
+    returns-8 returns-9)

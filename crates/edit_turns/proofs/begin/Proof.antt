@@ -10,12 +10,6 @@ use Rattle.edit_turns.proofs.Outcomes.{admitted-reply}
 use Rattle.edit_turns.proofs.begin.Statement.{statement}
 use Rattle.edit_turns.proofs.begin.Tie as tie
 
-open-held-requires : tie.Need-open-held-requires
-open-held-requires c κs = search needs
-
-begin-with-requires : tie.Need-begin-with-requires
-begin-with-requires c κs = search needs
-
 returns : tie.Need-returns
 returns c =
     let start = c .before .before .before .before in
@@ -28,4 +22,4 @@ returns c =
     )
 
 pub begin-spec : {M : Type 1} → statement M
-begin-spec = tie.close (tie.spec open-held-requires begin-with-requires returns)
+begin-spec = tie.close (tie.spec (λ c κs. search needs) (λ c κs. search needs) returns)

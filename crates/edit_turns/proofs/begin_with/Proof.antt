@@ -7,15 +7,6 @@ use Rattle.edit_turns.proofs.Outcomes.{answered-not-refused, opened-ans
 use Rattle.edit_turns.proofs.begin_with.Statement.{statement}
 use Rattle.edit_turns.proofs.begin_with.Tie as tie
 
-no-answer-requires : tie.Need-no-answer-requires
-no-answer-requires c κs = search needs
-
-enum-known-reply : tie.Need-enum-known-reply
-enum-known-reply c = search needs
-
-enum-told : tie.Need-enum-told
-enum-told c = search needs
-
 returns : tie.Need-returns
 unfolding begun
 returns c =
@@ -32,4 +23,5 @@ returns-2 c = (refl, (λ n work held says. absurd (not-opened n (c .enum-told .g
 
 pub begin-with-spec : {M : Type 1} → statement M
 begin-with-spec =
-    tie.close (tie.spec no-answer-requires enum-known-reply enum-told returns returns-2)
+    tie.close
+    (tie.spec (λ c κs. search needs) (λ c. search needs) (λ c. search needs) returns returns-2)

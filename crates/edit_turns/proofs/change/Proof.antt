@@ -14,12 +14,6 @@ use Rattle.edit_turns.proofs.change.Tie as tie
 slice-aggregate-edit-held : tie.Need-slice-aggregate-edit-held
 slice-aggregate-edit-held c = sym (length-take-le _ _ (omega arith))
 
-edit-held-requires : tie.Need-edit-held-requires
-edit-held-requires c κs = search needs
-
-turned-requires : tie.Need-turned-requires
-turned-requires c κs = search needs
-
 returns : tie.Need-returns
 returns c =
     let start = c .before .before .before .before .before .before .before in
@@ -31,4 +25,5 @@ returns c =
 
 pub change-spec : {M : Type 1} → statement M
 change-spec =
-    tie.close (tie.spec slice-aggregate-edit-held edit-held-requires turned-requires returns)
+    tie.close
+    (tie.spec slice-aggregate-edit-held (λ c κs. search needs) (λ c κs. search needs) returns)

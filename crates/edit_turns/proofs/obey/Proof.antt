@@ -3,12 +3,6 @@ use borrow.Author.Needs.{needs}
 use Rattle.edit_turns.proofs.obey.Statement.{statement}
 use Rattle.edit_turns.proofs.obey.Tie as tie
 
-asked-in-requires : tie.Need-asked-in-requires
-asked-in-requires c κs = search needs
-
-answer-to-requires : tie.Need-answer-to-requires
-answer-to-requires c κs = search needs
-
 returns : tie.Need-returns
 returns c =
     let asked = c .before .before .asked-in .ensures in
@@ -16,4 +10,4 @@ returns c =
     (asked .0, (asked .1, λ s stands. rw (← asked .0) (told s stands)))
 
 pub obey-spec : {M : Type 1} → statement M
-obey-spec = tie.close (tie.spec asked-in-requires answer-to-requires returns)
+obey-spec = tie.close (tie.spec (λ c κs. search needs) (λ c κs. search needs) returns)

@@ -8,12 +8,9 @@ returns : tie.Need-returns
 unfolding oneMore
 returns c = search needs
 
-add-result : tie.Need-add-result
-add-result c = search needs
-
 returns-2 : tie.Need-returns-2
 unfolding oneMore
 returns-2 c = search needs
 
 pub one-more-spec : {M : Type 1} → statement M
-one-more-spec = tie.close (tie.spec returns add-result returns-2)
+one-more-spec = tie.close (tie.spec returns (λ c. search needs) returns-2)

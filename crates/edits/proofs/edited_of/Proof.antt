@@ -4,15 +4,6 @@ use borrow.Author.Needs.{needs}
 use Rattle.edits.proofs.edited_of.Statement.{statement}
 use Rattle.edits.proofs.edited_of.Tie as tie
 
-enum-told : tie.Need-enum-told
-enum-told c = search needs
-
-enum-told-2 : tie.Need-enum-told-2
-enum-told-2 c = search needs
-
-opened-of-requires : tie.Need-opened-of-requires
-opened-of-requires c κs = search needs
-
 returns : tie.Need-returns
 returns c = rw (c .enum-told .given .1)
 
@@ -20,4 +11,6 @@ returns-2 : tie.Need-returns-2
 returns-2 c = rw (c .opened-of .ensures, c .before .enum-told2 .given .1)
 
 pub edited-of-spec : {M : Type 1} → statement M
-edited-of-spec = tie.close (tie.spec enum-told enum-told-2 opened-of-requires returns returns-2)
+edited-of-spec =
+    tie.close
+    (tie.spec (λ c. search needs) (λ c. search needs) (λ c κs. search needs) returns returns-2)

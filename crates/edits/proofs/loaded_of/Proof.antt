@@ -17,9 +17,6 @@ Inv-loop state count records classes nodes₀ settled₀ glitch₀ i₀ nodes se
 abbrev μ-loop : tie.MeasureT-loop
 μ-loop state count records classes nodes₀ settled₀ glitch₀ i₀ nodes settled glitch i = count - i
 
-blank-node-requires : tie.Need-blank-node-requires Inv-loop μ-loop
-blank-node-requires c κs = search needs
-
 loop-holds : tie.Need-loop-holds Inv-loop μ-loop
 loop-holds c = (omega arith, rw (c .blank-node .ensures) (sym (column-none _ _ _)), sym (column-none _ _ _), sym (column-none _ _ _))
 
@@ -72,20 +69,6 @@ returns c =
 pub loaded-of-spec : {M : Type 1} → statement M
 loaded-of-spec =
     tie.close
-    (tie.spec
-    Inv-loop
-    μ-loop
-    blank-node-requires
-    loop-holds
-    mul-taken
-    array-copy-out-taken
-    mul-nodes
-    array-set-from-nodes
-    mul-settled
-    array-write-settled
-    mul-glitch
-    array-write-glitch
-    add-i
-    loop-less
-    loop-again
-    returns)
+    (tie.spec Inv-loop μ-loop (λ c κs. search needs) loop-holds mul-taken array-copy-out-taken
+    mul-nodes array-set-from-nodes mul-settled array-write-settled mul-glitch array-write-glitch
+    add-i loop-less loop-again returns)

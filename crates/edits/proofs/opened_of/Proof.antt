@@ -4,11 +4,8 @@ use borrow.Author.Needs.{needs}
 use Rattle.edits.proofs.opened_of.Statement.{statement}
 use Rattle.edits.proofs.opened_of.Tie as tie
 
-state-of-requires : tie.Need-state-of-requires
-state-of-requires c κs = search needs
-
 returns : tie.Need-returns
 returns c = rw (c .state-of .ensures)
 
 pub opened-of-spec : {M : Type 1} → statement M
-opened-of-spec = tie.close (tie.spec state-of-requires returns)
+opened-of-spec = tie.close (tie.spec (λ c κs. search needs) returns)

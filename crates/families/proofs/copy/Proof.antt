@@ -13,15 +13,6 @@ use Rattle.families.proofs.Parts.{with-same, with-other}
 use Rattle.families.proofs.copy.Statement.{statement}
 use Rattle.families.proofs.copy.Tie as tie
 
-make-empty-requires : tie.Need-make-empty-requires
-make-empty-requires c κs = search needs
-
-unite-requires : tie.Need-unite-requires
-unite-requires c κs = search needs
-
-same-length : tie.Need-same-length
-same-length c = search needs
-
 returns : tie.Need-returns
 unfolding member
 returns c =
@@ -35,4 +26,5 @@ returns c =
     ∙ with-same work (start .args .into) (union lower []) lower (λ A h. member-union A lower [] ∙ or-false (member A lower))
 
 pub copy-spec : {M : Type 1} → statement M
-copy-spec = tie.close (tie.spec make-empty-requires unite-requires same-length returns)
+copy-spec =
+    tie.close (tie.spec (λ c κs. search needs) (λ c κs. search needs) (λ c. search needs) returns)

@@ -8,21 +8,6 @@ use Rattle.families.proofs.Parts.{member-at}
 use Rattle.families.proofs.holds.Statement.{statement}
 use Rattle.families.proofs.holds.Tie as tie
 
-mul-result : tie.Need-mul-result
-mul-result c = search needs
-
-add-result : tie.Need-add-result
-add-result c = search needs
-
-shared-slice-read-result : tie.Need-shared-slice-read-result
-shared-slice-read-result c = search needs
-
-cast-result : tie.Need-cast-result
-cast-result c = search needs
-
-shr-result : tie.Need-shr-result
-shr-result c = search needs
-
 returns : tie.Need-returns
 unfolding holdsAt
 returns c = sym (member-at (now (c .before .args .work)) (c .before .args .part) (c .before .args .set) (c .before .pre .1))
@@ -30,4 +15,5 @@ returns c = sym (member-at (now (c .before .args .work)) (c .before .args .part)
 pub holds-spec : {M : Type 1} → statement M
 holds-spec =
     tie.close
-    (tie.spec mul-result add-result shared-slice-read-result cast-result shr-result returns)
+    (tie.spec (λ c. search needs) (λ c. search needs) (λ c. search needs) (λ c. search needs)
+    (λ c. search needs) returns)

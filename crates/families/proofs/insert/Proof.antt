@@ -21,24 +21,6 @@ use Rattle.families.proofs.Filling.{ByteOf, fill-end, bit-at}
 use Rattle.families.proofs.insert.Statement.{statement}
 use Rattle.families.proofs.insert.Tie as tie
 
-mul-at : tie.Need-mul-at
-mul-at c = search needs
-
-add-at : tie.Need-add-at
-add-at c = search needs
-
-slice-read-with-bit : tie.Need-slice-read-with-bit
-slice-read-with-bit c = search needs
-
-with-bit-requires : tie.Need-with-bit-requires
-with-bit-requires c κs = search needs
-
-slice-write-work : tie.Need-slice-write-work
-slice-write-work c = search needs
-
-same-length : tie.Need-same-length
-same-length c = search needs
-
 -- bit A mod 8 set in byte A / 8
 one-more : (work : List ℕ) (part A byte : ℕ) → HasPart work part → A < most-sets → ((i : ℕ) → getD work i 0 < 256) → byte < 256
     → ((k : ℕ) → k < 8 → odd (byte / 2 ^ k) ≡ (eqb k (A % 8) || odd (getD work (128 * part + A / 8) 0 / 2 ^ k)))
@@ -82,11 +64,5 @@ returns c =
 pub insert-spec : {M : Type 1} → statement M
 insert-spec =
     tie.close
-    (tie.spec
-    mul-at
-    add-at
-    slice-read-with-bit
-    with-bit-requires
-    slice-write-work
-    same-length
-    returns)
+    (tie.spec (λ c. search needs) (λ c. search needs) (λ c. search needs) (λ c κs. search needs)
+    (λ c. search needs) (λ c. search needs) returns)

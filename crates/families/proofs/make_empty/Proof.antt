@@ -17,23 +17,8 @@ Inv-loop work₀ part from emptied₀ work emptied = Filled work₀ part [] empt
 abbrev μ-loop : tie.MeasureT-loop
 μ-loop work₀ part from emptied₀ work emptied = 128 - emptied
 
-mul-from : tie.Need-mul-from Inv-loop μ-loop
-mul-from c = omega arith
-
 loop-holds : tie.Need-loop-holds Inv-loop μ-loop
 loop-holds c = fill-start
-
-add-work : tie.Need-add-work Inv-loop μ-loop
-add-work c = omega arith
-
-slice-write-work : tie.Need-slice-write-work Inv-loop μ-loop
-slice-write-work c = omega arith
-
-add-emptied : tie.Need-add-emptied Inv-loop μ-loop
-add-emptied c = omega arith
-
-loop-less : tie.Need-loop-less Inv-loop μ-loop
-loop-less c = omega arith
 
 loop-again : tie.Need-loop-again Inv-loop μ-loop
 unfolding member
@@ -49,4 +34,7 @@ returns : tie.Need-returns Inv-loop μ-loop
 returns c = fill-end (c .before .before .pre) (c .loop-test .left) (c .before .loop .inv)
 
 pub make-empty-spec : {M : Type 1} → statement M
-make-empty-spec = tie.close (tie.spec Inv-loop μ-loop mul-from loop-holds add-work slice-write-work add-emptied loop-less loop-again same-length returns)
+make-empty-spec =
+    tie.close
+    (tie.spec Inv-loop μ-loop (λ c. omega arith) loop-holds (λ c. omega arith) (λ c. omega arith)
+    (λ c. omega arith) (λ c. omega arith) loop-again same-length returns)

@@ -9,15 +9,6 @@ use Rattle.families.proofs.Parts.{with-one}
 use Rattle.families.proofs.single.Statement.{statement}
 use Rattle.families.proofs.single.Tie as tie
 
-make-empty-requires : tie.Need-make-empty-requires
-make-empty-requires c κs = search needs
-
-insert-requires : tie.Need-insert-requires
-insert-requires c κs = search needs
-
-same-length : tie.Need-same-length
-same-length c = search needs
-
 returns : tie.Need-returns
 unfolding member insert
 returns c =
@@ -28,4 +19,5 @@ returns c =
     ∙ with-one (now (start .args .work)) (emptied .make-empty .last .0) (start .args .into) [] (start .pre .0) (emptied .make-empty .ensures) (start .args .set)
 
 pub single-spec : {M : Type 1} → statement M
-single-spec = tie.close (tie.spec make-empty-requires insert-requires same-length returns)
+single-spec =
+    tie.close (tie.spec (λ c κs. search needs) (λ c κs. search needs) (λ c. search needs) returns)

@@ -17,33 +17,15 @@ Inv-loop work part from sets₀ counted₀ sets counted = (counted ≤ 128) × (
 abbrev μ-loop : tie.MeasureT-loop
 μ-loop work part from sets₀ counted₀ sets counted = 128 - counted
 
-mul-from : tie.Need-mul-from Inv-loop μ-loop
-mul-from c = omega arith
-
 loop-holds : tie.Need-loop-holds Inv-loop μ-loop
 unfolding setsBelow
 loop-holds c = (omega arith, refl)
 
-add-ones : tie.Need-add-ones Inv-loop μ-loop
-add-ones c = omega arith
-
-shared-slice-read-ones : tie.Need-shared-slice-read-ones Inv-loop μ-loop
-shared-slice-read-ones c = omega arith
-
 ones-requires : tie.Need-ones-requires Inv-loop μ-loop
 ones-requires c κs = tt
 
-cast-sets : tie.Need-cast-sets Inv-loop μ-loop
-cast-sets c = omega arith
-
 add-sets : tie.Need-add-sets Inv-loop μ-loop
 add-sets c = omega (arith, length-below (c .before .before .before .before .before .args .work .now) (c .before .before .before .before .before .args .part) (8 * c .before .before .before .loop .counted))
-
-add-counted : tie.Need-add-counted Inv-loop μ-loop
-add-counted c = omega arith
-
-loop-less : tie.Need-loop-less Inv-loop μ-loop
-loop-less c = omega arith
 
 loop-again : tie.Need-loop-again Inv-loop μ-loop
 loop-again c =
@@ -64,18 +46,6 @@ returns c =
 pub size-spec : {M : Type 1} → statement M
 size-spec =
     tie.close
-    (tie.spec
-    Inv-loop
-    μ-loop
-    mul-from
-    loop-holds
-    add-ones
-    shared-slice-read-ones
-    ones-requires
-    cast-sets
-    add-sets
-    add-counted
-    loop-less
-    loop-again
-    cast-result
-    returns)
+    (tie.spec Inv-loop μ-loop (λ c. omega arith) loop-holds (λ c. omega arith) (λ c. omega arith)
+    ones-requires (λ c. omega arith) add-sets (λ c. omega arith) (λ c. omega arith) loop-again
+    cast-result returns)

@@ -13,12 +13,6 @@ use Rattle.families.proofs.Filling.{bit-or, bit-power}
 use Rattle.families.proofs.with_bit.Statement.{statement}
 use Rattle.families.proofs.with_bit.Tie as tie
 
-cast-result : tie.Need-cast-result
-cast-result c = search needs
-
-shl-result : tie.Need-shl-result
-shl-result c = search needs
-
 one-more : (byte k j : ℕ) → k < 8 → odd (bitOr byte (1 * 2 ^ k % 256) / 2 ^ j) ≡ (eqb j k || odd (byte / 2 ^ j))
 one-more byte k j h =
     rw (one-mul (2 ^ k), mod-eq-of-lt (pow-lt h))
@@ -28,4 +22,4 @@ returns : tie.Need-returns
 returns c j h = one-more (c .args .byte) (c .args .k) j (c .pre)
 
 pub with-bit-spec : {M : Type 1} → statement M
-with-bit-spec = tie.close (tie.spec cast-result shl-result returns)
+with-bit-spec = tie.close (tie.spec (λ c. search needs) (λ c. search needs) returns)

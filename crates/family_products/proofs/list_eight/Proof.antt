@@ -21,41 +21,8 @@ Inv-loop work part eight sets₀ before from low listed₀ passed₀ sets listed
 abbrev μ-loop : tie.MeasureT-loop
 μ-loop work part eight sets₀ before from low listed₀ passed₀ sets listed passed = 8 - passed
 
-mul-from : tie.Need-mul-from Inv-loop μ-loop
-mul-from c = omega arith
-
-mul-from-2 : tie.Need-mul-from-2 Inv-loop μ-loop
-mul-from-2 c = omega arith
-
-add-from : tie.Need-add-from Inv-loop μ-loop
-add-from c = omega arith
-
-mul-low : tie.Need-mul-low Inv-loop μ-loop
-mul-low c = omega arith
-
 loop-holds : tie.Need-loop-holds Inv-loop μ-loop
 loop-holds c = (omega arith, refl, omega arith, λ start so-far. rw (add-zero (64 * c .before .before .args .eight)) so-far)
-
-add-byte : tie.Need-add-byte Inv-loop μ-loop
-add-byte c = omega arith
-
-shared-slice-read-byte : tie.Need-shared-slice-read-byte Inv-loop μ-loop
-shared-slice-read-byte c = omega arith
-
-mul-list-byte : tie.Need-mul-list-byte Inv-loop μ-loop
-mul-list-byte c = omega arith
-
-add-list-byte : tie.Need-add-list-byte Inv-loop μ-loop
-add-list-byte c = omega arith
-
-list-byte-requires : tie.Need-list-byte-requires Inv-loop μ-loop
-list-byte-requires c κs = omega arith
-
-add-passed : tie.Need-add-passed Inv-loop μ-loop
-add-passed c = omega arith
-
-loop-less : tie.Need-loop-less Inv-loop μ-loop
-loop-less c = omega arith
 
 loop-again : tie.Need-loop-again Inv-loop μ-loop
 loop-again c =
@@ -95,21 +62,7 @@ returns c =
 pub list-eight-spec : {M : Type 1} → statement M
 list-eight-spec =
     tie.close
-    (tie.spec
-    Inv-loop
-    μ-loop
-    mul-from
-    mul-from-2
-    add-from
-    mul-low
-    loop-holds
-    add-byte
-    shared-slice-read-byte
-    mul-list-byte
-    add-list-byte
-    list-byte-requires
-    add-passed
-    loop-less
-    loop-again
-    same-length
-    returns)
+    (tie.spec Inv-loop μ-loop (λ c. omega arith) (λ c. omega arith) (λ c. omega arith)
+    (λ c. omega arith) loop-holds (λ c. omega arith) (λ c. omega arith) (λ c. omega arith)
+    (λ c. omega arith) (λ c κs. omega arith) (λ c. omega arith) (λ c. omega arith) loop-again
+    same-length returns)

@@ -22,30 +22,9 @@ Inv-loop work part sets₀ from listed₀ eight₀ sets listed eight =
 abbrev μ-loop : tie.MeasureT-loop
 μ-loop work part sets₀ from listed₀ eight₀ sets listed eight = 16 - eight
 
-mul-from : tie.Need-mul-from Inv-loop μ-loop
-mul-from c = omega arith
-
 loop-holds : tie.Need-loop-holds Inv-loop μ-loop
 unfolding setsBelow reversed
 loop-holds c = (omega arith, refl, omega arith, record { count = refl; sets = refl })
-
-mul-eight-zeros : tie.Need-mul-eight-zeros Inv-loop μ-loop
-mul-eight-zeros c = omega arith
-
-add-eight-zeros : tie.Need-add-eight-zeros Inv-loop μ-loop
-add-eight-zeros c = omega arith
-
-eight-zeros-requires : tie.Need-eight-zeros-requires Inv-loop μ-loop
-eight-zeros-requires c κs = omega arith
-
-list-eight-requires : tie.Need-list-eight-requires Inv-loop μ-loop
-list-eight-requires c κs = omega arith
-
-add-eight : tie.Need-add-eight Inv-loop μ-loop
-add-eight c = omega arith
-
-loop-less : tie.Need-loop-less Inv-loop μ-loop
-loop-less c = omega arith
 
 loop-again : tie.Need-loop-again Inv-loop μ-loop
 loop-again c =
@@ -84,17 +63,6 @@ returns c =
 pub list-sets-spec : {M : Type 1} → statement M
 list-sets-spec =
     tie.close
-    (tie.spec
-    Inv-loop
-    μ-loop
-    mul-from
-    loop-holds
-    mul-eight-zeros
-    add-eight-zeros
-    eight-zeros-requires
-    list-eight-requires
-    add-eight
-    loop-less
-    loop-again
-    same-length
-    returns)
+    (tie.spec Inv-loop μ-loop (λ c. omega arith) loop-holds (λ c. omega arith) (λ c. omega arith)
+    (λ c κs. omega arith) (λ c κs. omega arith) (λ c. omega arith) (λ c. omega arith) loop-again
+    same-length returns)

@@ -88,14 +88,8 @@ start c = first-listed c .before .before .before .before
 few : (c : tie.At-loop Inv-loop μ-loop) → (first-listed c .list-sets .result ≤ most-sets) × (second-listed c .list-sets2 .result ≤ most-sets)
 few c = (rw (first-listed c .list-sets .ensures .1) (length-at _ _), rw (second-listed c .list-sets2 .ensures .1) (length-at _ _))
 
-slice-aggregate-list-sets : tie.Need-slice-aggregate-list-sets Inv-loop μ-loop
-slice-aggregate-list-sets c = search needs
-
 list-sets-requires : tie.Need-list-sets-requires Inv-loop μ-loop
 list-sets-requires c κs = (omega (arith, c .before .before .before .pre), omega arith)
-
-slice-aggregate-list-sets-2 : tie.Need-slice-aggregate-list-sets-2 Inv-loop μ-loop
-slice-aggregate-list-sets-2 c = search needs
 
 list-sets-requires-2 : tie.Need-list-sets-requires-2 Inv-loop μ-loop
 list-sets-requires-2 c κs = (omega (arith, c .before .before .before .before .before .before .before .pre), omega arith)
@@ -123,9 +117,6 @@ mul-try-row c = omega (arith, few (c .before .before))
 array-read-try-row : tie.Need-array-read-try-row Inv-loop μ-loop
 array-read-try-row c = omega (arith, few (c .before .before))
 
-slice-aggregate-try-row : tie.Need-slice-aggregate-try-row Inv-loop μ-loop
-slice-aggregate-try-row c = search needs
-
 try-row-requires : tie.Need-try-row-requires Inv-loop μ-loop
 try-row-requires c κs =
     let head = c .before .before .before in
@@ -138,12 +129,6 @@ try-row-requires c κs =
       front-sets _ _ _ _ _ (second .ensures .0) (second .ensures .1) (zeros-sets 1024 (second .result)),
       omega (arith, few head, few-pairs (head .loop .i) (second .result) (omega (arith, few head)) (few head .1)),
     )
-
-add-i : tie.Need-add-i Inv-loop μ-loop
-add-i c = omega arith
-
-loop-less : tie.Need-loop-less Inv-loop μ-loop
-loop-less c = omega arith
 
 loop-again : tie.Need-loop-again Inv-loop μ-loop
 loop-again c =
@@ -181,21 +166,7 @@ returns c =
 pub product-spec : {M : Type 1} → statement M
 product-spec =
     tie.close
-    (tie.spec
-    Inv-loop
-    μ-loop
-    slice-aggregate-list-sets
-    list-sets-requires
-    slice-aggregate-list-sets-2
-    list-sets-requires-2
-    make-empty-requires
-    loop-holds
-    mul-try-row
-    array-read-try-row
-    slice-aggregate-try-row
-    try-row-requires
-    add-i
-    loop-less
-    loop-again
-    same-length
-    returns)
+    (tie.spec Inv-loop μ-loop (λ c. search needs) list-sets-requires (λ c. search needs)
+    list-sets-requires-2 make-empty-requires loop-holds mul-try-row array-read-try-row
+    (λ c. search needs) try-row-requires (λ c. omega arith) (λ c. omega arith) loop-again
+    same-length returns)

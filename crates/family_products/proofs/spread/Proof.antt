@@ -10,21 +10,6 @@ use Rattle.families.proofs.Parts.{with-one, with-other}
 use Rattle.family_products.proofs.spread.Statement.{statement}
 use Rattle.family_products.proofs.spread.Tie as tie
 
-multiply-requires : tie.Need-multiply-requires
-multiply-requires c κs = search needs
-
-unite-requires : tie.Need-unite-requires
-unite-requires c κs = search needs
-
-unite-requires-2 : tie.Need-unite-requires-2
-unite-requires-2 c κs = search needs
-
-insert-requires : tie.Need-insert-requires
-insert-requires c κs = search needs
-
-same-length : tie.Need-same-length
-same-length c = search needs
-
 returns : tie.Need-returns
 unfolding spread
 returns c =
@@ -45,10 +30,5 @@ returns c =
 pub spread-spec : {M : Type 1} → statement M
 spread-spec =
     tie.close
-    (tie.spec
-    multiply-requires
-    unite-requires
-    unite-requires-2
-    insert-requires
-    same-length
-    returns)
+    (tie.spec (λ c κs. search needs) (λ c κs. search needs) (λ c κs. search needs)
+    (λ c κs. search needs) (λ c. search needs) returns)

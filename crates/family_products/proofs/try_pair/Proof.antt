@@ -21,11 +21,9 @@ insert-requires c κs = omega (arith, low (c .before .before))
 add-result : tie.Need-add-result
 add-result c = omega (arith, c .before .before .before .before .before .pre)
 
-same-length : tie.Need-same-length
-same-length c = search needs
-
 returns : tie.Need-returns
 returns c = (c .before .before .insert .ensures, refl)
 
 pub try-pair-spec : {M : Type 1} → statement M
-try-pair-spec = tie.close (tie.spec cast-insert insert-requires add-result same-length returns)
+try-pair-spec =
+    tie.close (tie.spec cast-insert insert-requires add-result (λ c. search needs) returns)

@@ -56,23 +56,11 @@ loop-holds c =
     let args = c .before .before .args in
     (omega arith, refl, omega arith, with-own (args .work .now) (args .into) (c .before .before .pre .0) (λ i. c .before .slice-known .given i .fits))
 
-mul-try-pair : tie.Need-mul-try-pair Inv-loop μ-loop
-mul-try-pair c = omega arith
-
-shared-slice-read-try-pair : tie.Need-shared-slice-read-try-pair Inv-loop μ-loop
-shared-slice-read-try-pair c = omega arith
-
 try-pair-requires : tie.Need-try-pair-requires Inv-loop μ-loop
 try-pair-requires c κs =
     let start = c .before .before .before .before .before .before in
     let (few, long, tried, so-far) = c .before .before .before .loop .inv in
     (omega (arith, start .pre .0, long), start .pre .1, start .pre .3 (c .before .before .before .loop .j), omega arith)
-
-add-j : tie.Need-add-j Inv-loop μ-loop
-add-j c = omega arith
-
-loop-less : tie.Need-loop-less Inv-loop μ-loop
-loop-less c = omega arith
 
 loop-again : tie.Need-loop-again Inv-loop μ-loop
 loop-again c =
@@ -99,15 +87,5 @@ returns c =
 pub try-row-spec : {M : Type 1} → statement M
 try-row-spec =
     tie.close
-    (tie.spec
-    Inv-loop
-    μ-loop
-    loop-holds
-    mul-try-pair
-    shared-slice-read-try-pair
-    try-pair-requires
-    add-j
-    loop-less
-    loop-again
-    same-length
-    returns)
+    (tie.spec Inv-loop μ-loop loop-holds (λ c. omega arith) (λ c. omega arith) try-pair-requires
+    (λ c. omega arith) (λ c. omega arith) loop-again same-length returns)

@@ -7,21 +7,11 @@ use borrow.Author.Needs.{needs}
 use Rattle.file_writes.proofs.number_of.Statement.{statement}
 use Rattle.file_writes.proofs.number_of.Tie as tie
 
-buffer-requires : tie.Need-buffer-requires
-buffer-requires c κs = search needs
-
 cast-count : tie.Need-cast-count
 cast-count c = subst (SFits w64) (sym (toZ-ofZ (c .before .fits .fd))) (sfits-widen tt (c .before .fits .fd))
 
-slice-aggregate-count : tie.Need-slice-aggregate-count
-slice-aggregate-count c = search needs
-
-count-requires : tie.Need-count-requires
-count-requires c κs = search needs
-
-returns : tie.Need-returns
-returns c = search needs
-
 pub number-of-spec : {M : Type 1} → statement M
 number-of-spec =
-    tie.close (tie.spec buffer-requires cast-count slice-aggregate-count count-requires returns)
+    tie.close
+    (tie.spec (λ c κs. search needs) cast-count (λ c. search needs) (λ c κs. search needs)
+    (λ c. search needs))

@@ -5,25 +5,10 @@ use Rattle.held_blocks.proofs.Held.{edit-reply, made-held, kept-held}
 use Rattle.held_blocks.proofs.edit_held.Statement.{statement}
 use Rattle.held_blocks.proofs.edit_held.Tie as tie
 
-change-requires : tie.Need-change-requires
-change-requires c κs = search needs
-
-enum-told : tie.Need-enum-told
-enum-told c = search needs
-
-enum-told-2 : tie.Need-enum-told-2
-enum-told-2 c = search needs
-
-same-length : tie.Need-same-length
-same-length c = search needs
-
 returns : tie.Need-returns
 returns c =
     let changes = c .before .before .before .before .change .ensures in
     (λ n held. edit-reply held _ _ changes, λ n held. kept-held held _ _ changes (c .enum-told .given .1))
-
-same-length-2 : tie.Need-same-length-2
-same-length-2 c = search needs
 
 returns-2 : tie.Need-returns-2
 returns-2 c =
@@ -33,4 +18,5 @@ returns-2 c =
 pub edit-held-spec : {M : Type 1} → statement M
 edit-held-spec =
     tie.close
-    (tie.spec change-requires enum-told enum-told-2 same-length returns same-length-2 returns-2)
+    (tie.spec (λ c κs. search needs) (λ c. search needs) (λ c. search needs) (λ c. search needs)
+    returns (λ c. search needs) returns-2)

@@ -27,16 +27,12 @@ first-listed front file before after r is-front size room is-after =
 slice-aggregate-telgouin-listing : tie.Need-slice-aggregate-telgouin-listing
 slice-aggregate-telgouin-listing c = sym (length-take-le _ _ (omega arith))
 
-telgouin-listing-requires : tie.Need-telgouin-listing-requires
-telgouin-listing-requires c κs = search needs
-
-same-length : tie.Need-same-length
-same-length c = search needs
-
 returns : tie.Need-returns
 returns c =
     let learnt = c .before .before .telgouin-listing .ensures in
     (λ file is-front. first-listed _ file _ _ _ is-front (learnt .0) (omega (arith, learnt .1 .0)) (learnt .1 .1), learnt .1 .0)
 
 pub list-file-spec : {M : Type 1} → statement M
-list-file-spec = tie.close (tie.spec slice-aggregate-telgouin-listing telgouin-listing-requires same-length returns)
+list-file-spec =
+    tie.close
+    (tie.spec slice-aggregate-telgouin-listing (λ c κs. search needs) (λ c. search needs) returns)

@@ -5,8 +5,9 @@ use mathlib.Core.Path.{_≡_, refl, sym, ap, _∙_}
 use mathlib.Core.List.{List, [], _∷_}
 use native.Mathlib.Omega.{arith}
 use lib.ListN.{getD}
-use Rattle.rules.specs.Records.{Cell, input, NOT, XOR, AND, OR, register, kindOf}
-use Rattle.rules.specs.Listing.{word, kindName}
+use Rattle.rules.specs.Records.{NOT, XOR, AND, OR, register, last-kind, Cell, input, gate, kindOf}
+use Rattle.rules.specs.Listing.{word, nameOf, kindName}
+use Rattle.rules.proofs.Operands.{known}
 use Rattle.listing_lines.proofs.name_of.Statement.{statement}
 use Rattle.listing_lines.proofs.name_of.Tie as tie
 
@@ -15,23 +16,19 @@ wordFor : ℕ → List ℕ
 wordFor kind = getD ([] ∷ [] ∷ word "in" ∷ word "not" ∷ word "xor" ∷ word "and" ∷ word "or" ∷ []) kind (word "reg")
 
 named : (cell : Cell) → wordFor (kindOf cell) ≡ kindName cell
-unfolding wordFor kindOf kindName
+unfolding wordFor kindOf kindName nameOf
 named (input s) = refl
-named (NOT a) = refl
-named (XOR a b) = refl
-named (AND a b) = refl
-named (OR a b) = refl
-named (register a) = refl
+named (gate NOT ops) = refl
+named (gate XOR ops) = refl
+named (gate AND ops) = refl
+named (gate OR ops) = refl
+named (gate register ops) = refl
 
--- kinds are numbered from 2 to 7
-numbered : (cell : Cell) → (2 ≤ kindOf cell) × (kindOf cell ≤ 7)
+-- kinds are numbered from 2 to the last
+numbered : (cell : Cell) → (2 ≤ kindOf cell) × (kindOf cell ≤ last-kind)
 unfolding kindOf
 numbered (input s) = omega arith
-numbered (NOT a) = omega arith
-numbered (XOR a b) = omega arith
-numbered (AND a b) = omega arith
-numbered (OR a b) = omega arith
-numbered (register a) = omega arith
+numbered (gate kind ops) = omega (arith, known kind .above, known kind .below)
 
 -- where the kind is this number, its word is the name of each node of the kind
 said : {kind : ℕ} (number : ℕ) → kind ≡ number → (cell : Cell) → kind ≡ kindOf cell → wordFor number ≡ kindName cell

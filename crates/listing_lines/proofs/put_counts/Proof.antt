@@ -21,17 +21,8 @@ digits c = (decimal-short 2 (c .args .variables) (omega arith) (omega arith), de
 digits-behind : (c : tie.After-put-field) → Digits (c .before .before .before .before .before .before .before .before)
 digits-behind c = digits (c .before .before .before .before .before .before .before .before)
 
-slice-aggregate-put-word : tie.Need-slice-aggregate-put-word
-slice-aggregate-put-word c = search needs
-
-put-word-requires : tie.Need-put-word-requires
-put-word-requires c κs = search needs
-
 put-field-requires : tie.Need-put-field-requires
 put-field-requires c κs = omega (arith, digits (c .before .before .before .before .before .before .before))
-
-slice-aggregate-put-word-2 : tie.Need-slice-aggregate-put-word-2
-slice-aggregate-put-word-2 c = search needs
 
 put-word-requires-2 : tie.Need-put-word-requires-2
 put-word-requires-2 c κs = omega (arith, digits-behind (c .before .before .before .before))
@@ -41,9 +32,6 @@ put-field-requires-2 c κs = omega (arith, digits-behind (c .before .before .bef
 
 put-byte-requires : tie.Need-put-byte-requires
 put-byte-requires c κs = omega (arith, digits-behind (c .before .before .before .before .before .before .before .before .before .before .before .before))
-
-same-length : tie.Need-same-length
-same-length c = search needs
 
 returns : tie.Need-returns
 unfolding word line
@@ -63,13 +51,5 @@ returns c =
 pub put-counts-spec : {M : Type 1} → statement M
 put-counts-spec =
     tie.close
-    (tie.spec
-    slice-aggregate-put-word
-    put-word-requires
-    put-field-requires
-    slice-aggregate-put-word-2
-    put-word-requires-2
-    put-field-requires-2
-    put-byte-requires
-    same-length
-    returns)
+    (tie.spec (λ c. search needs) (λ c κs. search needs) put-field-requires (λ c. search needs)
+    put-word-requires-2 put-field-requires-2 put-byte-requires (λ c. search needs) returns)

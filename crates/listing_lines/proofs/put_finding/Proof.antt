@@ -21,18 +21,6 @@ digits {half} {i} {A} e short =
     let named : Short (Suspect i A) = rw e at short in
     (decimal-short 3 i (omega arith) (omega arith), decimal-short 4 A (omega arith) (omega arith))
 
-enum-told : tie.Need-enum-told
-enum-told c = search needs
-
-slice-aggregate-put-word : tie.Need-slice-aggregate-put-word
-slice-aggregate-put-word c = search needs
-
-put-word-requires : tie.Need-put-word-requires
-put-word-requires c κs = search needs
-
-enum-known-half : tie.Need-enum-known-half
-enum-known-half c = search needs
-
 put-field-requires : tie.Need-put-field-requires
 put-field-requires c κs = omega (arith, digits (c .before .before .half .given .1) (c .before .before .before .before .before .pre .1))
 
@@ -46,15 +34,9 @@ put-byte-requires c κs =
     let half = c .before .before .before .before .before .before .before .before .before .before in
     omega (arith, digits (half .half .given .1) (half .before .before .before .pre .1))
 
-same-length : tie.Need-same-length
-same-length c = search needs
-
 returns : tie.Need-returns
 unfolding word line foundText
 returns c = (rw (c .before .before .before .before .before .enum-told .given .1) (c .before .before .put-word .ensures), omega arith)
-
-same-length-2 : tie.Need-same-length-2
-same-length-2 c = search needs
 
 returns-2 : tie.Need-returns-2
 unfolding word line foundText
@@ -70,15 +52,6 @@ returns-2 c =
 pub put-finding-spec : {M : Type 1} → statement M
 put-finding-spec =
     tie.close
-    (tie.spec
-    enum-told
-    slice-aggregate-put-word
-    put-word-requires
-    enum-known-half
-    put-field-requires
-    put-field-requires-2
-    put-byte-requires
-    same-length
-    returns
-    same-length-2
-    returns-2)
+    (tie.spec (λ c. search needs) (λ c. search needs) (λ c κs. search needs) (λ c. search needs)
+    put-field-requires put-field-requires-2 put-byte-requires (λ c. search needs) returns
+    (λ c. search needs) returns-2)

@@ -17,27 +17,6 @@ unfolding line halfLine foundText
 half-text name clear = refl
 half-text name (suspectAt i A) = refl
 
-slice-aggregate-put-word : tie.Need-slice-aggregate-put-word
-slice-aggregate-put-word c = search needs
-
-put-word-requires : tie.Need-put-word-requires
-put-word-requires c κs = search needs
-
-put-finding-requires : tie.Need-put-finding-requires
-put-finding-requires c κs = search needs
-
-slice-aggregate-put-word-2 : tie.Need-slice-aggregate-put-word-2
-slice-aggregate-put-word-2 c = search needs
-
-put-word-requires-2 : tie.Need-put-word-requires-2
-put-word-requires-2 c κs = search needs
-
-put-finding-requires-2 : tie.Need-put-finding-requires-2
-put-finding-requires-2 c κs = search needs
-
-same-length : tie.Need-same-length
-same-length c = search needs
-
 returns : tie.Need-returns
 unfolding word
 returns c =
@@ -53,12 +32,5 @@ returns c =
 pub put-halves-spec : {M : Type 1} → statement M
 put-halves-spec =
     tie.close
-    (tie.spec
-    slice-aggregate-put-word
-    put-word-requires
-    put-finding-requires
-    slice-aggregate-put-word-2
-    put-word-requires-2
-    put-finding-requires-2
-    same-length
-    returns)
+    (tie.spec (λ c. search needs) (λ c κs. search needs) (λ c κs. search needs) (λ c. search needs)
+    (λ c κs. search needs) (λ c κs. search needs) (λ c. search needs) returns)

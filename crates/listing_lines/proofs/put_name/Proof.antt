@@ -5,17 +5,11 @@ use lib.Seq.{length-take-le}
 use Rattle.listing_lines.proofs.put_name.Statement.{statement}
 use Rattle.listing_lines.proofs.put_name.Tie as tie
 
-array-share-prefix-letters : tie.Need-array-share-prefix-letters
-array-share-prefix-letters c = search needs
-
 slice-aggregate-put-word : tie.Need-slice-aggregate-put-word
 slice-aggregate-put-word c = let start = c .before .before .before .before in sym (length-take-le _ _ (start .pre .1))
 
 put-word-requires : tie.Need-put-word-requires
 put-word-requires c κs = let start = c .before .before .before .before in rw (length-take-le (start .args .name .size) _ (start .pre .1)) (start .pre .0)
-
-same-length : tie.Need-same-length
-same-length c = search needs
 
 returns : tie.Need-returns
 returns c =
@@ -25,4 +19,6 @@ returns c =
 
 pub put-name-spec : {M : Type 1} → statement M
 put-name-spec =
-    tie.close (tie.spec array-share-prefix-letters slice-aggregate-put-word put-word-requires same-length returns)
+    tie.close
+    (tie.spec (λ c. search needs) slice-aggregate-put-word put-word-requires (λ c. search needs)
+    returns)

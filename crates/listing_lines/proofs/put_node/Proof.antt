@@ -49,9 +49,6 @@ put-decimal-requires c κs = omega (arith, digits (c .before .before))
 put-byte-requires : tie.Need-put-byte-requires
 put-byte-requires c κs = omega (arith, digits (c .before .before .before .before .before .before))
 
-name-of-requires : tie.Need-name-of-requires
-name-of-requires c κs = search needs
-
 put-name-requires : tie.Need-put-name-requires
 put-name-requires c κs =
     let blank = c .before .before .before .before in
@@ -68,9 +65,6 @@ put-byte-requires-2 c κs =
     let glitch = c .before .before .before in
     let settled = glitch .before .before .before .before in
     omega (arith, named (settled .before .before .before .before))
-
-same-length : tie.Need-same-length
-same-length c = search needs
 
 returns : tie.Need-returns
 unfolding line
@@ -92,13 +86,5 @@ returns c =
 pub put-node-spec : {M : Type 1} → statement M
 put-node-spec =
     tie.close
-    (tie.spec
-    put-decimal-requires
-    put-byte-requires
-    name-of-requires
-    put-name-requires
-    put-field-requires
-    put-field-requires-2
-    put-byte-requires-2
-    same-length
-    returns)
+    (tie.spec put-decimal-requires put-byte-requires (λ c κs. search needs) put-name-requires
+    put-field-requires put-field-requires-2 put-byte-requires-2 (λ c. search needs) returns)

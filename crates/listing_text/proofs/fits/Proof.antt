@@ -4,15 +4,9 @@ use Rattle.listing_text.specs.Fits.{fits}
 use Rattle.listing_text.proofs.fits.Statement.{statement}
 use Rattle.listing_text.proofs.fits.Tie as tie
 
-is-short-requires : tie.Need-is-short-requires
-is-short-requires c κs = search needs
-
-is-short-requires-2 : tie.Need-is-short-requires-2
-is-short-requires-2 c κs = search needs
-
 returns : tie.Need-returns
 unfolding fits
 returns c = rw (c .before .is-short .ensures, c .is-short2 .ensures)
 
 pub fits-spec : {M : Type 1} → statement M
-fits-spec = tie.close (tie.spec is-short-requires is-short-requires-2 returns)
+fits-spec = tie.close (tie.spec (λ c κs. search needs) (λ c κs. search needs) returns)

@@ -4,12 +4,6 @@ use Rattle.listing_text.specs.Fits.{isShort}
 use Rattle.listing_text.proofs.is_short.Statement.{statement}
 use Rattle.listing_text.proofs.is_short.Tie as tie
 
-enum-told : tie.Need-enum-told
-enum-told c = search needs
-
-enum-known-half : tie.Need-enum-known-half
-enum-known-half c = search needs
-
 returns : tie.Need-returns
 unfolding isShort
 returns c = rw (c .enum-told .given .1)
@@ -19,4 +13,4 @@ unfolding isShort
 returns-2 c = rw (c .before .half .given .1)
 
 pub is-short-spec : {M : Type 1} → statement M
-is-short-spec = tie.close (tie.spec enum-told enum-known-half returns returns-2)
+is-short-spec = tie.close (tie.spec (λ c. search needs) (λ c. search needs) returns returns-2)

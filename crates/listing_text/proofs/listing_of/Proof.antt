@@ -13,9 +13,6 @@ use Rattle.listing_text.proofs.Numbers.{all-fit, block-fits}
 use Rattle.listing_text.proofs.listing_of.Statement.{statement}
 use Rattle.listing_text.proofs.listing_of.Tie as tie
 
-fits-requires : tie.Need-fits-requires
-fits-requires c κs = search needs
-
 returns : tie.Need-returns
 returns c = (
   λ n rest f e found w.
@@ -41,4 +38,4 @@ returns-2 c = (
 )
 
 pub listing-of-spec : {M : Type 1} → statement M
-listing-of-spec = tie.close (tie.spec fits-requires returns put-answer-requires returns-2)
+listing-of-spec = tie.close (tie.spec (λ c κs. search needs) returns put-answer-requires returns-2)

@@ -26,9 +26,6 @@ block-text : (value : Value.Netlist) (settled glitch : Half) (n : Netlist) → v
 unfolding netlistText
 block-text value settled glitch n is s g = rw (value-variables n is, value-count n is, s, g, ← append-assoc)
 
-put-counts-requires : tie.Need-put-counts-requires
-put-counts-requires c κs = search needs
-
 put-nodes-requires : tie.Need-put-nodes-requires
 put-nodes-requires c κs =
     let (room, _, few, work, _, _) = c .before .before .before .before .before .before .before .pre in (omega (arith, room, few), few, work)
@@ -37,9 +34,6 @@ put-halves-requires : tie.Need-put-halves-requires
 put-halves-requires c κs =
     let (room, _, few, _, settled, glitch) = c .before .before .before .before .before .before .before .before .before .before .before .pre in
     (omega (arith, room, few), settled, glitch)
-
-same-length : tie.Need-same-length
-same-length c = search needs
 
 returns : tie.Need-returns
 returns c =
@@ -57,4 +51,5 @@ returns c =
 pub put-answer-spec : {M : Type 1} → statement M
 put-answer-spec =
     tie.close
-    (tie.spec put-counts-requires put-nodes-requires put-halves-requires same-length returns)
+    (tie.spec (λ c κs. search needs) put-nodes-requires put-halves-requires (λ c. search needs)
+    returns)

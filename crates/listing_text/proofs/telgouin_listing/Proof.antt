@@ -37,9 +37,6 @@ module _ {before after : List ℕ} {count : ℕ} {text : List ℕ} (a : Appended
   unfolding shown
   not-copied slice h = rw (lt-leb (length text) (length slice) (omega (arith, size)))
 
-put-listing-requires : tie.Need-put-listing-requires
-put-listing-requires c κs = search needs
-
 array-share-prefix-whole : tie.Need-array-share-prefix-whole
 array-share-prefix-whole c = let whole = c .before .put-listing .ensures in within whole (sym (whole .long))
 
@@ -48,9 +45,6 @@ slice-aggregate-copy c = sym (front-length (c .before .before .put-listing .ensu
 
 copy-requires : tie.Need-copy-requires
 copy-requires c κs = omega (arith, front-length (c .before .before .before .put-listing .ensures))
-
-same-length : tie.Need-same-length
-same-length c = search needs
 
 returns : tie.Need-returns
 returns c =
@@ -66,11 +60,5 @@ returns-2 c =
 pub telgouin-listing-spec : {M : Type 1} → statement M
 telgouin-listing-spec =
     tie.close
-    (tie.spec
-    put-listing-requires
-    array-share-prefix-whole
-    slice-aggregate-copy
-    copy-requires
-    same-length
-    returns
-    returns-2)
+    (tie.spec (λ c κs. search needs) array-share-prefix-whole slice-aggregate-copy copy-requires
+    (λ c. search needs) returns returns-2)

@@ -7,18 +7,6 @@ use Rattle.marks.proofs.Layers.{last-none, last-found}
 use Rattle.marks.proofs.last_mark.Statement.{statement}
 use Rattle.marks.proofs.last_mark.Tie as tie
 
-sub-scan : tie.Need-sub-scan
-sub-scan c = search needs
-
-scan-requires : tie.Need-scan-requires
-scan-requires c κs = search needs
-
-enum-told : tie.Need-enum-told
-enum-told c = search needs
-
-enum-known-set : tie.Need-enum-known-set
-enum-known-set c = search needs
-
 cast-result : tie.Need-cast-result
 cast-result c = omega (arith, rw (c .before .set .given .1) at (c .before .before .before .scan .ensures .1))
 
@@ -35,4 +23,5 @@ returns-2 c =
 pub last-mark-spec : {M : Type 1} → statement M
 last-mark-spec =
     tie.close
-    (tie.spec sub-scan scan-requires enum-told enum-known-set cast-result returns returns-2)
+    (tie.spec (λ c. search needs) (λ c κs. search needs) (λ c. search needs) (λ c. search needs)
+    cast-result returns returns-2)

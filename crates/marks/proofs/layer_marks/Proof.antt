@@ -37,12 +37,6 @@ loop-holds c = (omega arith, λ n e. sym (padded-none most-nodes 0))
 scan-requires : tie.Need-scan-requires Inv-loop μ-loop
 scan-requires c κs = (c .before .before .before .pre .0, c .before .before .before .pre .1, c .before .loop .inv .0)
 
-enum-told : tie.Need-enum-told Inv-loop μ-loop
-enum-told c = search needs
-
-loop-less : tie.Need-loop-less Inv-loop μ-loop
-loop-less c = omega arith
-
 loop-again : tie.Need-loop-again Inv-loop μ-loop
 loop-again c = (
   omega arith,
@@ -55,9 +49,6 @@ loop-again c = (
       ∙ all-found _ _ (omega arith) (omega arith) (sym (c .before .before .scan .ensures .0 n e) ∙ rw (c .enum-told .given .1))
       ∙ rw (many, count),
 )
-
-enum-known-node : tie.Need-enum-known-node Inv-loop μ-loop
-enum-known-node c = search needs
 
 -- the node found is one from `from` on, and of the netlist, which has no more than there may be
 within : (c : tie.After-known-told Inv-loop μ-loop)
@@ -105,19 +96,6 @@ returns c =
 pub layer-marks-spec : {M : Type 1} → statement M
 layer-marks-spec =
     tie.close
-    (tie.spec
-    Inv-loop
-    μ-loop
-    loop-holds
-    scan-requires
-    enum-told
-    loop-less
-    loop-again
-    enum-known-node
-    cast-marks
-    mul-marks
-    array-write-marks
-    add-from
-    loop-less-2
-    loop-again-2
-    returns)
+    (tie.spec Inv-loop μ-loop loop-holds scan-requires (λ c. search needs) (λ c. omega arith)
+    loop-again (λ c. search needs) cast-marks mul-marks array-write-marks add-from loop-less-2
+    loop-again-2 returns)

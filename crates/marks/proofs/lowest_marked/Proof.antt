@@ -39,15 +39,6 @@ read-none marks count j h =
 loop-holds : tie.Need-loop-holds Inv-loop μ-loop
 loop-holds c = (omega arith, λ j l. absurd (omega arith))
 
-mul-set : tie.Need-mul-set Inv-loop μ-loop
-mul-set c = search needs
-
-array-read-set : tie.Need-array-read-set Inv-loop μ-loop
-array-read-set c = search needs
-
-cast-set : tie.Need-cast-set Inv-loop μ-loop
-cast-set c = search needs
-
 returns : tie.Need-returns Inv-loop μ-loop
 returns c =
     let marks = c .before .before .before .args .t1 in
@@ -56,12 +47,6 @@ returns c =
     (lowest-suspect 0 i (getD marks i 0) _ (read-at marks (c .before .before .before .args .count) i (c .before .loop-test .taken) ∙ mark-some (getD marks i 0) (c .if1 .taken))
     (λ j l. read-none marks (c .before .before .before .args .count) j (λ m. c .before .before .loop .inv .1 j l))
     ∙ rw (zero-add i))
-
-add-i : tie.Need-add-i Inv-loop μ-loop
-add-i c = search needs
-
-loop-less : tie.Need-loop-less Inv-loop μ-loop
-loop-less c = search needs
 
 loop-again : tie.Need-loop-again Inv-loop μ-loop
 loop-again c = (search needs, below-more _ _ (c .before .before .loop .inv .1) (c .if1 .left))
@@ -74,15 +59,5 @@ returns-2 c =
 pub lowest-marked-spec : {M : Type 1} → statement M
 lowest-marked-spec =
     tie.close
-    (tie.spec
-    Inv-loop
-    μ-loop
-    loop-holds
-    mul-set
-    array-read-set
-    cast-set
-    returns
-    add-i
-    loop-less
-    loop-again
-    returns-2)
+    (tie.spec Inv-loop μ-loop loop-holds (λ c. search needs) (λ c. search needs)
+    (λ c. search needs) returns (λ c. search needs) (λ c. search needs) loop-again returns-2)

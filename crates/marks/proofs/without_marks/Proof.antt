@@ -6,12 +6,6 @@ use Rattle.marks.specs.Marks.{marksIn}
 use Rattle.marks.proofs.without_marks.Statement.{statement}
 use Rattle.marks.proofs.without_marks.Tie as tie
 
-without-mark-requires : tie.Need-without-mark-requires
-without-mark-requires c κs = search needs
-
-without-mark-requires-2 : tie.Need-without-mark-requires-2
-without-mark-requires-2 c κs = search needs
-
 returns : tie.Need-returns
 unfolding marksIn
 returns c = λ settled glitch s g is.
@@ -21,4 +15,4 @@ returns c = λ settled glitch s g is.
     )
 
 pub without-marks-spec : {M : Type 1} → statement M
-without-marks-spec = tie.close (tie.spec without-mark-requires without-mark-requires-2 returns)
+without-marks-spec = tie.close (tie.spec (λ c κs. search needs) (λ c κs. search needs) returns)

@@ -1,11 +1,16 @@
--- `netlists::entry_of` meets its contract: the fields returned are those of the entry of the node that the bytes say.
--- By the tests on the kind, and by cases on the kinds that are left. Assumes nothing.
-use Prim.Native.Nat.{ℕ, zero, suc}
-use mathlib.Core.Path.{_≡_, refl}
+-- `netlists::entry_of` meets its contract: the fields returned are those of the entry of the node that the bytes say,
+-- an input's set or the first bytes of the body. Assumes nothing.
+use Prim.Native.Nat.{ℕ, _+_, _*_, _<_}
+use mathlib.Core.Path.{_≡_, sym, ap₂, _∙_}
+use mathlib.Core.List.{List}
+use native.Mathlib.Omega.{arith}
 use borrow.Author.Needs.{needs}
-use Rattle.rules.specs.declared.Node.{Node}
-use Rattle.rules.specs.Records.{Cell, node, said, kindOf, operands, setOf}
-use Rattle.rules.specs.Slices.{entry}
+use lib.ListN.{length, getD}
+use Rattle.rules.specs.Records.{operandCount, listed, firstOf, Cell, input, gate, node, said, kindOf, operands, setOf, most-body}
+use Rattle.rules.specs.Slices.{nodeOf, entry}
+use Rattle.rules.proofs.Operands.{listed-length}
+use Rattle.rules.proofs.Records.{says-gate, said-node}
+use Rattle.netlists.proofs.Netlists.{node-same}
 use Rattle.netlists.proofs.entry_of.Statement.{statement}
 use Rattle.netlists.proofs.entry_of.Tie as tie
 
@@ -13,40 +18,38 @@ use Rattle.netlists.proofs.entry_of.Tie as tie
 same-entry : (one cell : Cell) → node one ≡ node cell → entry one ≡ entry cell
 same-entry one cell e = cc
 
--- a kind that is none of those tested
-other-kind : (k b c : ℕ) (cell : Cell) → (k ≡ 2 → ⊥) → (k ≡ 3 → ⊥) → (k ≡ 7 → ⊥) → said k b c ≡ node cell
-    → _≡_ {A = Node} (record { kind = k; first = b; second = c; set = 0 }) (entry cell)
-unfolding said entry kindOf operands setOf
-other-kind zero b c cell i n r e = cc
-other-kind (suc zero) b c cell i n r e = cc
-other-kind (suc (suc zero)) b c cell i n r e = absurd (i refl)
-other-kind (suc (suc (suc zero))) b c cell i n r e = absurd (n refl)
-other-kind (suc (suc (suc (suc zero)))) b c cell i n r e = same-entry _ cell e
-other-kind (suc (suc (suc (suc (suc zero))))) b c cell i n r e = same-entry _ cell e
-other-kind (suc (suc (suc (suc (suc (suc zero)))))) b c cell i n r e = same-entry _ cell e
-other-kind (suc (suc (suc (suc (suc (suc (suc zero))))))) b c cell i n r e = absurd (r refl)
-other-kind (suc (suc (suc (suc (suc (suc (suc (suc k)))))))) b c cell i n r e = cc
+input-entry : (k : ℕ) (body : List ℕ) (cell : Cell) → k ≡ 2 → said k body ≡ node cell → entry (input (getD body 0 0 + 256 * getD body 1 0)) ≡ entry cell
+unfolding said
+input-entry k body cell two e = same-entry _ cell (rw two at e)
 
-mul-t7 : tie.Need-mul-t7
-mul-t7 c = search needs
-
-add-t8 : tie.Need-add-t8
-add-t8 c = search needs
+-- the entry of every other node, by the count of its operands
+gate-entry : (k : ℕ) (body : List ℕ) (count : ℕ) (first : List ℕ) (cell : Cell) → (k ≡ 2 → ⊥) → said k body ≡ node cell
+    → ((c : Cell) → k ≡ kindOf c → count ≡ length (operands c))
+    → ((j : ℕ) → j < most-body → getD first j 0 ≡ getD (listed count (firstOf count body)) j 0) → nodeOf k first 0 ≡ entry cell
+unfolding entry kindOf operands setOf
+gate-entry k body count first cell other e counts same =
+    let (above, below) = said-node k body cell e in
+    let (kind, number, says) = says-gate k body (omega arith) below in
+    let own : Cell = gate kind (firstOf (operandCount kind) body) in
+    let many : count ≡ operandCount kind = counts own (sym number) ∙ listed-length (operandCount kind) (firstOf (operandCount kind) body) in
+    node-same k 0 first (listed count (firstOf count body)) same
+    ∙ ap₂ (λ (j n : ℕ). nodeOf j (listed n (firstOf n body)) 0) (sym number) many ∙ same-entry own cell (sym says ∙ e)
 
 returns : tie.Need-returns
-unfolding said entry kindOf operands setOf
-returns c cell e = same-entry _ cell (rw (c .if1 .taken) at e)
+unfolding entry kindOf operands setOf
+returns c cell e = rw (c .node-of .ensures, c .before .set-of .ensures) (input-entry _ _ cell (c .before .before .if1 .taken) e)
+
+first-of-requires : tie.Need-first-of-requires
+first-of-requires c κs = c .operand-count .ensures .1 .1
 
 returns-2 : tie.Need-returns-2
-unfolding said entry kindOf operands setOf
-returns-2 c cell e = same-entry _ cell (rw (c .if2 .taken) at e)
-
-returns-3 : tie.Need-returns-3
-unfolding said entry kindOf operands setOf
-returns-3 c cell e = same-entry _ cell (rw (c .if3 .taken) at e)
-
-returns-4 : tie.Need-returns-4
-returns-4 c cell e = other-kind _ _ _ cell (c .before .before .if1 .left) (c .before .if2 .left) (c .if3 .left) e
+returns-2 c cell e =
+    let counted = c .before .before in
+    c .node-of2 .ensures
+    ∙ gate-entry _ _ _ (c .before .first-of .result) cell (counted .before .if1 .left) e (counted .operand-count .ensures .0) (c .before .first-of .ensures)
 
 pub entry-of-spec : {M : Type 1} → statement M
-entry-of-spec = tie.close (tie.spec mul-t7 add-t8 returns returns-2 returns-3 returns-4)
+entry-of-spec =
+    tie.close
+    (tie.spec (λ c. search needs) (λ c. search needs) (λ c κs. search needs) (λ c κs. search needs)
+    returns (λ c κs. search needs) first-of-requires (λ c κs. search needs) returns-2)

@@ -7,12 +7,9 @@ use Rattle.netlists.proofs.Netlists.{padded-none}
 use Rattle.netlists.proofs.no_records.Statement.{statement}
 use Rattle.netlists.proofs.no_records.Tie as tie
 
-blank-node-requires : tie.Need-blank-node-requires
-blank-node-requires c κs = search needs
-
 returns : tie.Need-returns
 unfolding flatOf
 returns c = rw (c .blank-node .ensures) (cc (padded-none {A = ℕ} most-variables 0, padded-none most-nodes blank))
 
 pub no-records-spec : {M : Type 1} → statement M
-no-records-spec = tie.close (tie.spec blank-node-requires returns)
+no-records-spec = tie.close (tie.spec (λ c κs. search needs) returns)

@@ -6,12 +6,9 @@ use Rattle.netlists.specs.Netlists.{kept}
 use Rattle.netlists.proofs.refused.Statement.{statement}
 use Rattle.netlists.proofs.refused.Tie as tie
 
-no-records-requires : tie.Need-no-records-requires
-no-records-requires c κs = search needs
-
 returns : tie.Need-returns
 unfolding andThen kept
 returns c = record { outcome = refl; netlist = c .no-records .ensures }
 
 pub refused-spec : {M : Type 1} → statement M
-refused-spec = tie.close (tie.spec no-records-requires returns)
+refused-spec = tie.close (tie.spec (λ c κs. search needs) returns)

@@ -6,17 +6,9 @@ use Rattle.netlists.proofs.Netlists.{value-node}
 use Rattle.netlists.proofs.with_node.Statement.{statement}
 use Rattle.netlists.proofs.with_node.Tie as tie
 
-mul-last : tie.Need-mul-last
-mul-last c = search needs
-
-element-set-from-last : tie.Need-element-set-from-last
-element-set-from-last c = search needs
-
-add-longer : tie.Need-add-longer
-add-longer c = search needs
-
 returns : tie.Need-returns
 returns c = (λ n cell e l. rw l (value-node n e cell (c .pre)), (refl, refl))
 
 pub with-node-spec : {M : Type 1} → statement M
-with-node-spec = tie.close (tie.spec mul-last element-set-from-last add-longer returns)
+with-node-spec =
+    tie.close (tie.spec (λ c. search needs) (λ c. search needs) (λ c. search needs) returns)

@@ -1,98 +1,15 @@
--- `nodes::all_families` meets its contract. The invariant: the first i nodes are done, of the netlist that is checked.
--- The measure is the number of nodes left. Assumes nothing.
-use Prim.Native.Nat.{ℕ, _+_, _*_, _-_, _≤_, _<_}
-use mathlib.Core.Path.{_≡_, sym, ap, _∙_}
-use mathlib.Core.List.{List, _++_}
+-- `nodes::all_families` meets its contract: of no nodes the families are done. Assumes nothing.
+use mathlib.Core.Path.{refl}
 use native.Mathlib.Omega.{arith}
-use lib.ListN.{length, getD, drop}
-use Rattle.rules.specs.Records.{Cell, input, Netlist}
-use Rattle.rules.specs.Families.{familiesRule, families}
-use Rattle.rules.specs.Slices.{entry, workBytes}
-use Rattle.netlists.specs.declared.Netlist as Value
-use Rattle.netlists.specs.Netlists.{blank, flatOf, Formed}
-use Rattle.netlists.proofs.Netlists.{value-count, value-entry, few-nodes, one-netlist}
-use Rattle.nodes.specs.Work.{soFar, withFamilies, Placed}
-use Rattle.nodes.proofs.Nodes.{nodesDone, none-done, next-done, all-done, done-length, placed}
+use borrow.Author.Needs.{needs}
+use Rattle.rules.specs.Slices.{workBytes}
 use Rattle.nodes.proofs.all_families.Statement.{statement}
 use Rattle.nodes.proofs.all_families.Tie as tie
 
-module _ {value : Value.Netlist} (f : Formed value) where
-  placed-at : (i : ℕ) → i < value .count → Placed i (getD (value .nodes) i blank)
-  placed-at i h = rw (value-entry (f .netlist) (f .is) i h) (placed (f .netlist) (f .obeys) i (omega (arith, value-count (f .netlist) (f .is))))
-
-  next : (before work after : List ℕ) (i : ℕ) → i < value .count → work ≡ nodesDone (f .netlist) before i
-      → ((cell : Cell) → getD (value .nodes) i blank ≡ entry cell → after ≡ withFamilies work i (familiesRule (soFar work i) cell))
-      → after ≡ nodesDone (f .netlist) before (i + 1)
-  next before work after i h e written =
-      written (getD (f .netlist .nodes) i (input 0)) (value-entry (f .netlist) (f .is) i h)
-      ∙ rw e (next-done (f .netlist) (f .obeys) before i (omega (arith, value-count (f .netlist) (f .is))))
-
-  size : (before work : List ℕ) (i : ℕ) → i ≤ value .count → 256 * value .count ≤ length before → work ≡ nodesDone (f .netlist) before i
-      → length work ≡ length before
-  size before work i h room e = ap length e ∙ done-length (f .netlist) before i (omega (arith, value-count (f .netlist) (f .is))) (omega arith)
-
-  finished : (before work : List ℕ) (i : ℕ) → i ≤ value .count → value .count ≤ i → work ≡ nodesDone (f .netlist) before i
-      → (n : Netlist) → value ≡ flatOf n → work ≡ workBytes (families n) ++ drop (length (workBytes (families n))) before
-  finished before work i h l e n same =
-      let there : i ≡ length (f .netlist .nodes) = omega (arith, value-count (f .netlist) (f .is)) in
-      rw (← one-netlist f n same) (e ∙ rw there (all-done (f .netlist) before))
-
-abbrev Inv-loop : tie.InvT-loop
-Inv-loop work₀ netlist count i₀ work i = (i ≤ count) × ((f : Formed netlist) → work ≡ nodesDone (f .netlist) work₀ i)
-
-abbrev μ-loop : tie.MeasureT-loop
-μ-loop work₀ netlist count i₀ work i = count - i
-
-loop-holds : tie.Need-loop-holds Inv-loop μ-loop
-loop-holds c = (omega arith, λ f. sym (none-done (f .netlist) _))
-
-mul-node-families : tie.Need-mul-node-families Inv-loop μ-loop
-mul-node-families c = omega (arith, few-nodes (c .before .before .before .before .pre .formed))
-
-element-copy-out-node-families : tie.Need-element-copy-out-node-families Inv-loop μ-loop
-element-copy-out-node-families c = omega (arith, few-nodes (c .before .before .before .before .pre .formed))
-
-node-families-requires : tie.Need-node-families-requires Inv-loop μ-loop
-node-families-requires c κs =
-    let f = c .before .before .before .before .before .pre .formed in
-    let turn = c .before .before .before .loop in (
-      omega (arith, size f _ _ _ (turn .inv .0) (c .before .before .before .before .before .pre .room) (turn .inv .1 f)),
-      placed-at f _ (c .before .before .loop-test .taken),
-    )
-
-add-i : tie.Need-add-i Inv-loop μ-loop
-add-i c = omega (arith, few-nodes (c .before .before .before .before .before .before .before .before .pre .formed))
-
-loop-less : tie.Need-loop-less Inv-loop μ-loop
-loop-less c = omega arith
-
-loop-again : tie.Need-loop-again Inv-loop μ-loop
-loop-again c =
-    let turn = c .before .before .before .before .before in
-    (omega arith, λ f. next f _ _ _ _ (turn .loop-test .taken) (turn .before .loop .inv .1 f) (c .before .before .node-families .ensures))
-
-same-length : tie.Need-same-length Inv-loop μ-loop
-same-length c =
-    let f = c .before .before .before .pre .formed in
-    size f _ _ _ (c .before .loop .inv .0) (c .before .before .before .pre .room) (c .before .loop .inv .1 f)
-
-returns : tie.Need-returns Inv-loop μ-loop
-returns c =
-    let f = c .before .before .before .pre .formed in
-    finished f _ _ _ (c .before .loop .inv .0) (c .loop-test .left) (c .before .loop .inv .1 f)
+families-from-requires : tie.Need-families-from-requires
+unfolding workBytes
+families-from-requires c κs = (c .before .before .pre, omega arith, λ n e. refl)
 
 pub all-families-spec : {M : Type 1} → statement M
 all-families-spec =
-    tie.close
-    (tie.spec
-    Inv-loop
-    μ-loop
-    loop-holds
-    mul-node-families
-    element-copy-out-node-families
-    node-families-requires
-    add-i
-    loop-less
-    loop-again
-    same-length
-    returns)
+    tie.close (tie.spec families-from-requires (λ c. search needs) (λ c. search needs))

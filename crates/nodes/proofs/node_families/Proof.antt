@@ -20,15 +20,6 @@ both : (before settled after : List ℕ) (i : ℕ) (cell : Cell) → HasPart bef
 unfolding withFamilies familiesRule
 both before settled after i cell has p q = q ∙ rw (p, so-far-with before i (settledRule (soFar before i) cell) has)
 
-settled-family-requires : tie.Need-settled-family-requires
-settled-family-requires c κs = search needs
-
-glitch-family-requires : tie.Need-glitch-family-requires
-glitch-family-requires c κs = search needs
-
-same-length : tie.Need-same-length
-same-length c = search needs
-
 returns : tie.Need-returns
 returns c = λ cell e.
     both _ _ _ _ cell (omega arith) (c .before .before .before .before .before .before .settled-family .ensures cell e)
@@ -36,4 +27,4 @@ returns c = λ cell e.
 
 pub node-families-spec : {M : Type 1} → statement M
 node-families-spec =
-    tie.close (tie.spec settled-family-requires glitch-family-requires same-length returns)
+    tie.close (tie.spec (λ c κs. search needs) (λ c κs. search needs) (λ c. search needs) returns)

@@ -11,7 +11,7 @@ use borrow.Author.Needs.{needs}
 use borrow.Author.Tests.{lt-ltb, le-ltb}
 use Rattle.suspects.specs.Suspects.{reportOf}
 use Rattle.pair_search.specs.Pairs.{pairAt, onward, searchFrom}
-use Rattle.pair_search.specs.Work.{reportIn}
+use Rattle.pair_search.specs.Work.{reportBetween}
 use Rattle.pair_search.proofs.look.Statement.{statement}
 use Rattle.pair_search.proofs.look.Tie as tie
 
@@ -21,42 +21,30 @@ opposite a e = sym (Bool·not-not a) ∙ ap not e
 
 returns-2 : tie.Need-returns-2
 unfolding searchFrom
-returns-2 c = λ variables by. rw (opposite (c .before .before .before .args .both) (c .before .if1 .left), le-ltb _ _ (c .if2 .taken))
-
-no-pair-requires : tie.Need-no-pair-requires
-no-pair-requires c κs = search needs
+returns-2 c = λ variables by. rw (opposite (c .before .before .before .before .args .both) (c .before .if1 .left), le-ltb _ _ (c .if2 .taken))
 
 returns : tie.Need-returns
 unfolding searchFrom
 returns c =
     λ variables by.
-    let args = c .before .before .before .args in
+    let args = c .before .before .before .before .args in
     c .no-pair .ensures
-    ∙ ap (λ (b : Bool). searchFrom (reportIn variables (now (args .work))) (args .terms .limit) (args .looked) (cond b (record { i = args .i; j = args .j } ∷ []) []))
+    ∙ ap (λ (b : Bool). searchFrom (reportBetween variables (now (args .first)) (now (args .second))) (args .terms .limit) (args .looked) (cond b (record { i = args .i; j = args .j } ∷ []) []))
     (sym (opposite (args .both) (c .before .if1 .taken)))
 
-add-position : tie.Need-add-position
-add-position c = search needs
-
-pair-set-requires : tie.Need-pair-set-requires
-pair-set-requires c κs = search needs
-
-no-pair-requires-2 : tie.Need-no-pair-requires-2
-no-pair-requires-2 c κs = search needs
-
 returns-3 : tie.Need-returns-3
-unfolding searchFrom onward reportOf
+unfolding searchFrom onward reportOf reportBetween
 returns-3 c =
     λ variables by.
     let reports : none ≡ _ = rw (le-ltb _ _ (c .before .if3 .taken)) at (c .before .before .pair-set .ensures variables by) in
-    rw (opposite (c .before .before .before .before .before .before .args .both) (c .before .before .before .before .if1 .left), lt-ltb _ _ (c .before .before .before .if2 .left), ← reports, ← add-one) (c .no-pair2 .ensures)
+    rw (opposite (c .before .before .before .before .before .before .before .args .both) (c .before .before .before .before .if1 .left), lt-ltb _ _ (c .before .before .before .if2 .left), ← reports, ← add-one) (c .no-pair2 .ensures)
 
 returns-4 : tie.Need-returns-4
-unfolding searchFrom onward reportOf
+unfolding searchFrom onward reportOf reportBetween
 returns-4 c =
     λ variables by.
     let reports : some (c .before .pair-set .result) ≡ _ = rw (lt-ltb _ _ (c .if3 .left)) at (c .before .pair-set .ensures variables by) in
-    let args = c .before .before .before .before .before .args in
+    let args = c .before .before .before .before .before .before .args in
     let found = pairAt (args .i) (args .j) (c .before .pair-set .result) in
     rw (opposite (args .both) (c .before .before .before .if1 .left), lt-ltb _ _ (c .before .before .if2 .left), ← reports)
     (ap (λ (k : ℕ). record { found = found; looked = k }) (add-one (args .looked)))
@@ -64,4 +52,6 @@ returns-4 c =
 pub look-spec : {M : Type 1} → statement M
 look-spec =
     tie.close
-    (tie.spec no-pair-requires returns returns-2 add-position pair-set-requires no-pair-requires-2 returns-3 returns-4)
+    (tie.spec (λ c κs. search needs) returns returns-2 (λ c. search needs) (λ c. search needs)
+    (λ c. search needs) (λ c. search needs) (λ c. search needs) (λ c κs. search needs)
+    (λ c κs. search needs) returns-3 returns-4)

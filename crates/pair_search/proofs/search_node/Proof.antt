@@ -12,9 +12,6 @@ variables-of-requires c κs = few-variables (c .before .pre .0 .formed)
 variables-of-requires-2 : tie.Need-variables-of-requires-2
 variables-of-requires-2 c κs = few-variables (c .before .before .pre .0 .formed)
 
-search-row-requires : tie.Need-search-row-requires
-search-row-requires c κs = search needs
-
 returns : tie.Need-returns
 unfolding classByte
 returns c =
@@ -25,4 +22,6 @@ returns c =
     }
 
 pub search-node-spec : {M : Type 1} → statement M
-search-node-spec = tie.close (tie.spec variables-of-requires variables-of-requires-2 search-row-requires returns)
+search-node-spec =
+    tie.close
+    (tie.spec variables-of-requires variables-of-requires-2 (λ c κs. search needs) returns)

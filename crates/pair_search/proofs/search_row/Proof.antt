@@ -15,9 +15,10 @@ use Rattle.rules.specs.Slices.{entry}
 use Rattle.netlists.specs.declared.Netlist.{Netlist}
 use Rattle.netlists.specs.Netlists.{blank, flatOf}
 use Rattle.netlists.proofs.Netlists.{value-entry, few-nodes}
+use Rattle.pair_tests.specs.Tests.{ByClass}
 use Rattle.pair_search.specs.Pairs.{isTested, row, Searched, searchFrom}
 use Rattle.pair_search.specs.Meaning.{searchedOf}
-use Rattle.pair_search.specs.Work.{ByClass, reportIn, over}
+use Rattle.pair_search.specs.Work.{reportIn, over}
 use Rattle.pair_search.proofs.Growing.{goes-on, stays-over, onePair, row-none, row-more}
 use Rattle.pair_search.proofs.search_row.Statement.{statement}
 use Rattle.pair_search.proofs.search_row.Tie as tie
@@ -44,12 +45,6 @@ mul-higher c = omega (arith, few-nodes (c .before .pre .0 .formed))
 element-copy-out-higher : tie.Need-element-copy-out-higher Inv-loop μ-loop
 element-copy-out-higher c = omega (arith, few-nodes (c .before .pre .0 .formed))
 
-is-tested-requires : tie.Need-is-tested-requires Inv-loop μ-loop
-is-tested-requires c κs = search needs
-
-no-pair-requires : tie.Need-no-pair-requires Inv-loop μ-loop
-no-pair-requires c κs = search needs
-
 loop-holds : tie.Need-loop-holds Inv-loop μ-loop
 unfolding searchFrom
 loop-holds c = (omega arith, ap (λ (s : Searched). over (s .found)) (c .no-pair .ensures), λ n e by. rw (row-none n _) (c .no-pair .ensures))
@@ -60,22 +55,10 @@ mul-lower c = omega (arith, few-nodes (start (c .before) .pre .0 .formed))
 element-copy-out-lower : tie.Need-element-copy-out-lower Inv-loop μ-loop
 element-copy-out-lower c = omega (arith, few-nodes (start (c .before) .pre .0 .formed))
 
-is-tested-requires-2 : tie.Need-is-tested-requires-2 Inv-loop μ-loop
-is-tested-requires-2 c κs = search needs
-
 look-requires : tie.Need-look-requires Inv-loop μ-loop
 look-requires c κs =
     let room = start (c .before .before .before) .pre in
     (omega (arith, room .0 .room), omega (arith, room .0 .room))
-
-is-over-requires : tie.Need-is-over-requires Inv-loop μ-loop
-is-over-requires c κs = search needs
-
-add-i : tie.Need-add-i Inv-loop μ-loop
-add-i c = search needs
-
-loop-less : tie.Need-loop-less Inv-loop μ-loop
-loop-less c = search needs
 
 -- whether a node is tested, by its kind
 tested-there : (value : Netlist) (n : Records.Netlist) → value ≡ flatOf n → (k : ℕ) → k < value .count → {r : Bool}
@@ -89,6 +72,7 @@ looked-on : (c : tie.After-is-over Inv-loop μ-loop) (n : Records.Netlist) → s
     → searchedOf (c .before .look .result)
     ≡ searchFrom (reportIn (n .variables) (now (start (turn c) .args .work))) (start (turn c) .args .terms .limit) (start (turn c) .args .looked)
     (row n (start (turn c) .args .j) (turn c .loop .i + 1))
+unfolding reportIn
 looked-on c n e by =
     let i = turn c .loop .i in
     let j = start (turn c) .args .j in
@@ -120,21 +104,7 @@ returns-2 c =
 pub search-row-spec : {M : Type 1} → statement M
 search-row-spec =
     tie.close
-    (tie.spec
-    Inv-loop
-    μ-loop
-    mul-higher
-    element-copy-out-higher
-    is-tested-requires
-    no-pair-requires
-    loop-holds
-    mul-lower
-    element-copy-out-lower
-    is-tested-requires-2
-    look-requires
-    is-over-requires
-    add-i
-    loop-less
-    loop-again
-    returns
+    (tie.spec Inv-loop μ-loop mul-higher element-copy-out-higher (λ c κs. search needs)
+    (λ c κs. search needs) loop-holds mul-lower element-copy-out-lower (λ c κs. search needs)
+    look-requires (λ c κs. search needs) (λ c. search needs) (λ c. search needs) loop-again returns
     returns-2)

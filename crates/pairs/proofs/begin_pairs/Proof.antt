@@ -4,11 +4,8 @@ use Rattle.pairs.proofs.Underway.{begins}
 use Rattle.pairs.proofs.begin_pairs.Statement.{statement}
 use Rattle.pairs.proofs.begin_pairs.Tie as tie
 
-single-or-none-requires : tie.Need-single-or-none-requires
-single-or-none-requires c κs = search needs
-
 returns : tie.Need-returns
 returns c = λ bytes entries limit before work replied value held. begins bytes entries limit before _ work _ _ replied value held (c .single-or-none .ensures)
 
 pub begin-pairs-spec : {M : Type 1} → statement M
-begin-pairs-spec = tie.close (tie.spec single-or-none-requires returns)
+begin-pairs-spec = tie.close (tie.spec (λ c κs. search needs) returns)

@@ -33,17 +33,8 @@ under c =
     let checked = examined c .examine .ensures in
     c .loop .inv _ (c .before .begin-pairs .ensures _ _ _ _ _ (checked .0) (checked .1 .0) (checked .1 .1 .1 .0))
 
-examine-requires : tie.Need-examine-requires Inv-loop μ-loop
-examine-requires c κs = search needs
-
-begin-pairs-requires : tie.Need-begin-pairs-requires Inv-loop μ-loop
-begin-pairs-requires c κs = search needs
-
 loop-holds : tie.Need-loop-holds Inv-loop μ-loop
 loop-holds c = λ before u. u
-
-is-done-requires : tie.Need-is-done-requires Inv-loop μ-loop
-is-done-requires c κs = search needs
 
 further-requires : tie.Need-further-requires Inv-loop μ-loop
 further-requires c κs =
@@ -56,12 +47,6 @@ loop-less c = omega (arith, c .further .ensures .1)
 loop-again : tie.Need-loop-again Inv-loop μ-loop
 loop-again c = λ before u. c .further .ensures .0 _ _ before (c .before .before .before .before .loop .inv before u)
 
-reply-after-requires : tie.Need-reply-after-requires Inv-loop μ-loop
-reply-after-requires c κs = search needs
-
-same-length : tie.Need-same-length Inv-loop μ-loop
-same-length c = search needs
-
 returns : tie.Need-returns Inv-loop μ-loop
 returns c =
     let turn = c .before .before .before in
@@ -73,16 +58,6 @@ returns c =
 pub examine-pairs-spec : {M : Type 1} → statement M
 examine-pairs-spec =
     tie.close
-    (tie.spec
-    Inv-loop
-    μ-loop
-    examine-requires
-    begin-pairs-requires
-    loop-holds
-    is-done-requires
-    further-requires
-    loop-less
-    loop-again
-    reply-after-requires
-    same-length
-    returns)
+    (tie.spec Inv-loop μ-loop (λ c κs. search needs) (λ c κs. search needs) loop-holds
+    (λ c κs. search needs) further-requires loop-less loop-again (λ c κs. search needs)
+    (λ c. search needs) returns)

@@ -3,11 +3,8 @@ use borrow.Author.Needs.{needs}
 use Rattle.pairs.proofs.is_done.Statement.{statement}
 use Rattle.pairs.proofs.is_done.Tie as tie
 
-is-over-requires : tie.Need-is-over-requires
-is-over-requires c κs = search needs
-
 returns : tie.Need-returns
 returns c = rw (c .is-over .ensures)
 
 pub is-done-spec : {M : Type 1} → statement M
-is-done-spec = tie.close (tie.spec is-over-requires returns)
+is-done-spec = tie.close (tie.spec (λ c κs. search needs) returns)

@@ -7,12 +7,6 @@ use Rattle.pairs.proofs.Underway.{all-found}
 use Rattle.pairs.proofs.reply_after.Statement.{statement}
 use Rattle.pairs.proofs.reply_after.Tie as tie
 
-enum-known-reply : tie.Need-enum-known-reply
-enum-known-reply c = search needs
-
-enum-known-reply-2 : tie.Need-enum-known-reply-2
-enum-known-reply-2 c = search needs
-
 returns : tie.Need-returns
 unfolding andThen
 returns c = (
@@ -32,4 +26,4 @@ returns-2 c = (
 )
 
 pub reply-after-spec : {M : Type 1} → statement M
-reply-after-spec = tie.close (tie.spec enum-known-reply enum-known-reply-2 returns returns-2)
+reply-after-spec = tie.close (tie.spec (λ c. search needs) (λ c. search needs) returns returns-2)

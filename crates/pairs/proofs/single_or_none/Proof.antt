@@ -9,24 +9,6 @@ use Rattle.pair_search.specs.Pairs.{unlessSingle}
 use Rattle.pairs.proofs.single_or_none.Statement.{statement}
 use Rattle.pairs.proofs.single_or_none.Tie as tie
 
-enum-told : tie.Need-enum-told
-enum-told c = search needs
-
-no-pair-requires : tie.Need-no-pair-requires
-no-pair-requires c κs = search needs
-
-enum-known-reply : tie.Need-enum-known-reply
-enum-known-reply c = search needs
-
-enum-told-2 : tie.Need-enum-told-2
-enum-told-2 c = search needs
-
-no-pair-requires-2 : tie.Need-no-pair-requires-2
-no-pair-requires-2 c κs = search needs
-
-enum-known-glitch : tie.Need-enum-known-glitch
-enum-known-glitch c = search needs
-
 returns : tie.Need-returns
 returns c =
     λ f e.
@@ -53,4 +35,5 @@ returns-3 c =
 pub single-or-none-spec : {M : Type 1} → statement M
 single-or-none-spec =
     tie.close
-    (tie.spec enum-told no-pair-requires enum-known-reply enum-told-2 no-pair-requires-2 enum-known-glitch returns returns-2 returns-3)
+    (tie.spec (λ c. search needs) (λ c κs. search needs) (λ c. search needs) (λ c. search needs)
+    (λ c κs. search needs) (λ c. search needs) returns returns-2 returns-3)

@@ -11,15 +11,6 @@ use Rattle.query_netlists.proofs.Asking.{given-refused, given-answered, stands-
 use Rattle.queries.proofs.feeding_points.Statement.{statement}
 use Rattle.queries.proofs.feeding_points.Tie as tie
 
-ask-requires : tie.Need-ask-requires
-ask-requires c κs = search needs
-
-enum-told : tie.Need-enum-told
-enum-told c = search needs
-
-enum-told-2 : tie.Need-enum-told-2
-enum-told-2 c = search needs
-
 returns : tie.Need-returns
 unfolding feedingQuery
 returns c =
@@ -40,4 +31,5 @@ returns-2 c =
 pub feeding-points-spec : {M : Type 1} → statement M
 feeding-points-spec =
     tie.close
-    (tie.spec ask-requires enum-told enum-told-2 returns feeding-marks-requires returns-2)
+    (tie.spec (λ c κs. search needs) (λ c. search needs) (λ c. search needs) returns
+    feeding-marks-requires returns-2)

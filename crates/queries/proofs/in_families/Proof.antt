@@ -34,9 +34,6 @@ module _ {value : Value.Netlist} (f : Formed value) where
       let l : i < length (n .nodes) = omega (arith, value-count n e) in
       rw w (settled-there n formed rest i l .same A, glitch-there n formed rest i l .same A)
 
-slice-aggregate-all-families : tie.Need-slice-aggregate-all-families
-slice-aggregate-all-families c = search needs
-
 all-families-requires : tie.Need-all-families-requires
 all-families-requires c κs = all-ready (c .before .pre .0) _ (length-replicate {A = ℕ} most-work 0)
 
@@ -76,14 +73,5 @@ returns c =
 pub in-families-spec : {M : Type 1} → statement M
 in-families-spec =
     tie.close
-    (tie.spec
-    slice-aggregate-all-families
-    all-families-requires
-    slice-aggregate-holds
-    mul-holds
-    holds-requires
-    slice-aggregate-holds-2
-    mul-holds-2
-    add-holds
-    holds-requires-2
-    returns)
+    (tie.spec (λ c. search needs) all-families-requires slice-aggregate-holds mul-holds
+    holds-requires slice-aggregate-holds-2 mul-holds-2 add-holds holds-requires-2 returns)

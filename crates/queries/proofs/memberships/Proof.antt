@@ -7,15 +7,6 @@ use Rattle.query_netlists.proofs.Asking.{given-refused, given-answered, stands-
 use Rattle.queries.proofs.memberships.Statement.{statement}
 use Rattle.queries.proofs.memberships.Tie as tie
 
-ask-with-requires : tie.Need-ask-with-requires
-ask-with-requires c κs = search needs
-
-enum-told : tie.Need-enum-told
-enum-told c = search needs
-
-enum-told-2 : tie.Need-enum-told-2
-enum-told-2 c = search needs
-
 returns : tie.Need-returns
 unfolding membershipQuery
 returns c = given-refused _ _ _ _ (c .before .before .before .ask-with .ensures) (c .enum-told2 .given .1)
@@ -37,4 +28,5 @@ returns-2 c =
 pub memberships-spec : {M : Type 1} → statement M
 memberships-spec =
     tie.close
-    (tie.spec ask-with-requires enum-told enum-told-2 returns in-families-requires returns-2)
+    (tie.spec (λ c κs. search needs) (λ c. search needs) (λ c. search needs) returns
+    in-families-requires returns-2)

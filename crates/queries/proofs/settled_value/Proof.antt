@@ -18,15 +18,6 @@ use Rattle.queries.proofs.settled_value.Tie as tie
 value-at : (all values : List Bool) (i : ℕ) → all ≡ padded most-nodes false values → getD all i false ≡ getD values i false
 value-at all values i e = rw e (padded-same most-nodes false values i)
 
-ask-with-requires : tie.Need-ask-with-requires
-ask-with-requires c κs = search needs
-
-enum-told : tie.Need-enum-told
-enum-told c = search needs
-
-enum-told-2 : tie.Need-enum-told-2
-enum-told-2 c = search needs
-
 returns : tie.Need-returns
 unfolding valueQuery
 returns c = given-refused _ _ _ _ (c .before .before .before .ask-with .ensures) (c .enum-told2 .given .1)
@@ -51,11 +42,5 @@ returns-2 c =
 pub settled-value-spec : {M : Type 1} → statement M
 settled-value-spec =
     tie.close
-    (tie.spec
-    ask-with-requires
-    enum-told
-    enum-told-2
-    returns
-    settled-values-requires
-    array-read-t11
-    returns-2)
+    (tie.spec (λ c κs. search needs) (λ c. search needs) (λ c. search needs) returns
+    settled-values-requires array-read-t11 returns-2)

@@ -4,18 +4,11 @@ use Rattle.rules.specs.Checks.{queried}
 use Rattle.query_netlists.proofs.ask.Statement.{statement}
 use Rattle.query_netlists.proofs.ask.Tie as tie
 
-read-requires : tie.Need-read-requires
-read-requires c κs = search needs
-
-judge-node-requires : tie.Need-judge-node-requires
-judge-node-requires c κs = search needs
-
-with-judgement-requires : tie.Need-with-judgement-requires
-with-judgement-requires c κs = search needs
-
 returns : tie.Need-returns
 unfolding queried
 returns c = c .with-judgement .ensures _ _ (c .before .before .before .read .ensures) (c .before .judge-node .ensures)
 
 pub ask-spec : {M : Type 1} → statement M
-ask-spec = tie.close (tie.spec read-requires judge-node-requires with-judgement-requires returns)
+ask-spec =
+    tie.close
+    (tie.spec (λ c κs. search needs) (λ c κs. search needs) (λ c κs. search needs) returns)

@@ -5,18 +5,11 @@ use Rattle.rules.specs.Checks.{queriedWith}
 use Rattle.query_netlists.proofs.ask_with.Statement.{statement}
 use Rattle.query_netlists.proofs.ask_with.Tie as tie
 
-read-requires : tie.Need-read-requires
-read-requires c κs = search needs
-
-judge-requires : tie.Need-judge-requires
-judge-requires c κs = search needs
-
-with-judgement-requires : tie.Need-with-judgement-requires
-with-judgement-requires c κs = search needs
-
 returns : tie.Need-returns
 unfolding queriedWith
 returns c = c .with-judgement .ensures _ _ (c .before .before .before .read .ensures) (c .before .judge .ensures)
 
 pub ask-with-spec : {M : Type 1} → statement M
-ask-with-spec = tie.close (tie.spec read-requires judge-requires with-judgement-requires returns)
+ask-with-spec =
+    tie.close
+    (tie.spec (λ c κs. search needs) (λ c κs. search needs) (λ c κs. search needs) returns)

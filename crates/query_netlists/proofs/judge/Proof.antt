@@ -22,20 +22,8 @@ unfolding judged
 passes-on (check j true q) rows e = cc
 passes-on (check j false q) rows e = refl
 
-judge-node-requires : tie.Need-judge-node-requires
-judge-node-requires c κs = search needs
-
-enum-told : tie.Need-enum-told
-enum-told c = search needs
-
-enum-told-2 : tie.Need-enum-told-2
-enum-told-2 c = search needs
-
 returns : tie.Need-returns
 returns c = λ n e. rw (c .enum-told2 .given .1) (refuses _ _ _ _ (ap queryOf (sym (c .enum-told2 .given .1)) ∙ c .before .before .judge-node .ensures n e))
-
-undeclared-bit-requires : tie.Need-undeclared-bit-requires
-undeclared-bit-requires c κs = search needs
 
 returns-2 : tie.Need-returns-2
 unfolding judged numberCheck
@@ -63,11 +51,5 @@ returns-3 c = λ n e.
 pub judge-spec : {M : Type 1} → statement M
 judge-spec =
     tie.close
-    (tie.spec
-    judge-node-requires
-    enum-told
-    enum-told-2
-    returns
-    undeclared-bit-requires
-    returns-2
-    returns-3)
+    (tie.spec (λ c κs. search needs) (λ c. search needs) (λ c. search needs) returns
+    (λ c κs. search needs) returns-2 returns-3)

@@ -8,23 +8,8 @@ use Rattle.query_netlists.proofs.Asking.{rows-refuse, rows-pass, stays-
 use Rattle.query_netlists.proofs.with_judgement.Statement.{statement}
 use Rattle.query_netlists.proofs.with_judgement.Tie as tie
 
-enum-told : tie.Need-enum-told
-enum-told c = search needs
-
-enum-told-2 : tie.Need-enum-told-2
-enum-told-2 c = search needs
-
 returns : tie.Need-returns
 returns c = λ end rows reads says. stays-refused _ end rows reads _ (c .enum-told2 .given .1)
-
-enum-known-judgement : tie.Need-enum-known-judgement
-enum-known-judgement c = search needs
-
-refused-requires : tie.Need-refused-requires
-refused-requires c κs = search needs
-
-enum-told-3 : tie.Need-enum-told-3
-enum-told-3 c = search needs
 
 returns-2 : tie.Need-returns-2
 unfolding andThen
@@ -42,12 +27,5 @@ returns-3 c = λ end rows reads says.
 pub with-judgement-spec : {M : Type 1} → statement M
 with-judgement-spec =
     tie.close
-    (tie.spec
-    enum-told
-    enum-told-2
-    returns
-    enum-known-judgement
-    refused-requires
-    enum-told-3
-    returns-2
-    returns-3)
+    (tie.spec (λ c. search needs) (λ c. search needs) returns (λ c. search needs)
+    (λ c κs. search needs) (λ c. search needs) returns-2 returns-3)

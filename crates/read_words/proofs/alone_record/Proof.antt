@@ -1,20 +1,19 @@
 -- `read_words::alone_record` meets its contract: no number stands behind the record's word. Assumes nothing.
 use mathlib.Core.Path.{_∙_, sym}
 use borrow.Author.Needs.{needs}
-use Rattle.read_words.specs.Meaning.{lineOf}
-use Rattle.read_words.proofs.Records.{no-number, some-number}
+use Rattle.read_words.specs.Words.{numberFault, alone}
+use Rattle.read_words.proofs.Records.{so-many, not-so-many}
 use Rattle.read_words.proofs.alone_record.Statement.{statement}
 use Rattle.read_words.proofs.alone_record.Tie as tie
 
-count-words-requires : tie.Need-count-words-requires
-count-words-requires c κs = search needs
-
 returns : tie.Need-returns
-unfolding lineOf
-returns c said e = rw (some-number said _ (λ none. c .if1 .taken (c .before .count-words .ensures ∙ none)))
+unfolding alone numberFault
+returns c said e = rw (not-so-many 0 _ _ (λ none. c .before .if1 .taken (c .before .before .count-words .ensures ∙ none))) (c .wrong-line .ensures)
 
 returns-2 : tie.Need-returns-2
-returns-2 c said e = rw (no-number said _ (sym (c .before .count-words .ensures) ∙ c .if1 .left)) e
+unfolding alone
+returns-2 c said e = rw (so-many 0 _ _ (sym (c .before .count-words .ensures) ∙ c .if1 .left)) e
 
 pub alone-record-spec : {M : Type 1} → statement M
-alone-record-spec = tie.close (tie.spec count-words-requires returns returns-2)
+alone-record-spec =
+    tie.close (tie.spec (λ c κs. search needs) (λ c κs. search needs) returns returns-2)

@@ -10,9 +10,10 @@ use lib.ListN.{length, drop}
 use lib.Pow.{pow-pos}
 use denote.Ref.{now}
 use Rattle.read_words.specs.Meaning.{lineOf}
-use Rattle.read_words.specs.Scans.{part}
-use Rattle.read_words.specs.Words.{words, withVariables}
-use Rattle.read_words.proofs.Words.{none-left, one-more}
+use Rattle.scanner.specs.Words.{words}
+use Rattle.scanner.specs.Scans.{part}
+use Rattle.scanner.proofs.Words.{none-left, one-more}
+use Rattle.read_words.specs.Words.{withVariables}
 use Rattle.read_words.proofs.Records.{no-variable, variable-twice, one-variable, all-variables, power-is, room}
 use Rattle.read_words.proofs.input_record.Statement.{statement}
 use Rattle.read_words.proofs.input_record.Tie as tie
@@ -43,59 +44,30 @@ roomy c =
 loop-holds : tie.Need-loop-holds Inv-loop μ-loop
 loop-holds c = (search needs, search needs, refl)
 
-next-word-requires : tie.Need-next-word-requires Inv-loop μ-loop
-next-word-requires c κs = search needs
-
-cast-t11 : tie.Need-cast-t11 Inv-loop μ-loop
-cast-t11 c = search needs
-
-cast-t13 : tie.Need-cast-t13 Inv-loop μ-loop
-cast-t13 c = search needs
-
 returns : tie.Need-returns Inv-loop μ-loop
 returns c =
-    let loop = c .before .before .loop in
-    sym (ap lineOf (loop .inv .2 ∙ ap (withVariables (loop .set)) (none-left (c .before .next-word .ensures) (c .if1 .taken))) ∙ all-variables (loop .set))
-
-sub-number-below : tie.Need-sub-number-below Inv-loop μ-loop
-sub-number-below c = search needs
-
-part-number-below-start : tie.Need-part-number-below-start Inv-loop μ-loop
-part-number-below-start c = search needs
-
-part-number-below-end : tie.Need-part-number-below-end Inv-loop μ-loop
-part-number-below-end c = search needs
-
-number-below-requires : tie.Need-number-below-requires Inv-loop μ-loop
-number-below-requires c κs = search needs
+    let read = c .before .before in
+    let loop = read .before .loop in
+    c .short-line .ensures
+    ∙ sym (ap lineOf (loop .inv .2 ∙ ap (withVariables (loop .set)) (none-left (read .next-word .ensures) (c .before .if1 .taken))) ∙ all-variables (loop .set))
 
 returns-2 : tie.Need-returns-2 Inv-loop μ-loop
-unfolding lineOf
-returns-2 c = sym (ap lineOf (turn (c .before) ∙ no-variable _ _ _ _ (c .before .number-below .ensures) (c .if2 .taken)))
-
-cast-power : tie.Need-cast-power Inv-loop μ-loop
-cast-power c = search needs
-
-shl-power : tie.Need-shl-power Inv-loop μ-loop
-shl-power c = search needs
+returns-2 c =
+    let read = c .before .before in
+    c .wrong-line .ensures ∙ sym (ap lineOf (turn read ∙ no-variable _ _ _ _ (read .number-below .ensures) (c .before .if2 .taken)))
 
 div-if3 : tie.Need-div-if3 Inv-loop μ-loop
 div-if3 c = rw (power-is _ (c .if2 .left)) (pow-pos _)
 
 returns-3 : tie.Need-returns-3 Inv-loop μ-loop
-unfolding lineOf
 returns-3 c =
-    let read = c .before .before in
-    let low = c .before .if2 .left in
-    sym
-    (ap lineOf
-    (turn read ∙ variable-twice _ _ _ _ (read .number-below .ensures) low (rw (power-is _ low) at (eq-eqb _ _ (c .if3 .taken)))))
+    let read = c .before .before .before in
+    let low = c .before .before .if2 .left in
+    c .wrong-line2 .ensures
+    ∙ sym (ap lineOf (turn read ∙ variable-twice _ _ _ _ (read .number-below .ensures) low (rw (power-is _ low) at (eq-eqb _ _ (c .before .if3 .taken)))))
 
 add-set : tie.Need-add-set Inv-loop μ-loop
 add-set c = record { fits = roomy c }
-
-loop-less : tie.Need-loop-less Inv-loop μ-loop
-loop-less c = search needs
 
 loop-again : tie.Need-loop-again Inv-loop μ-loop
 loop-again c =
@@ -109,23 +81,8 @@ loop-again c =
 pub input-record-spec : {M : Type 1} → statement M
 input-record-spec =
     tie.close
-    (tie.spec
-    Inv-loop
-    μ-loop
-    loop-holds
-    next-word-requires
-    cast-t11
-    cast-t13
-    returns
-    sub-number-below
-    part-number-below-start
-    part-number-below-end
-    number-below-requires
-    returns-2
-    cast-power
-    shl-power
-    div-if3
-    returns-3
-    add-set
-    loop-less
+    (tie.spec Inv-loop μ-loop loop-holds (λ c κs. search needs) (λ c. search needs)
+    (λ c. search needs) (λ c κs. search needs) returns (λ c. search needs) (λ c. search needs)
+    (λ c. search needs) (λ c κs. search needs) (λ c κs. search needs) returns-2 (λ c. search needs)
+    (λ c. search needs) div-if3 (λ c κs. search needs) returns-3 add-set (λ c. search needs)
     loop-again)

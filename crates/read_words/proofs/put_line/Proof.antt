@@ -5,20 +5,11 @@ use lib.Seq.{set-out}
 use Rattle.read_words.proofs.put_line.Statement.{statement}
 use Rattle.read_words.proofs.put_line.Tie as tie
 
-mul-lines : tie.Need-mul-lines
-mul-lines c = search needs
-
-slice-write-lines : tie.Need-slice-write-lines
-slice-write-lines c = search needs
-
-same-length : tie.Need-same-length
-same-length c = search needs
-
-returns : tie.Need-returns
-returns c = search needs
-
 returns-2 : tie.Need-returns-2
 returns-2 c = sym (set-out _ _ _ (c .if1 .left))
 
 pub put-line-spec : {M : Type 1} → statement M
-put-line-spec = tie.close (tie.spec mul-lines slice-write-lines same-length returns returns-2)
+put-line-spec =
+    tie.close
+    (tie.spec (λ c. search needs) (λ c. search needs) (λ c. search needs) (λ c. search needs)
+    returns-2)

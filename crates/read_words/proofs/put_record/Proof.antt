@@ -6,33 +6,19 @@ use native.Mathlib.Omega.{arith}
 use borrow.Author.Needs.{needs}
 use lib.ListN.{length, take}
 use lib.Seq.{sets}
+use Rattle.rules.specs.Records.{most-record}
 use Rattle.read_words.proofs.Stores.{sets-more}
 use Rattle.read_words.proofs.put_record.Statement.{statement}
 use Rattle.read_words.proofs.put_record.Tie as tie
 
 abbrev Inv-loop : tie.InvT-loop
-Inv-loop bytes₀ at size own k₀ bytes k = (k ≤ size) × (size ≤ 3) × (length bytes ≡ length bytes₀) × (bytes ≡ sets bytes₀ at (take k own))
+Inv-loop bytes₀ at size own k₀ bytes k = (k ≤ size) × (size ≤ most-record) × (length bytes ≡ length bytes₀) × (bytes ≡ sets bytes₀ at (take k own))
 
 abbrev μ-loop : tie.MeasureT-loop
 μ-loop bytes₀ at size own k₀ bytes k = size - k
 
 loop-holds : tie.Need-loop-holds Inv-loop μ-loop
 loop-holds c = (search needs, search needs, refl, refl)
-
-add-put-byte : tie.Need-add-put-byte Inv-loop μ-loop
-add-put-byte c = search needs
-
-array-read-put-byte : tie.Need-array-read-put-byte Inv-loop μ-loop
-array-read-put-byte c = search needs
-
-put-byte-requires : tie.Need-put-byte-requires Inv-loop μ-loop
-put-byte-requires c κs = search needs
-
-add-k : tie.Need-add-k Inv-loop μ-loop
-add-k c = search needs
-
-loop-less : tie.Need-loop-less Inv-loop μ-loop
-loop-less c = search needs
 
 loop-again : tie.Need-loop-again Inv-loop μ-loop
 loop-again c =
@@ -44,15 +30,6 @@ loop-again c =
       stored .ensures ∙ sets-more _ _ _ (turn .loop .k) _ (search needs) (turn .loop .inv .3),
     )
 
-add-lower : tie.Need-add-lower Inv-loop μ-loop
-add-lower c = search needs
-
-lower-requires : tie.Need-lower-requires Inv-loop μ-loop
-lower-requires c κs = search needs
-
-same-length : tie.Need-same-length Inv-loop μ-loop
-same-length c = search needs
-
 returns : tie.Need-returns Inv-loop μ-loop
 returns c =
     let loop = c .before .before .loop in
@@ -62,17 +39,6 @@ returns c =
 pub put-record-spec : {M : Type 1} → statement M
 put-record-spec =
     tie.close
-    (tie.spec
-    Inv-loop
-    μ-loop
-    loop-holds
-    add-put-byte
-    array-read-put-byte
-    put-byte-requires
-    add-k
-    loop-less
-    loop-again
-    add-lower
-    lower-requires
-    same-length
-    returns)
+    (tie.spec Inv-loop μ-loop loop-holds (λ c. search needs) (λ c. search needs)
+    (λ c κs. search needs) (λ c. search needs) (λ c. search needs) loop-again (λ c. search needs)
+    (λ c κs. search needs) (λ c. search needs) returns)

@@ -1,6 +1,4 @@
 -- `read_words::word_of` meets its contract: each arm has the word of its row. Assumes nothing.
-use Prim.Native.Nat.{_+_, _-_}
-use mathlib.Core.Path.{_≡_}
 use native.Mathlib.Omega.{arith}
 use borrow.Author.Needs.{needs}
 use Rattle.rules.specs.Listing.{word}
@@ -9,12 +7,6 @@ use Rattle.read_words.specs.Meaning.{nameOf, formAt}
 use Rattle.read_words.proofs.Forms.{kind-row, no-row}
 use Rattle.read_words.proofs.word_of.Statement.{statement}
 use Rattle.read_words.proofs.word_of.Tie as tie
-
-sub-name-of : tie.Need-sub-name-of
-sub-name-of c = search needs
-
-name-of-requires : tie.Need-name-of-requires
-name-of-requires c = search needs
 
 returns : tie.Need-returns
 unfolding nameOf formAt forms word
@@ -34,14 +26,14 @@ returns-4 c = (rw (c .before .before .match .keys4), omega arith)
 
 returns-5 : tie.Need-returns-5
 returns-5 c =
-    let form = c .before .before .before .args .form in
-    let row : form - 4 + 4 ≡ form = omega arith in
-    let kind : form - 4 + 2 ≡ form - 2 = omega arith in
-    (rw row at (kind-row _ (form - 4) (omega arith) (rw (← kind) at (c .name-of .ensures .0))), omega (arith, c .name-of .ensures .1))
+    (kind-row _ (c .before .before .before .args .form) (omega arith) (omega arith) (c .name-of .ensures .0), omega (arith, c .name-of .ensures .1))
 
 returns-6 : tie.Need-returns-6
 unfolding nameOf
 returns-6 c = (rw (no-row (c .before .before .before .before .args .form) (omega arith)), omega arith)
 
 pub word-of-spec : {M : Type 1} → statement M
-word-of-spec = tie.close (tie.spec sub-name-of name-of-requires returns returns-2 returns-3 returns-4 returns-5 returns-6)
+word-of-spec =
+    tie.close
+    (tie.spec (λ c. search needs) (λ c. search needs) returns returns-2 returns-3 returns-4
+    returns-5 returns-6)

@@ -13,22 +13,13 @@ returns c =
     let a = c .before .args in
     sym (List·getD-eq-default (now (a .bytes)) 0 {n = a .here + a .k} (omega arith))
 
-sub-if2 : tie.Need-sub-if2
-sub-if2 c = search needs
-
 returns-2 : tie.Need-returns-2
 returns-2 c =
     let a = c .before .before .args in
     sym (List·getD-eq-default (now (a .bytes)) 0 {n = a .here + a .k} (omega arith))
 
-add-result : tie.Need-add-result
-add-result c = search needs
-
-shared-slice-read-result : tie.Need-shared-slice-read-result
-shared-slice-read-result c = search needs
-
-returns-3 : tie.Need-returns-3
-returns-3 c = search needs
-
 pub byte-behind-spec : {M : Type 1} → statement M
-byte-behind-spec = tie.close (tie.spec returns sub-if2 returns-2 add-result shared-slice-read-result returns-3)
+byte-behind-spec =
+    tie.close
+    (tie.spec returns (λ c. search needs) returns-2 (λ c. search needs) (λ c. search needs)
+    (λ c. search needs))

@@ -6,19 +6,13 @@ use Rattle.records.proofs.Judged.{end-checks}
 use Rattle.records.proofs.judge_end.Statement.{statement}
 use Rattle.records.proofs.judge_end.Tie as tie
 
-sub-if1 : tie.Need-sub-if1
-sub-if1 c = search needs
-
-add-t9 : tie.Need-add-t9
-add-t9 c = search needs
-
 returns : tie.Need-returns
 unfolding judged
-returns c = let inside = c .before .pre in rw (end-checks, lt-ltb _ _ (c .if1 .taken))
+returns c = let (inside, kind) = c .before .pre in rw (end-checks, lt-ltb _ _ (c .if1 .taken))
 
 returns-2 : tie.Need-returns-2
 unfolding judged
-returns-2 c = let inside = c .before .pre in rw (end-checks, le-ltb _ _ (c .if1 .left))
+returns-2 c = let (inside, kind) = c .before .pre in rw (end-checks, le-ltb _ _ (c .if1 .left))
 
 pub judge-end-spec : {M : Type 1} → statement M
-judge-end-spec = tie.close (tie.spec sub-if1 add-t9 returns returns-2)
+judge-end-spec = tie.close (tie.spec (λ c. search needs) (λ c. search needs) returns returns-2)

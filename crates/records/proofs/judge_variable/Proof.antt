@@ -10,28 +10,25 @@ use Rattle.records.proofs.judge_variable.Tie as tie
 
 returns : tie.Need-returns
 unfolding judged
-returns c = let inside = c .before .pre in rw (variable-checks, lt-ltb _ _ (c .if1 .taken))
+returns c = let (inside, kind) = c .before .before .pre in rw (variable-checks, lt-ltb _ _ (c .if1 .taken))
 
 returns-2 : tie.Need-returns-2
 unfolding judged
 returns-2 c =
-    let inside = c .before .before .pre in
-    rw (variable-checks, le-ltb _ _ (c .before .if1 .left), le-leb most-variables (c .before .before .args .variables) (omega arith))
-
-sub-if3 : tie.Need-sub-if3
-sub-if3 c = search needs
+    let (inside, kind) = c .before .before .before .pre in
+    rw (variable-checks, le-ltb _ _ (c .before .if1 .left), le-leb most-variables (c .before .before .before .args .variables) (omega arith))
 
 returns-3 : tie.Need-returns-3
 unfolding judged
 returns-3 c =
-    let inside = c .before .before .before .pre in
-    let few = lt-leb most-variables (c .before .before .before .args .variables) (omega arith) in
+    let (inside, kind) = c .before .before .before .before .pre in
+    let few = lt-leb most-variables (c .before .before .before .before .args .variables) (omega arith) in
     rw (variable-checks, le-ltb _ _ (c .before .before .if1 .left), few, lt-ltb _ _ (c .if3 .taken))
 
 returns-4 : tie.Need-returns-4
 unfolding judged
 returns-4 c =
-    let inside = c .before .before .before .before .pre in
+    let (inside, kind) = c .before .before .before .before .before .pre in
     rw (
       variable-checks,
       le-ltb _ _ (c .before .before .before .if1 .left),
@@ -43,7 +40,7 @@ returns-4 c =
 returns-5 : tie.Need-returns-5
 unfolding judged
 returns-5 c =
-    let inside = c .before .before .before .before .pre in
+    let (inside, kind) = c .before .before .before .before .before .pre in
     rw (
       variable-checks,
       le-ltb _ _ (c .before .before .before .if1 .left),
@@ -53,4 +50,7 @@ returns-5 c =
     )
 
 pub judge-variable-spec : {M : Type 1} → statement M
-judge-variable-spec = tie.close (tie.spec returns returns-2 sub-if3 returns-3 returns-4 returns-5)
+judge-variable-spec =
+    tie.close
+    (tie.spec returns returns-2 (λ c. search needs) returns-3 (λ c. search needs) returns-4
+    returns-5)

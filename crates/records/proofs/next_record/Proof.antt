@@ -30,7 +30,6 @@ use denote.Ref.{RefT, NamedLft, now}
 use denote.Signature.{plain, namedLft}
 use denote.Slice.{sliceVal, ShrSlice, slice-vals, shr-slice-tells, shr-slice-lawful, shr-slice-copy}
 use denote.Steps.{owned, peeks, heard, nothing}
-use denote.Enum.Laws as EL
 use denote.Struct.Laws as LL
 use denote.Triple.Statement.{Contract, Triple}
 use denote.Triple.Call.{calls-at}
@@ -159,7 +158,7 @@ module _ {M : Type 1} (𝓤 : URA M) (H : Heap 𝓤) (A : Atoms 𝓤) (W : Given
         split ! $ move ! (1 ∷ []) $ use1 W (raw (fact 𝓤 (Said r t))) (next-said r t) $ heard ! (Said r t) (λ e′. split ! $ move ! (1 ∷ []) $
         -- [the result; the token; what the parameters own; _5; …; _4; …; _3; …; _2; …; _1; …; room for _0; …]
         peeks ! F.the-row (Is F.the-row) (shows 𝓤 H A F.the-row) t (u′ ∷ []) (λ is′.
-        land ! (from ! (stop !)) (init ! 13 refl (EL.lawful F.the-type F′.the-laws 𝓤 H A W tt .typed t _ is′ .0)) $
+        land ! (from ! (stop !)) (init ! 13 refl (LL.lawful F.the-type F′.the-laws 𝓤 H A W .typed t _ is′ .0)) $
         returns ! (look ! 13 refl) $ forget ! 3 refl $ forget ! 5 refl $ forget ! 7 refl $ forget ! 9 refl $ forget ! 11 refl $ forget ! 13 refl $
         move ! (13 ∷ 14 ∷ []) $ free1 ! $ move ! (11 ∷ 12 ∷ []) $ free1 ! $ move ! (9 ∷ 10 ∷ []) $ free1 ! $ move ! (7 ∷ 8 ∷ []) $ free1 ! $ move ! (5 ∷ 6 ∷ []) $ free1 ! $ move ! (3 ∷ 4 ∷ []) $ free1 ! $ free0 ! $
         by ! (exits t u′ (e′ ∙ (ap (λ (x : RefT (List ℕ)). foundAt (now x) variables nodes (r .here)) (e .0) ∙ ap (foundAt (now s) variables nodes) (e .1))))))))))))))))))

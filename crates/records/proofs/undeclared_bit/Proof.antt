@@ -16,9 +16,6 @@ returns c =
     let a = c .before .args in
     rw (lt-leb (2 ^ a .variables) (a .number) (omega (arith, pow-mono (c .if1 .taken), c .before .fits .number)))
 
-shl-result : tie.Need-shl-result
-shl-result c = search needs
-
 returns-2 : tie.Need-returns-2
 unfolding undeclared
 returns-2 c =
@@ -27,4 +24,4 @@ returns-2 c =
     rw exact
 
 pub undeclared-bit-spec : {M : Type 1} → statement M
-undeclared-bit-spec = tie.close (tie.spec returns shl-result returns-2)
+undeclared-bit-spec = tie.close (tie.spec returns (λ c. search needs) returns-2)

@@ -11,18 +11,6 @@ use Rattle.suspect_maps.proofs.Maps.{not-apart, apart-below}
 use Rattle.suspect_maps.proofs.disjoint_sets.Statement.{statement}
 use Rattle.suspect_maps.proofs.disjoint_sets.Tie as tie
 
-cast-high : tie.Need-cast-high
-cast-high c = search needs
-
-mul-low : tie.Need-mul-low
-mul-low c = search needs
-
-shr-low : tie.Need-shr-low
-shr-low c = search needs
-
-cast-low : tie.Need-cast-low
-cast-low c = search needs
-
 returns : tie.Need-returns
 returns c k h = apart-below _ tt (c .before .args .j) k (c .before .args .variables) (omega arith) h (c .if1 .taken)
 
@@ -32,4 +20,7 @@ returns-2 c k h =
     ∙ sym (not-apart (c .before .args .j) k (c .before .args .variables) (omega arith) h (omega (arith, c .if1 .left)))
 
 pub disjoint-sets-spec : {M : Type 1} → statement M
-disjoint-sets-spec = tie.close (tie.spec cast-high mul-low shr-low cast-low returns returns-2)
+disjoint-sets-spec =
+    tie.close
+    (tie.spec (λ c. search needs) (λ c. search needs) (λ c. search needs) (λ c. search needs)
+    returns returns-2)

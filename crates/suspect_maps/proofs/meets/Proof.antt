@@ -13,26 +13,8 @@ Inv-loop work part map from common₀ j₀ common j = Meeting map work part (8 *
 abbrev μ-loop : tie.MeasureT-loop
 μ-loop work part map from common₀ j₀ common j = 128 - j
 
-mul-from : tie.Need-mul-from Inv-loop μ-loop
-mul-from c = search needs
-
 loop-holds : tie.Need-loop-holds Inv-loop μ-loop
 loop-holds c = (λ l. absurd (omega arith), λ (A, l, t). absurd (omega arith))
-
-array-read-common : tie.Need-array-read-common Inv-loop μ-loop
-array-read-common c = search needs
-
-add-common : tie.Need-add-common Inv-loop μ-loop
-add-common c = search needs
-
-shared-slice-read-common : tie.Need-shared-slice-read-common Inv-loop μ-loop
-shared-slice-read-common c = search needs
-
-add-j : tie.Need-add-j Inv-loop μ-loop
-add-j c = search needs
-
-loop-less : tie.Need-loop-less Inv-loop μ-loop
-loop-less c = search needs
 
 loop-again : tie.Need-loop-again Inv-loop μ-loop
 loop-again c =
@@ -45,15 +27,6 @@ returns c = meeting-end _ _ _ _ _ (c .loop-test .left) (c .before .loop .inv)
 pub meets-spec : {M : Type 1} → statement M
 meets-spec =
     tie.close
-    (tie.spec
-    Inv-loop
-    μ-loop
-    mul-from
-    loop-holds
-    array-read-common
-    add-common
-    shared-slice-read-common
-    add-j
-    loop-less
-    loop-again
+    (tie.spec Inv-loop μ-loop (λ c. search needs) loop-holds (λ c. search needs)
+    (λ c. search needs) (λ c. search needs) (λ c. search needs) (λ c. search needs) loop-again
     returns)

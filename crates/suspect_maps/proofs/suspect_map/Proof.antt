@@ -25,33 +25,12 @@ Inv-loop secrets masks map₀ j₀ map j =
 abbrev μ-loop : tie.MeasureT-loop
 μ-loop secrets masks map₀ j₀ map j = 128 - j
 
-byte-numbers-requires : tie.Need-byte-numbers-requires Inv-loop μ-loop
-byte-numbers-requires c κs = search needs
-
 loop-holds : tie.Need-loop-holds Inv-loop μ-loop
 loop-holds c = (
   rw (c .byte-numbers .ensures) (tabulate-length (λ (j : ℕ). j) 128),
   λ i k l h. absurd (omega arith),
   λ i l h. rw (c .byte-numbers .ensures) (tabulate-at (λ (j : ℕ). j) 128 i 0 h),
 )
-
-array-read-byte : tie.Need-array-read-byte Inv-loop μ-loop
-array-read-byte c = search needs
-
-disjoint-sets-requires : tie.Need-disjoint-sets-requires Inv-loop μ-loop
-disjoint-sets-requires c κs = search needs
-
-disjoint-sets-requires-2 : tie.Need-disjoint-sets-requires-2 Inv-loop μ-loop
-disjoint-sets-requires-2 c κs = search needs
-
-array-write-map : tie.Need-array-write-map Inv-loop μ-loop
-array-write-map c = search needs
-
-add-j : tie.Need-add-j Inv-loop μ-loop
-add-j c = search needs
-
-loop-less : tie.Need-loop-less Inv-loop μ-loop
-loop-less c = search needs
 
 loop-again : tie.Need-loop-again Inv-loop μ-loop
 loop-again c =
@@ -85,16 +64,6 @@ returns c =
 pub suspect-map-spec : {M : Type 1} → statement M
 suspect-map-spec =
     tie.close
-    (tie.spec
-    Inv-loop
-    μ-loop
-    byte-numbers-requires
-    loop-holds
-    array-read-byte
-    disjoint-sets-requires
-    disjoint-sets-requires-2
-    array-write-map
-    add-j
-    loop-less
-    loop-again
-    returns)
+    (tie.spec Inv-loop μ-loop (λ c κs. search needs) loop-holds (λ c. search needs)
+    (λ c κs. search needs) (λ c κs. search needs) (λ c. search needs) (λ c. search needs)
+    (λ c. search needs) loop-again returns)

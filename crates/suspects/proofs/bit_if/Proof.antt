@@ -7,9 +7,6 @@ use Rattle.rules.specs.Records.{most-variables}
 use Rattle.suspects.proofs.bit_if.Statement.{statement}
 use Rattle.suspects.proofs.bit_if.Tie as tie
 
-shl-result : tie.Need-shl-result
-shl-result c = search needs
-
 returns : tie.Need-returns
 returns c =
     let small : 2 ^ c .before .args .v ≤ 2 ^ most-variables = pow-mono {j = most-variables} (omega arith) in
@@ -19,4 +16,4 @@ returns-2 : tie.Need-returns-2
 returns-2 c = rw (c .if1 .left) (omega arith)
 
 pub bit-if-spec : {M : Type 1} → statement M
-bit-if-spec = tie.close (tie.spec shl-result returns returns-2)
+bit-if-spec = tie.close (tie.spec (λ c. search needs) returns returns-2)

@@ -4,9 +4,6 @@ use borrow.Author.Needs.{needs}
 use Rattle.suspects.proofs.first_place.Statement.{statement}
 use Rattle.suspects.proofs.first_place.Tie as tie
 
-is-tested-requires : tie.Need-is-tested-requires
-is-tested-requires c κs = search needs
-
 returns : tie.Need-returns
 returns c = λ cell e. rw (← c .before .is-tested .ensures cell e, c .if1 .taken)
 
@@ -14,4 +11,4 @@ returns-2 : tie.Need-returns-2
 returns-2 c = λ cell e. rw (← c .before .is-tested .ensures cell e, c .if1 .left)
 
 pub first-place-spec : {M : Type 1} → statement M
-first-place-spec = tie.close (tie.spec is-tested-requires returns returns-2)
+first-place-spec = tie.close (tie.spec (λ c κs. search needs) returns returns-2)

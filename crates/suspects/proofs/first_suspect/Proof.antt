@@ -32,12 +32,6 @@ Inv-loop work part secrets masks order place₀ place =
 abbrev μ-loop : tie.MeasureT-loop
 μ-loop work part secrets masks order place₀ place = most-sets - place
 
-suspect-map-requires : tie.Need-suspect-map-requires Inv-loop μ-loop
-suspect-map-requires c κs = search needs
-
-meets-requires : tie.Need-meets-requires Inv-loop μ-loop
-meets-requires c κs = search needs
-
 returns : tie.Need-returns Inv-loop μ-loop
 unfolding reportOf
 returns c =
@@ -47,9 +41,6 @@ returns c =
     (reported-nothing variables _ (below-at _ _)
     (none-suspect variables _ _ _ _ (asked .meets .result) s m (asked .before .suspect-map .ensures) (asked .meets .ensures) (not-true _ (c .if1 .taken))))
 
-sets-in-order-requires : tie.Need-sets-in-order-requires Inv-loop μ-loop
-sets-in-order-requires c κs = search needs
-
 loop-holds : tie.Need-loop-holds Inv-loop μ-loop
 loop-holds c = λ variables s m k l. absurd (omega arith)
 
@@ -58,12 +49,6 @@ set-there : (c : tie.In-loop Inv-loop μ-loop)
     → getD (c .before .before .sets-in-order .result) (c .before .loop .place) 0 ≡ setAt (c .before .loop .place)
 unfolding setAt
 set-there c = ap (λ (order : List ℕ). getD order (c .before .loop .place) 0) (c .before .before .sets-in-order .ensures)
-
-mul-set : tie.Need-mul-set Inv-loop μ-loop
-mul-set c = search needs
-
-array-read-set : tie.Need-array-read-set Inv-loop μ-loop
-array-read-set c = search needs
 
 cast-set : tie.Need-cast-set Inv-loop μ-loop
 cast-set c = omega (arith, set-low (set-there c) (c .loop-test .taken))
@@ -89,12 +74,6 @@ returns-2 c =
     (reported-first variables _ (below-at _ _) _ (inside .loop-test .taken) (tested-set (c .before) true (c .if2 .taken) variables s m)
     (inside .before .loop .inv variables s m)))
 
-add-place : tie.Need-add-place Inv-loop μ-loop
-add-place c = search needs
-
-loop-less : tie.Need-loop-less Inv-loop μ-loop
-loop-less c = search needs
-
 loop-again : tie.Need-loop-again Inv-loop μ-loop
 loop-again c =
     λ variables s m.
@@ -109,20 +88,6 @@ returns-3 c =
 pub first-suspect-spec : {M : Type 1} → statement M
 first-suspect-spec =
     tie.close
-    (tie.spec
-    Inv-loop
-    μ-loop
-    suspect-map-requires
-    meets-requires
-    returns
-    sets-in-order-requires
-    loop-holds
-    mul-set
-    array-read-set
-    cast-set
-    suspect-in-requires
-    returns-2
-    add-place
-    loop-less
-    loop-again
-    returns-3)
+    (tie.spec Inv-loop μ-loop (λ c κs. search needs) (λ c κs. search needs) returns
+    (λ c κs. search needs) loop-holds (λ c. search needs) (λ c. search needs) cast-set
+    suspect-in-requires returns-2 (λ c. search needs) (λ c. search needs) loop-again returns-3)

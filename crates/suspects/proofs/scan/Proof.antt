@@ -66,12 +66,6 @@ variables-of-requires c κs = few (c .before) .0
 variables-of-requires-2 : tie.Need-variables-of-requires-2 Inv-loop μ-loop Inv-nodes μ-nodes
 variables-of-requires-2 c κs = few (c .before .before) .0
 
-suspect-map-requires : tie.Need-suspect-map-requires Inv-loop μ-loop Inv-nodes μ-nodes
-suspect-map-requires c κs = search needs
-
-sets-in-order-requires : tie.Need-sets-in-order-requires Inv-loop μ-loop Inv-nodes μ-nodes
-sets-in-order-requires c κs = search needs
-
 nodes-holds : tie.Need-nodes-holds Inv-loop μ-loop Inv-nodes μ-nodes
 nodes-holds c = let within = c .before .before .before .before .before .pre .2 in (omega arith, omega arith, λ n e j h l. absurd (omega arith))
 
@@ -89,9 +83,6 @@ add-part c = omega (arith, few (start (c .before .before)))
 
 meets-requires : tie.Need-meets-requires Inv-loop μ-loop Inv-nodes μ-nodes
 meets-requires c κs = omega (arith, start (c .before .before) .pre)
-
-first-place-requires : tie.Need-first-place-requires Inv-loop μ-loop Inv-nodes μ-nodes
-first-place-requires c κs = search needs
 
 loop-holds : tie.Need-loop-holds Inv-loop μ-loop Inv-nodes μ-nodes
 unfolding entry flatOf
@@ -115,23 +106,11 @@ unfolding setAt
 set-there c =
     ap (λ (order : List ℕ). getD order (c .before .loop .place) 0) (c .before .before .before .before .before .before .before .sets-in-order .ensures)
 
-mul-set : tie.Need-mul-set Inv-loop μ-loop Inv-nodes μ-nodes
-mul-set c = search needs
-
-array-read-set : tie.Need-array-read-set Inv-loop μ-loop Inv-nodes μ-nodes
-array-read-set c = search needs
-
 cast-set : tie.Need-cast-set Inv-loop μ-loop Inv-nodes μ-nodes
 cast-set c = omega (arith, set-low (set-there c) (c .loop-test .taken))
 
 suspect-in-requires : tie.Need-suspect-in-requires Inv-loop μ-loop Inv-nodes μ-nodes
 suspect-in-requires c κs = omega (arith, set-low (set-there c) (c .loop-test .taken), start (c .before .before .before .before .before .before) .pre)
-
-add-place : tie.Need-add-place Inv-loop μ-loop Inv-nodes μ-nodes
-add-place c = omega arith
-
-loop-less : tie.Need-loop-less Inv-loop μ-loop Inv-nodes μ-nodes
-loop-less c = omega arith
 
 -- what is tested is whether that set is suspect and in the family
 tested-set : (c : tie.After-suspect-in Inv-loop μ-loop Inv-nodes μ-nodes) (n : Records.Netlist) → start (turn c) .args .t1 ≡ flatOf n
@@ -148,9 +127,6 @@ loop-again c =
 
 add-i : tie.Need-add-i Inv-loop μ-loop Inv-nodes μ-nodes
 add-i c = omega (arith, few (start (c .before .before .before .before .before .before)))
-
-nodes-less : tie.Need-nodes-less Inv-loop μ-loop Inv-nodes μ-nodes
-nodes-less c = omega arith
 
 nodes-again : tie.Need-nodes-again Inv-loop μ-loop Inv-nodes μ-nodes
 nodes-again c = (
@@ -218,32 +194,8 @@ returns-2 c = (
 pub scan-spec : {M : Type 1} → statement M
 scan-spec =
     tie.close
-    (tie.spec
-    Inv-loop
-    μ-loop
-    Inv-nodes
-    μ-nodes
-    variables-of-requires
-    variables-of-requires-2
-    suspect-map-requires
-    sets-in-order-requires
-    nodes-holds
-    mul-node
-    element-copy-out-node
-    mul-part
-    add-part
-    meets-requires
-    first-place-requires
-    loop-holds
-    mul-set
-    array-read-set
-    cast-set
-    suspect-in-requires
-    add-place
-    loop-less
-    loop-again
-    add-i
-    nodes-less
-    nodes-again
-    returns
-    returns-2)
+    (tie.spec Inv-loop μ-loop Inv-nodes μ-nodes variables-of-requires variables-of-requires-2
+    (λ c κs. search needs) (λ c κs. search needs) nodes-holds mul-node element-copy-out-node
+    mul-part add-part meets-requires (λ c κs. search needs) loop-holds (λ c. search needs)
+    (λ c. search needs) cast-set suspect-in-requires (λ c. omega arith) (λ c. omega arith)
+    loop-again add-i (λ c. omega arith) nodes-again returns returns-2)

@@ -20,9 +20,6 @@ returns-2 c =
     let args = c .before .before .before .args in
     rw (suspect-masks variables (args .set), ← s, eq-eqb (bitAnd (args .set) (args .secrets)) 0 (c .if2 .taken))
 
-holds-requires : tie.Need-holds-requires
-holds-requires c κs = search needs
-
 returns-3 : tie.Need-returns-3
 returns-3 c =
     λ variables s m.
@@ -36,4 +33,4 @@ returns-3 c =
     ) (c .holds .ensures)
 
 pub suspect-in-spec : {M : Type 1} → statement M
-suspect-in-spec = tie.close (tie.spec returns returns-2 holds-requires returns-3)
+suspect-in-spec = tie.close (tie.spec returns returns-2 (λ c κs. search needs) returns-3)

@@ -33,12 +33,6 @@ loop-holds : tie.Need-loop-holds Inv-loop μ-loop
 unfolding variablesOf number
 loop-holds c = (search needs, search needs, λ n d e f. refl)
 
-element-copy-out-other : tie.Need-element-copy-out-other Inv-loop μ-loop
-element-copy-out-other c = search needs
-
-bit-if-requires : tie.Need-bit-if-requires Inv-loop μ-loop
-bit-if-requires c κs = search needs
-
 -- a turn adds the bit of its variable, or nothing
 bit-small : (c : tie.After-bit-if Inv-loop μ-loop) → c .bit-if .result ≤ 2 ^ c .before .before .before .loop .v
 bit-small c =
@@ -50,12 +44,6 @@ add-set : tie.Need-add-set Inv-loop μ-loop
 add-set c =
     let few : 2 ^ c .before .before .before .loop .v ≤ 2 ^ most-variables = pow-mono {j = most-variables} (omega arith) in
     omega (arith, bit-small c)
-
-add-v : tie.Need-add-v Inv-loop μ-loop
-add-v c = search needs
-
-loop-less : tie.Need-loop-less Inv-loop μ-loop
-loop-less c = search needs
 
 loop-again : tie.Need-loop-again Inv-loop μ-loop
 unfolding flatOf
@@ -81,4 +69,5 @@ returns c =
 pub variables-of-spec : {M : Type 1} → statement M
 variables-of-spec =
     tie.close
-    (tie.spec Inv-loop μ-loop loop-holds element-copy-out-other bit-if-requires add-set add-v loop-less loop-again returns)
+    (tie.spec Inv-loop μ-loop loop-holds (λ c. search needs) (λ c κs. search needs) add-set
+    (λ c. search needs) (λ c. search needs) loop-again returns)

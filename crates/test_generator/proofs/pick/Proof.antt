@@ -5,17 +5,9 @@ use native.Mathlib.Nat.{lt-of-le-of-lt, mod-le}
 use Rattle.test_generator.proofs.pick.Statement.{statement}
 use Rattle.test_generator.proofs.pick.Tie as tie
 
-returns : tie.Need-returns
-returns c = search needs
-
-cast-result : tie.Need-cast-result
-cast-result c = search needs
-
-rem-result : tie.Need-rem-result
-rem-result c = search needs
-
 returns-2 : tie.Need-returns-2
 returns-2 c = lt-of-le-of-lt (mod-le _ _) (omega arith)
 
 pub pick-spec : {M : Type 1} → statement M
-pick-spec = tie.close (tie.spec returns cast-result rem-result returns-2)
+pick-spec =
+    tie.close (tie.spec (λ c. search needs) (λ c. search needs) (λ c. search needs) returns-2)

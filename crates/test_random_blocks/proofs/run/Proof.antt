@@ -10,25 +10,8 @@ Inv-loop trial blocks tally₀ seed₀ turn₀ tally seed turn = Unit
 abbrev μ-loop : tie.MeasureT-loop
 μ-loop trial blocks tally₀ seed₀ turn₀ tally seed turn = blocks - turn
 
-loop-holds : tie.Need-loop-holds Inv-loop μ-loop
-loop-holds c = search needs
-
-one-block-requires : tie.Need-one-block-requires Inv-loop μ-loop
-one-block-requires c κs = search needs
-
-add-turn : tie.Need-add-turn Inv-loop μ-loop
-add-turn c = search needs
-
-loop-less : tie.Need-loop-less Inv-loop μ-loop
-loop-less c = search needs
-
-loop-again : tie.Need-loop-again Inv-loop μ-loop
-loop-again c = search needs
-
-returns : tie.Need-returns Inv-loop μ-loop
-returns c = search needs
-
 pub run-spec : {M : Type 1} → statement M
 run-spec =
     tie.close
-    (tie.spec Inv-loop μ-loop loop-holds one-block-requires add-turn loop-less loop-again returns)
+    (tie.spec Inv-loop μ-loop (λ c. search needs) (λ c κs. search needs) (λ c. search needs)
+    (λ c. search needs) (λ c. search needs) (λ c. search needs))

@@ -14,12 +14,6 @@ product-fits a b p q = omega (arith, mul-le-mul p q)
 half-bound : (a b : ℕ) → a ≤ 255 → b ≤ 255 → a * b / 2 < 32768
 half-bound a b p q = omega (arith, mul-le-mul p q)
 
-least-requires : tie.Need-least-requires
-least-requires c κs = search needs
-
-sub-result : tie.Need-sub-result
-sub-result c = search needs
-
 mul-result : tie.Need-mul-result
 mul-result c = record { fits = product-fits _ _ (omega arith) (omega arith) }
 
@@ -27,4 +21,4 @@ returns : tie.Need-returns
 returns c = half-bound _ _ (omega arith) (omega arith)
 
 pub pairs-of-spec : {M : Type 1} → statement M
-pairs-of-spec = tie.close (tie.spec least-requires sub-result mul-result returns)
+pairs-of-spec = tie.close (tie.spec (λ c κs. search needs) (λ c. search needs) mul-result returns)

@@ -33,24 +33,6 @@ loop-holds : tie.Need-loop-holds Inv-loop μ-loop
 unfolding keptFrom
 loop-holds c = (search needs, refl)
 
-mul-is-before : tie.Need-mul-is-before Inv-loop μ-loop
-mul-is-before c = search needs
-
-array-copy-out-is-before : tie.Need-array-copy-out-is-before Inv-loop μ-loop
-array-copy-out-is-before c = search needs
-
-is-before-requires : tie.Need-is-before-requires Inv-loop μ-loop
-is-before-requires c κs = search needs
-
-add-from : tie.Need-add-from Inv-loop μ-loop
-add-from c = search needs
-
-add-k : tie.Need-add-k Inv-loop μ-loop
-add-k c = search needs
-
-loop-less : tie.Need-loop-less Inv-loop μ-loop
-loop-less c = search needs
-
 loop-again : tie.Need-loop-again Inv-loop μ-loop
 loop-again c =
     let turn = c .before .before .before in
@@ -67,15 +49,6 @@ returns c = let (inside, kept) = c .before .loop .inv in kept ∙ ap (keptFrom _
 pub entries-kept-from-spec : {M : Type 1} → statement M
 entries-kept-from-spec =
     tie.close
-    (tie.spec
-    Inv-loop
-    μ-loop
-    loop-holds
-    mul-is-before
-    array-copy-out-is-before
-    is-before-requires
-    add-from
-    add-k
-    loop-less
-    loop-again
+    (tie.spec Inv-loop μ-loop loop-holds (λ c. search needs) (λ c. search needs)
+    (λ c κs. search needs) (λ c. search needs) (λ c. search needs) (λ c. search needs) loop-again
     returns)

@@ -1,87 +1,94 @@
--- `write_bytes::put_node` meets its contract: the record's bytes are told by the fields of the node, by cases on the
--- node, and each arm of the match stores those of the kinds that it is for. Assumes nothing.
-use Prim.Native.Nat.{ℕ, _/_, _%_}
-use mathlib.Core.Path.{_≡_, refl}
-use mathlib.Core.Logic.{_⊎_, inl, inr}
-use mathlib.Core.Bool.{cond, _||_}
+-- `write_bytes::put_node` meets its contract: an input's set, or the operands, behind the kind. The loop's invariant:
+-- the first j operands are stored. The measure is the number of operands left. Assumes nothing.
+use Prim.Native.Nat.{ℕ, _+_, _-_, _/_, _%_, _≤_, _<_}
+use mathlib.Core.Path.{_≡_, refl, sym, _∙_}
 use mathlib.Core.List.{List, [], _∷_}
+use native.Mathlib.Numerals.{add-one}
 use native.Mathlib.Omega.{arith}
 use borrow.Author.Needs.{needs}
-use borrow.Author.Tests.{ne-eqb}
-use lib.Dec.{eqb}
+use lib.ListN.{length, take}
+use lib.Seq.{take-suc, take-at}
 use Rattle.rules.specs.declared.Node.{Node}
-use Rattle.rules.specs.Records.{Cell, input, NOT, XOR, AND, OR, register, node, kindOf, operands, setOf, body, recordBytes}
+use Rattle.rules.specs.Records.{Cell, input, gate, node, kindOf, operands, setOf, body, recordBytes, most-body}
 use Rattle.rules.specs.Slices.{entry}
-use Rattle.listing_lines.proofs.Text.{appended-as}
+use Rattle.rules.proofs.Operands.{known}
+use Rattle.netlists.specs.Netlists.{padded}
+use Rattle.listing_lines.specs.Text.{Appended}
+use Rattle.listing_lines.proofs.Text.{appended-none, appended-more, appended-as}
 use Rattle.write_bytes.proofs.put_node.Statement.{statement}
 use Rattle.write_bytes.proofs.put_node.Tie as tie
 
--- the bytes by the fields
-bytesBy : Node → List ℕ
-bytesBy n =
-    cond (eqb (n .kind) 2) (2 ∷ n .set % 256 ∷ n .set / 256 ∷ [])
-    (cond (eqb (n .kind) 3 || eqb (n .kind) 7) (n .kind ∷ n .first ∷ []) (n .kind ∷ n .first ∷ n .second ∷ []))
+-- the body of an input's record is its set, and that of every other node its operands
+body-set : (cell : Cell) → kindOf cell ≡ 2 → body cell ≡ setOf cell % 256 ∷ setOf cell / 256 ∷ []
+unfolding kindOf body setOf
+body-set (input s) e = refl
+body-set (gate kind ops) e = absurd (omega (arith, known kind .above))
 
-bytes-by : (cell : Cell) → bytesBy (entry cell) ≡ recordBytes (node cell)
-unfolding bytesBy entry recordBytes kindOf body operands setOf
-bytes-by (input s) = refl
-bytes-by (NOT a) = refl
-bytes-by (XOR a b) = refl
-bytes-by (AND a b) = refl
-bytes-by (OR a b) = refl
-bytes-by (register a) = refl
+body-operands : (cell : Cell) → (kindOf cell ≡ 2 → ⊥) → body cell ≡ operands cell
+unfolding kindOf body operands
+body-operands (input s) other = absurd (other refl)
+body-operands (gate kind ops) other = refl
 
--- in each arm of the match on the kind
 module _ {n : Node} (cell : Cell) (e : n ≡ entry cell) where
-  by-fields : bytesBy n ≡ recordBytes (node cell)
-  by-fields = rw e (bytes-by cell)
+  of-input : n .kind ≡ 2 → n .kind ∷ n .set % 256 ∷ n .set / 256 ∷ [] ≡ recordBytes (node cell)
+  unfolding entry recordBytes
+  of-input two = rw (e, body-set cell (rw e at two))
 
-  of-input : n .kind ≡ 2 → 2 ∷ n .set % 256 ∷ n .set / 256 ∷ [] ≡ recordBytes (node cell)
-  unfolding bytesBy
-  of-input k = rw k at by-fields
+  of-gate : (n .kind ≡ 2 → ⊥) → (count : ℕ) (ops : List ℕ) → (n .kind ≡ kindOf cell → count ≡ length (operands cell)) → ops ≡ padded most-body 0 (operands cell)
+      → n .kind ∷ take count ops ≡ recordBytes (node cell)
+  unfolding entry recordBytes padded
+  of-gate other count ops counted all = rw (all, take-at (operands cell) _ count (sym (counted (rw e))), e, body-operands cell (rw e at other))
 
-  of-one : (n .kind ≡ 3) ⊎ (n .kind ≡ 7) → n .kind ∷ n .first ∷ [] ≡ recordBytes (node cell)
-  unfolding bytesBy
-  of-one (inl k) = rw k (rw k at by-fields)
-  of-one (inr k) = rw k (rw k at by-fields)
+abbrev Inv-loop : tie.InvT-loop
+Inv-loop out₀ at kind set operands count end₀ j₀ out end j =
+    (j ≤ count) × (count ≤ most-body) × (length out ≡ length out₀) × (end ≡ end₀ + j) × Appended out₀ out end₀ end (take j operands)
 
-  of-two : (Unit {0} × (n .kind ≡ 2 → ⊥)) × ((n .kind ≡ 3) ⊎ (n .kind ≡ 7) → ⊥) → n .kind ∷ n .first ∷ n .second ∷ [] ≡ recordBytes (node cell)
-  unfolding bytesBy
-  of-two r = rw (ne-eqb (n .kind) 2 (r .0 .1), ne-eqb (n .kind) 3 (λ k. r .1 (inl k)), ne-eqb (n .kind) 7 (λ k. r .1 (inr k))) at by-fields
+abbrev μ-loop : tie.MeasureT-loop
+μ-loop out₀ at kind set operands count end₀ j₀ out end j = count - j
 
-cast-put-three : tie.Need-cast-put-three
-cast-put-three c = search needs
+returns : tie.Need-returns Inv-loop μ-loop
+returns c =
+    let put = c .before .before in
+    let chosen = put .before .before in (
+      λ cell e. appended-as (of-input cell e (chosen .if1 .taken)) (appended-more (chosen .before .before .before .put-byte .ensures) (put .put-two .ensures)),
+      omega (arith, put .put-two .ensures .place),
+    )
 
-cast-put-three-2 : tie.Need-cast-put-three-2
-cast-put-three-2 c = search needs
+loop-holds : tie.Need-loop-holds Inv-loop μ-loop
+loop-holds c = (omega arith, search needs, refl, omega arith, appended-none _ _)
 
-put-three-requires : tie.Need-put-three-requires
-put-three-requires c κs = search needs
+loop-again : tie.Need-loop-again Inv-loop μ-loop
+loop-again c =
+    let put = c .before .before in
+    let turn = put .before .before .before in
+    let asked = turn .before .before .before .before .before .before in
+    let j = turn .loop .j in
+    let ops : List ℕ = asked .before .operands-of .result in
+    let here : j < length ops = omega arith in (
+      omega arith,
+      turn .loop .inv .1,
+      search needs,
+      omega (arith, put .put-byte2 .ensures .place),
+      rw (add-one, take-suc ops j 0 here) (appended-more (turn .loop .inv .4) (put .put-byte2 .ensures)),
+    )
 
-put-two-requires : tie.Need-put-two-requires
-put-two-requires c κs = search needs
-
-put-three-requires-2 : tie.Need-put-three-requires-2
-put-three-requires-2 c κs = search needs
-
-same-length : tie.Need-same-length
-same-length c = search needs
-
-returns : tie.Need-returns
-returns c = (λ cell e. appended-as (of-input cell e (c .before .before .before .before .match .keys1)) (c .before .before .put-three .ensures), omega (arith, c .before .before .put-three .ensures .place))
-
-same-length-2 : tie.Need-same-length-2
-same-length-2 c = search needs
-
-returns-2 : tie.Need-returns-2
-returns-2 c = (λ cell e. appended-as (of-one cell e (c .before .before .before .before .match .keys2)) (c .before .before .put-two .ensures), omega (arith, c .before .before .put-two .ensures .place))
-
-same-length-3 : tie.Need-same-length-3
-same-length-3 c = search needs
-
-returns-3 : tie.Need-returns-3
-returns-3 c = (λ cell e. appended-as (of-two cell e (c .before .before .before .before .match .rest)) (c .before .before .put-three2 .ensures), omega (arith, c .before .before .put-three2 .ensures .place))
+returns-2 : tie.Need-returns-2 Inv-loop μ-loop
+returns-2 c =
+    let loop = c .before in
+    let asked = loop .before .before .before .before .before .before in
+    let all : loop .loop .j ≡ asked .operand-count .result = omega arith in (
+      λ cell e.
+          appended-as
+          (of-gate cell e (loop .before .if1 .left) (loop .loop .j) (asked .before .operands-of .result) (λ kind. all ∙ asked .operand-count .ensures .0 cell kind)
+          (asked .before .operands-of .ensures cell e))
+          (appended-more (loop .before .before .before .before .put-byte .ensures) (loop .loop .inv .4)),
+      omega (arith, loop .before .before .before .before .put-byte .ensures .place),
+    )
 
 pub put-node-spec : {M : Type 1} → statement M
 put-node-spec =
-    tie.close (tie.spec cast-put-three cast-put-three-2 put-three-requires put-two-requires put-three-requires-2 same-length returns same-length-2 returns-2 same-length-3 returns-3)
+    tie.close
+    (tie.spec Inv-loop μ-loop (λ c κs. search needs) (λ c κs. search needs) (λ c κs. search needs)
+    (λ c. search needs) (λ c. search needs) (λ c κs. search needs) (λ c. search needs) returns
+    loop-holds (λ c. search needs) (λ c κs. search needs) (λ c. search needs) (λ c. search needs)
+    loop-again (λ c. search needs) returns-2)

@@ -30,9 +30,6 @@ loop-holds c = (omega arith, omega arith, refl, λ n e. appended-none _ 0)
 element-copy-out-put-two : tie.Need-element-copy-out-put-two Inv-loop μ-loop
 element-copy-out-put-two c = omega arith
 
-put-two-requires : tie.Need-put-two-requires Inv-loop μ-loop
-put-two-requires c κs = search needs
-
 add-i : tie.Need-add-i Inv-loop μ-loop
 add-i c = omega arith
 
@@ -53,9 +50,6 @@ loop-again c =
           appended-as (rw (e, flat-class-at n i h) (variables-more n i h)) (appended-more (turn .loop .inv .3 n e) stored),
     )
 
-same-length : tie.Need-same-length Inv-loop μ-loop
-same-length c = search needs
-
 returns : tie.Need-returns Inv-loop μ-loop
 returns c = (
   λ n e.
@@ -67,14 +61,5 @@ returns c = (
 pub put-variables-spec : {M : Type 1} → statement M
 put-variables-spec =
     tie.close
-    (tie.spec
-    Inv-loop
-    μ-loop
-    loop-holds
-    element-copy-out-put-two
-    put-two-requires
-    add-i
-    loop-less
-    loop-again
-    same-length
-    returns)
+    (tie.spec Inv-loop μ-loop loop-holds element-copy-out-put-two (λ c κs. search needs) add-i
+    loop-less loop-again (λ c. search needs) returns)

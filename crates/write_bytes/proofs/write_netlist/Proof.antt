@@ -26,18 +26,6 @@ returns-2 c = (λ n w e. absurd (none n w e), (λ n w e. absurd (none n w e), om
     none : (n : Netlist) → WellFormed n → c .before .before .before .before .args .netlist ≡ flatOf n → ⊥
     none n w e = omega (arith, value-count n e, w .few-nodes)
 
-put-variables-requires : tie.Need-put-variables-requires
-put-variables-requires c κs = search needs
-
-put-nodes-requires : tie.Need-put-nodes-requires
-put-nodes-requires c κs = search needs
-
-element-write-out : tie.Need-element-write-out
-element-write-out c = search needs
-
-add-result : tie.Need-add-result
-add-result c = search needs
-
 returns-3 : tie.Need-returns-3
 unfolding writtenOut recordBytes
 returns-3 c = (λ n w e. appended-size (wholly n e), (λ n w e. appended-whole (wholly n e), omega arith))
@@ -54,11 +42,5 @@ returns-3 c = (λ n w e. appended-size (wholly n e), (λ n w e. appended-whole (
 pub write-netlist-spec : {M : Type 1} → statement M
 write-netlist-spec =
     tie.close
-    (tie.spec
-    returns
-    returns-2
-    put-variables-requires
-    put-nodes-requires
-    element-write-out
-    add-result
-    returns-3)
+    (tie.spec returns returns-2 (λ c κs. search needs) (λ c κs. search needs) (λ c. search needs)
+    (λ c. search needs) returns-3)

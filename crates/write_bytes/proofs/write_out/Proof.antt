@@ -20,12 +20,6 @@ returns c = (λ n work opened. absurd (none n work opened), (λ n work opened. a
     none : (n : Netlist) (work : List ℕ) → IsOpen n (c .before .before .args .state) (c .before .before .args .nodes) work → ⊥
     none n work opened = omega (arith, state-count n (opened .itsState), opened .obeys .few-nodes)
 
-loaded-of-requires : tie.Need-loaded-of-requires
-loaded-of-requires c κs = search needs
-
-write-netlist-requires : tie.Need-write-netlist-requires
-write-netlist-requires c κs = search needs
-
 returns-2 : tie.Need-returns-2
 returns-2 c = (
   λ n work opened. c .write-netlist .ensures .0 n (opened .obeys) (flat n work opened),
@@ -42,4 +36,5 @@ returns-2 c = (
     flat n work opened = ap (λ (l : Loaded). l .block) (loaded .loaded-of .ensures) ∙ open-block opened (omega arith)
 
 pub write-out-spec : {M : Type 1} → statement M
-write-out-spec = tie.close (tie.spec returns loaded-of-requires write-netlist-requires returns-2)
+write-out-spec =
+    tie.close (tie.spec returns (λ c κs. search needs) (λ c κs. search needs) returns-2)

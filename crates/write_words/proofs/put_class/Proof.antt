@@ -28,20 +28,11 @@ numbered secret = omega arith
 numbered mask = omega arith
 numbered public = omega arith
 
-add-form : tie.Need-add-form
-add-form c = search needs
-
-word-of-requires : tie.Need-word-of-requires
-word-of-requires c κs = search needs
-
 put-name-requires : tie.Need-put-name-requires
 put-name-requires c κs = omega (arith, c .word-of .ensures .1)
 
 put-byte-requires : tie.Need-put-byte-requires
 put-byte-requires c κs = omega (arith, c .before .before .before .before .word-of .ensures .1)
-
-same-length : tie.Need-same-length
-same-length c = search needs
 
 returns : tie.Need-returns
 returns c =
@@ -58,4 +49,6 @@ returns c =
 
 pub put-class-spec : {M : Type 1} → statement M
 put-class-spec =
-    tie.close (tie.spec add-form word-of-requires put-name-requires put-byte-requires same-length returns)
+    tie.close
+    (tie.spec (λ c. search needs) (λ c κs. search needs) put-name-requires put-byte-requires
+    (λ c. search needs) returns)

@@ -17,9 +17,6 @@ few c =
     ⊎-elim (λ two. omega (arith, name .put-name .ensures .1, name .before .name-of .ensures .1 .1 two))
     (λ less. omega (arith, name .put-name .ensures .1, name .before .name-of .ensures .1 .0)) (c .put-numbers .ensures .1 .1)
 
-name-of-requires : tie.Need-name-of-requires
-name-of-requires c κs = search needs
-
 put-name-requires : tie.Need-put-name-requires
 put-name-requires c κs = omega (arith, c .name-of .ensures .1)
 
@@ -30,9 +27,6 @@ put-numbers-requires c κs =
 
 put-byte-requires : tie.Need-put-byte-requires
 put-byte-requires c κs = omega (arith, few (c .before .before .before))
-
-same-length : tie.Need-same-length
-same-length c = search needs
 
 returns : tie.Need-returns
 unfolding recordWords recordLine
@@ -49,4 +43,6 @@ returns c =
 
 pub put-node-spec : {M : Type 1} → statement M
 put-node-spec =
-    tie.close (tie.spec name-of-requires put-name-requires put-numbers-requires put-byte-requires same-length returns)
+    tie.close
+    (tie.spec (λ c κs. search needs) put-name-requires put-numbers-requires put-byte-requires
+    (λ c. search needs) returns)

@@ -35,9 +35,6 @@ mul-put-node c = omega arith
 element-copy-out-put-node : tie.Need-element-copy-out-put-node Inv-loop μ-loop
 element-copy-out-put-node c = omega arith
 
-put-node-requires : tie.Need-put-node-requires Inv-loop μ-loop
-put-node-requires c κs = search needs
-
 add-i : tie.Need-add-i Inv-loop μ-loop
 add-i c = omega arith
 
@@ -57,9 +54,6 @@ loop-again c =
           (appended-more (turn .loop .inv .3 n e) (c .before .before .put-node .ensures .0 _ (value-entry n e i (omega arith)))),
     )
 
-same-length : tie.Need-same-length Inv-loop μ-loop
-same-length c = search needs
-
 returns : tie.Need-returns Inv-loop μ-loop
 returns c = (
   λ n e.
@@ -71,15 +65,5 @@ returns c = (
 pub put-nodes-spec : {M : Type 1} → statement M
 put-nodes-spec =
     tie.close
-    (tie.spec
-    Inv-loop
-    μ-loop
-    loop-holds
-    mul-put-node
-    element-copy-out-put-node
-    put-node-requires
-    add-i
-    loop-less
-    loop-again
-    same-length
-    returns)
+    (tie.spec Inv-loop μ-loop loop-holds mul-put-node element-copy-out-put-node
+    (λ c κs. search needs) add-i loop-less loop-again (λ c. search needs) returns)

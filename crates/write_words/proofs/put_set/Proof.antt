@@ -36,9 +36,6 @@ put-field-requires c κs =
     let variable = c .before .before .before .loop .variable in
     omega (arith, decimal-short 1 variable (omega arith) (omega arith))
 
-add-variable : tie.Need-add-variable Inv-loop μ-loop
-add-variable c = search needs
-
 loop-less : tie.Need-loop-less Inv-loop μ-loop
 loop-less c = omega arith
 
@@ -56,9 +53,6 @@ loop-again c =
     (λ w. (omega arith, omega arith, rw (w .1, w .2) (appended-as (held-same _ variable (w .0 .left)) (turn .loop .inv .2))))
     (c .if1 .came)
 
-same-length : tie.Need-same-length Inv-loop μ-loop
-same-length c = search needs
-
 returns : tie.Need-returns Inv-loop μ-loop
 returns c =
     let all : c .before .loop .variable ≡ most-variables = omega arith in
@@ -67,15 +61,5 @@ returns c =
 pub put-set-spec : {M : Type 1} → statement M
 put-set-spec =
     tie.close
-    (tie.spec
-    Inv-loop
-    μ-loop
-    loop-holds
-    cast-if1
-    shr-if1
-    put-field-requires
-    add-variable
-    loop-less
-    loop-again
-    same-length
-    returns)
+    (tie.spec Inv-loop μ-loop loop-holds cast-if1 shr-if1 put-field-requires (λ c. search needs)
+    loop-less loop-again (λ c. search needs) returns)

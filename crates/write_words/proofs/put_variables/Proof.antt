@@ -32,9 +32,6 @@ loop-holds c = (omega arith, omega arith, refl, λ n e. appended-none _ 0)
 element-copy-out-put-class : tie.Need-element-copy-out-put-class Inv-loop μ-loop
 element-copy-out-put-class c = omega arith
 
-put-class-requires : tie.Need-put-class-requires Inv-loop μ-loop
-put-class-requires c κs = search needs
-
 add-i : tie.Need-add-i Inv-loop μ-loop
 add-i c = omega arith
 
@@ -55,9 +52,6 @@ loop-again c =
           (appended-more (turn .loop .inv .3 n e) (put .0 _ (rw e (flat-class-at n i h)))),
     )
 
-same-length : tie.Need-same-length Inv-loop μ-loop
-same-length c = search needs
-
 returns : tie.Need-returns Inv-loop μ-loop
 returns c = (
   λ n e.
@@ -70,14 +64,5 @@ returns c = (
 pub put-variables-spec : {M : Type 1} → statement M
 put-variables-spec =
     tie.close
-    (tie.spec
-    Inv-loop
-    μ-loop
-    loop-holds
-    element-copy-out-put-class
-    put-class-requires
-    add-i
-    loop-less
-    loop-again
-    same-length
-    returns)
+    (tie.spec Inv-loop μ-loop loop-holds element-copy-out-put-class (λ c κs. search needs) add-i
+    loop-less loop-again (λ c. search needs) returns)

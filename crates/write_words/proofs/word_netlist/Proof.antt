@@ -26,18 +26,6 @@ returns-2 c = (λ n w e. absurd (none n w e), (λ n w e. absurd (none n w e), om
     none : (n : Netlist) → WellFormed n → c .before .before .before .before .args .netlist ≡ flatOf n → ⊥
     none n w e = omega (arith, value-count n e, w .few-nodes)
 
-put-variables-requires : tie.Need-put-variables-requires
-put-variables-requires c κs = search needs
-
-put-nodes-requires : tie.Need-put-nodes-requires
-put-nodes-requires c κs = search needs
-
-slice-aggregate-put-word : tie.Need-slice-aggregate-put-word
-slice-aggregate-put-word c = search needs
-
-put-word-requires : tie.Need-put-word-requires
-put-word-requires c κs = search needs
-
 returns-3 : tie.Need-returns-3
 unfolding word line recordWords recordLine wordedOut
 returns-3 c = (λ n w e. appended-size (wholly n e), (λ n w e. appended-whole (wholly n e), omega arith))
@@ -54,11 +42,5 @@ returns-3 c = (λ n w e. appended-size (wholly n e), (λ n w e. appended-whole (
 pub word-netlist-spec : {M : Type 1} → statement M
 word-netlist-spec =
     tie.close
-    (tie.spec
-    returns
-    returns-2
-    put-variables-requires
-    put-nodes-requires
-    slice-aggregate-put-word
-    put-word-requires
-    returns-3)
+    (tie.spec returns returns-2 (λ c κs. search needs) (λ c κs. search needs) (λ c. search needs)
+    (λ c κs. search needs) returns-3)

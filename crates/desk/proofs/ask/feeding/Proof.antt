@@ -4,17 +4,10 @@ use borrow.Author.Needs.{needs}
 use Rattle.desk.proofs.ask.feeding.Statement.{statement}
 use Rattle.desk.proofs.ask.feeding.Tie as tie
 
-feeding-points-requires : tie.Need-feeding-points-requires
-feeding-points-requires c κs = search needs
-
-feeding-fields-requires : tie.Need-feeding-fields-requires
-feeding-fields-requires c κs = search needs
-
-say-answered-requires : tie.Need-say-answered-requires
-say-answered-requires c κs = search needs
-
 returns : tie.Need-returns
 returns c = ap (λ given. given .outcome) (c .before .before .before .before .before .feeding-points .ensures)
 
 pub feeding-spec : {M : Type 1} → statement M
-feeding-spec = tie.close (tie.spec feeding-points-requires feeding-fields-requires say-answered-requires returns)
+feeding-spec =
+    tie.close
+    (tie.spec (λ c κs. search needs) (λ c κs. search needs) (λ c κs. search needs) returns)

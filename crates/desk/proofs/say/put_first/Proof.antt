@@ -9,11 +9,6 @@ use Rattle.desk.proofs.say.put_first.Tie as tie
 slice-aggregate-write-all : tie.Need-slice-aggregate-write-all
 slice-aggregate-write-all c = sym (length-take-le _ _ (omega arith))
 
-write-all-requires : tie.Need-write-all-requires
-write-all-requires c κs = search needs
-
-returns : tie.Need-returns
-returns c = search needs
-
 pub put-first-spec : {M : Type 1} → statement M
-put-first-spec = tie.close (tie.spec slice-aggregate-write-all write-all-requires returns)
+put-first-spec =
+    tie.close (tie.spec slice-aggregate-write-all (λ c κs. search needs) (λ c. search needs))

@@ -28,14 +28,8 @@ under : (c : tie.At-loop Inv-loop μ-loop) (bytes before : List ℕ) → Leaves 
     → Underway bytes most-nodes (start c .args .limit) before (start c .args .examined .netlist) (now (start c .args .work)) (c .loop .progress)
 under c bytes before left = c .loop .inv bytes before (c .before .begin-pairs .ensures _ _ _ _ _ (left .reply) (left .netlist) (left .held))
 
-begin-pairs-requires : tie.Need-begin-pairs-requires Inv-loop μ-loop
-begin-pairs-requires c κs = search needs
-
 loop-holds : tie.Need-loop-holds Inv-loop μ-loop
 loop-holds c = λ bytes before u. u
-
-is-done-requires : tie.Need-is-done-requires Inv-loop μ-loop
-is-done-requires c κs = search needs
 
 further-requires : tie.Need-further-requires Inv-loop μ-loop
 further-requires c κs =
@@ -44,17 +38,11 @@ further-requires c κs =
     let u = under turn (seen .bytes) (seen .before) (seen .leaves) in
     (u .ready, u .nodes, sym (c .before .before .is-done .ensures) ∙ not-true _ (c .before .if1 .taken))
 
-tell-progress-requires : tie.Need-tell-progress-requires Inv-loop μ-loop
-tell-progress-requires c κs = search needs
-
 loop-less : tie.Need-loop-less Inv-loop μ-loop
 loop-less c = omega (arith, c .before .further .ensures .1)
 
 loop-again : tie.Need-loop-again Inv-loop μ-loop
 loop-again c = λ bytes before u. c .before .further .ensures .0 _ _ before (c .before .before .before .before .before .loop .inv bytes before u)
-
-reply-after-requires : tie.Need-reply-after-requires Inv-loop μ-loop
-reply-after-requires c κs = search needs
 
 returns : tie.Need-returns Inv-loop μ-loop
 returns c = λ bytes before left.
@@ -64,15 +52,5 @@ returns c = λ bytes before left.
 pub searched-spec : {M : Type 1} → statement M
 searched-spec =
     tie.close
-    (tie.spec
-    Inv-loop
-    μ-loop
-    begin-pairs-requires
-    loop-holds
-    is-done-requires
-    further-requires
-    tell-progress-requires
-    loop-less
-    loop-again
-    reply-after-requires
-    returns)
+    (tie.spec Inv-loop μ-loop (λ c κs. search needs) loop-holds (λ c κs. search needs)
+    further-requires (λ c κs. search needs) loop-less loop-again (λ c κs. search needs) returns)

@@ -7,18 +7,6 @@ use Rattle.edit_turns.proofs.Outcomes.{not-opened}
 use Rattle.telgouin.proofs.editing.edit_block.Statement.{statement}
 use Rattle.telgouin.proofs.editing.edit_block.Tie as tie
 
-begin-with-requires : tie.Need-begin-with-requires
-begin-with-requires c κs = search needs
-
-enum-told : tie.Need-enum-told
-enum-told c = search needs
-
-enum-told-2 : tie.Need-enum-told-2
-enum-told-2 c = search needs
-
-run-lines-requires : tie.Need-run-lines-requires
-run-lines-requires c κs = search needs
-
 returns : tie.Need-returns
 returns c =
     let begun = c .before .before .before .begin-with .ensures in
@@ -33,4 +21,6 @@ returns-2 c =
 
 pub edit-block-spec : {M : Type 1} → statement M
 edit-block-spec =
-    tie.close (tie.spec begin-with-requires enum-told enum-told-2 run-lines-requires returns returns-2)
+    tie.close
+    (tie.spec (λ c κs. search needs) (λ c. search needs) (λ c. search needs) (λ c κs. search needs)
+    returns returns-2)

@@ -9,11 +9,6 @@ use Rattle.telgouin.proofs.editing.obey_first.Tie as tie
 slice-aggregate-obey : tie.Need-slice-aggregate-obey
 slice-aggregate-obey c = sym (length-take-le _ _ (omega arith))
 
-obey-requires : tie.Need-obey-requires
-obey-requires c κs = search needs
-
-returns : tie.Need-returns
-returns c = search needs
-
 pub obey-first-spec : {M : Type 1} → statement M
-obey-first-spec = tie.close (tie.spec slice-aggregate-obey obey-requires returns)
+obey-first-spec =
+    tie.close (tie.spec slice-aggregate-obey (λ c κs. search needs) (λ c. search needs))

@@ -7,21 +7,12 @@ use Rattle.edit_turns.specs.Turns.{unread, afterEvent}
 use Rattle.telgouin.proofs.editing.step.Statement.{statement}
 use Rattle.telgouin.proofs.editing.step.Tie as tie
 
-sub-left : tie.Need-sub-left
-sub-left c = search needs
-
-unreadable-requires : tie.Need-unreadable-requires
-unreadable-requires c κs = search needs
-
 returns : tie.Need-returns
 unfolding afterEvent
 returns c = (record { event = unread; stands = λ s stands. c .before .unreadable .ensures s _ stands }, (omega arith, λ more. absurd (false≢true more)))
 
-take-line-requires : tie.Need-take-line-requires
-take-line-requires c κs = search needs
-
-returns-2 : tie.Need-returns-2
-returns-2 c = search needs
-
 pub step-spec : {M : Type 1} → statement M
-step-spec = tie.close (tie.spec sub-left unreadable-requires returns take-line-requires returns-2)
+step-spec =
+    tie.close
+    (tie.spec (λ c. search needs) (λ c κs. search needs) returns (λ c κs. search needs)
+    (λ c. search needs))

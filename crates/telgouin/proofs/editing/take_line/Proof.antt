@@ -5,27 +5,6 @@ use Rattle.edit_turns.specs.Turns.{line, unread, ended, afterEvent}
 use Rattle.telgouin.proofs.editing.take_line.Statement.{statement}
 use Rattle.telgouin.proofs.editing.take_line.Tie as tie
 
-read-line-requires : tie.Need-read-line-requires
-read-line-requires c κs = search needs
-
-enum-told : tie.Need-enum-told
-enum-told c = search needs
-
-enum-told-2 : tie.Need-enum-told-2
-enum-told-2 c = search needs
-
-unreadable-requires : tie.Need-unreadable-requires
-unreadable-requires c κs = search needs
-
-enum-told-3 : tie.Need-enum-told-3
-enum-told-3 c = search needs
-
-long-line-requires : tie.Need-long-line-requires
-long-line-requires c κs = search needs
-
-enum-known-count : tie.Need-enum-known-count
-enum-known-count c = search needs
-
 obey-first-requires : tie.Need-obey-first-requires
 obey-first-requires c κs = rw (c .before .before .before .count .given .1) at (c .before .before .before .before .before .read-line .ensures)
 
@@ -47,16 +26,6 @@ returns-4 c = let obeyed = c .obey-first .ensures in record { event = line _ (ob
 pub take-line-spec : {M : Type 1} → statement M
 take-line-spec =
     tie.close
-    (tie.spec
-    read-line-requires
-    enum-told
-    enum-told-2
-    unreadable-requires
-    enum-told-3
-    long-line-requires
-    enum-known-count
-    obey-first-requires
-    returns
-    returns-2
-    returns-3
-    returns-4)
+    (tie.spec (λ c κs. search needs) (λ c. search needs) (λ c. search needs) (λ c κs. search needs)
+    (λ c. search needs) (λ c κs. search needs) (λ c. search needs) obey-first-requires returns
+    returns-2 returns-3 returns-4)

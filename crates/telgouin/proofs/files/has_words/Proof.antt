@@ -9,28 +9,16 @@ use lib.ListN.{length, take, drop, length-drop}
 use lib.Seq.{take-all}
 use borrow.Author.Needs.{needs}
 use Rattle.rules.specs.Listing.{word}
-use Rattle.read_words.specs.Words.{same}
+use Rattle.scanner.specs.Words.{same}
 use Rattle.telgouin.specs.Files.{hasWords}
 use Rattle.telgouin.proofs.files.has_words.Statement.{statement}
 use Rattle.telgouin.proofs.files.has_words.Tie as tie
-
-sub-from : tie.Need-sub-from
-sub-from c = search needs
 
 sub-is-word : tie.Need-sub-is-word
 sub-is-word c = ⊎-elim (λ w. omega arith) (λ w. omega arith) (c .before .if1 .came)
 
 part-is-word-start : tie.Need-part-is-word-start
 part-is-word-start c = ⊎-elim (λ w. omega arith) (λ w. omega arith) (c .before .if1 .came)
-
-part-is-word-end : tie.Need-part-is-word-end
-part-is-word-end c = search needs
-
-slice-aggregate-is-word : tie.Need-slice-aggregate-is-word
-slice-aggregate-is-word c = search needs
-
-is-word-requires : tie.Need-is-word-requires
-is-word-requires c κs = search needs
 
 -- the part of a name from there on is all that is left of it
 ends : (from : ℕ) (name : List ℕ) → from ≡ length name - 4 → same (take (length name - from) (drop from name)) (word ".txt") ≡ hasWords name
@@ -47,11 +35,5 @@ returns c =
 pub has-words-spec : {M : Type 1} → statement M
 has-words-spec =
     tie.close
-    (tie.spec
-    sub-from
-    sub-is-word
-    part-is-word-start
-    part-is-word-end
-    slice-aggregate-is-word
-    is-word-requires
-    returns)
+    (tie.spec (λ c. search needs) sub-is-word part-is-word-start (λ c. search needs)
+    (λ c. search needs) (λ c κs. search needs) returns)

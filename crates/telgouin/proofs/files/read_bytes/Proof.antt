@@ -5,21 +5,6 @@ use borrow.Author.Needs.{needs}
 use Rattle.telgouin.proofs.files.read_bytes.Statement.{statement}
 use Rattle.telgouin.proofs.files.read_bytes.Tie as tie
 
-read-from-requires : tie.Need-read-from-requires
-read-from-requires c κs = search needs
-
-enum-told : tie.Need-enum-told
-enum-told c = search needs
-
-unreadable-requires : tie.Need-unreadable-requires
-unreadable-requires c κs = search needs
-
-enum-known-count : tie.Need-enum-known-count
-enum-known-count c = search needs
-
-enum-known-count-2 : tie.Need-enum-known-count-2
-enum-known-count-2 c = search needs
-
 returns : tie.Need-returns
 returns c = rw (c .unreadable .ensures) tt
 
@@ -36,12 +21,5 @@ returns-3 c =
 pub read-bytes-spec : {M : Type 1} → statement M
 read-bytes-spec =
     tie.close
-    (tie.spec
-    read-from-requires
-    enum-told
-    unreadable-requires
-    enum-known-count
-    enum-known-count-2
-    returns
-    returns-2
-    returns-3)
+    (tie.spec (λ c κs. search needs) (λ c. search needs) (λ c κs. search needs) (λ c. search needs)
+    (λ c. search needs) returns returns-2 returns-3)

@@ -31,26 +31,11 @@ one-more c =
     let loop = c .before .before .before .before in
     c .take-number .ensures ∙ later (loop .loop .k) (loop .loop .k + 1) (loop .before .args .into .now) (loop .loop .into) (omega arith) (loop .loop .inv .2)
 
-loop-holds : tie.Need-loop-holds Inv-loop μ-loop
-loop-holds c = search needs
-
-add-take-number : tie.Need-add-take-number Inv-loop μ-loop
-add-take-number c = search needs
-
-take-number-requires : tie.Need-take-number-requires Inv-loop μ-loop
-take-number-requires c κs = search needs
-
 returns : tie.Need-returns Inv-loop μ-loop
 returns c =
     let call = c .before in
     let loop = call .before .before .before .before in
     later (loop .loop .k + 1) (loop .before .args .count) (loop .before .args .into .now) (call .take-number .last .1 .0) (omega arith) (one-more call)
-
-add-k : tie.Need-add-k Inv-loop μ-loop
-add-k c = search needs
-
-loop-less : tie.Need-loop-less Inv-loop μ-loop
-loop-less c = search needs
 
 loop-again : tie.Need-loop-again Inv-loop μ-loop
 loop-again c = (omega arith, omega arith, one-more (c .before))
@@ -68,15 +53,5 @@ returns-3 c = ended (c .before .before)
 pub take-numbers-spec : {M : Type 1} → statement M
 take-numbers-spec =
     tie.close
-    (tie.spec
-    Inv-loop
-    μ-loop
-    loop-holds
-    add-take-number
-    take-number-requires
-    returns
-    add-k
-    loop-less
-    loop-again
-    returns-2
-    returns-3)
+    (tie.spec Inv-loop μ-loop (λ c. search needs) (λ c. search needs) (λ c κs. search needs)
+    returns (λ c. search needs) (λ c. search needs) loop-again returns-2 returns-3)
