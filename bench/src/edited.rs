@@ -2,15 +2,15 @@
 
 use crate::blocks::{block, Kind, Random};
 
-/// How many edits one call makes. There are 100 inputs to give up.
+/// How many edits one call makes. There are 100 inputs to remove.
 pub const EDITS: usize = 180;
 
 /// What a call that opens a block then does.
 pub enum Change {
-    /// Takes a record's node at the end of the block as it was opened, or gives up its last node
+    /// Takes a record's node at the end of the block as it was opened, or removes its last node
     /// where there are no bytes of one, each time anew.
     Again(Vec<u8>),
-    /// Gives up node 0 and takes a record's node at the end, by turns.
+    /// Removes node 0 and takes a record's node at the end, by turns.
     Turns(Vec<u8>),
 }
 
@@ -47,16 +47,16 @@ fn addition(kind: Kind) -> Row {
     }
 }
 
-/// The last node of a block is given up.
+/// The last node of a block is removed.
 fn removal(kind: Kind) -> Row {
     Row {
-        name: format!("{kind}, the last node given up"),
+        name: format!("{kind}, the last node removed"),
         bytes: block(kind, 200, 10, &mut Random(200)),
         change: Change::Again(vec![]),
     }
 }
 
-/// Node 0 is given up and an input taken at the end: a block of 100 nodes behind 100 inputs that
+/// Node 0 is removed and an input taken at the end: a block of 100 nodes behind 100 inputs that
 /// none of them names.
 fn first(kind: Kind) -> Row {
     let inner = block(kind, 100, 10, &mut Random(100));
@@ -73,7 +73,7 @@ fn first(kind: Kind) -> Row {
     }
     bytes.push(0);
     Row {
-        name: format!("{kind}, node 0 given up and an input added, each"),
+        name: format!("{kind}, node 0 removed and an input added, each"),
         bytes,
         change: Change::Turns(vec![2, 2, 0]),
     }

@@ -53,7 +53,7 @@ pub fn print() {
     }
     println!("\nAn edit of an open block of 200 nodes, 10 variables, beside a fresh check of it\n");
     println!(
-        "| block, and what is added or given up | fresh check, µs | edit, µs | edit / check |"
+        "| block, and what is added or removed | fresh check, µs | edit, µs | edit / check |"
     );
     println!("|---|---:|---:|---:|");
     for (row, times) in &rows {

@@ -70,7 +70,7 @@ pub fn pairs(bytes: &[u8], limit: usize) -> Search {
     }
 }
 
-/// Opens a block, and so many times gives up a node and takes a record's node at the end: how many
+/// Opens a block, and so many times removes a node and takes a record's node at the end: how many
 /// of these edits are answered. No times: it is a fresh check.
 pub fn edits(bytes: &[u8], added: &[u8], node: usize, times: usize) -> usize {
     // SAFETY: both pointers are valid for their lengths, and the function requires nothing more.
@@ -87,7 +87,7 @@ pub fn edits(bytes: &[u8], added: &[u8], node: usize, times: usize) -> usize {
 }
 
 /// Opens a block, and so many times takes a record's node at the end of it as it was opened or,
-/// where there is no record, gives up its last node: how many of these edits are answered. No times:
+/// where there is no record, removes its last node: how many of these edits are answered. No times:
 /// it is a fresh check.
 pub fn edit_again(bytes: &[u8], added: &[u8], times: usize) -> usize {
     // SAFETY: both pointers are valid for their lengths, and the function requires nothing more.

@@ -32,10 +32,6 @@ pub follows-begins : {n : Netlist} {i : ℕ} {ℓ : Layer} {A : ℕ} {steps : Li
 follows-begins (own is) = (_, _, refl)
 follows-begins (made is c each) = (_, _, refl)
 
--- no list of steps that follows is empty
-pub follows-some : {n : Netlist} {i : ℕ} {ℓ : Layer} {A : ℕ} → Follows n i ℓ A [] → ⊥
-follows-some f = let (rule, below, e) = follows-begins f in omega (arith, ap {B = ℕ} length e)
-
 -- ---- the derivation follows
 
 -- the derivations of a set of the family of each node below a bound follow

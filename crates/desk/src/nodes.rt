@@ -7,7 +7,6 @@ ghost use Rattle.netlists.specs.Netlists.{blank};
 use crate::say::say;
 use crate::say::say_field;
 use netlists::Netlist;
-use records::operand_count;
 use rules::MOST_NODES;
 use rules::Node;
 
@@ -33,10 +32,9 @@ pub fn say_kind(kind: u8) {
 pub fn say_node(node: Node) {
     say_kind(node.kind);
     let operands = netlists::operands_of(node);
-    let count = operand_count(node.kind);
     let mut j = 0;
-    while j < count {
-        say_field(operands[j] as usize);
+    while j < operands.count {
+        say_field(operands.at[j] as usize);
         j += 1;
     }
 }

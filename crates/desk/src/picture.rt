@@ -11,19 +11,17 @@ use derivations::Derived;
 use derivations::MOST_BYTES;
 use marks::Marks;
 use netlists::Netlist;
-use records::operand_count;
 use rules::Answer;
 use rules::Half;
-use rules::MOST_BODY;
 use rules::MOST_NODES;
 use rules::MOST_WORK;
 use rules::Node;
 use std::num::wrapping_add_usize;
 
-// By which operands of each node the derivation goes; of one that is refused the number and the place, or 0.
+// By which operands of each node the derivation goes: a number with a bit for each operand, the lowest for the first.
+// Of a derivation that is refused the number and the place, or 0.
 struct Path {
-    first: [bool; MOST_NODES],
-    second: [bool; MOST_NODES],
+    chosen: [u8; MOST_NODES],
     number: usize,
     place: usize,
 }
@@ -31,8 +29,7 @@ struct Path {
 // No path, since there is no suspect, or since its derivation is refused.
 fn no_path(number: usize, place: usize) -> Path {
     Path {
-        first: [false; MOST_NODES],
-        second: [false; MOST_NODES],
+        chosen: [0u8; MOST_NODES],
         number,
         place,
     }
@@ -40,19 +37,21 @@ fn no_path(number: usize, place: usize) -> Path {
 
 // ---- the path of a derivation
 
+// The operands that a rule goes by.
+fn chosen_by(rule: u8) -> u8 {
+    match rule {
+        2 | 4 => 1,
+        5 => 2,
+        6 => 3,
+        _ => 0,
+    }
+}
+
 // The path with the operands that a rule goes by at a node. A number that is no node's changes nothing.
 fn with_step(path: Path, node: usize, rule: u8) -> Path {
     let mut longer = path;
     if node < MOST_NODES {
-        match rule {
-            2 | 4 => longer.first[node] = true,
-            5 => longer.second[node] = true,
-            6 => {
-                longer.first[node] = true;
-                longer.second[node] = true;
-            }
-            _ => {}
-        }
+        longer.chosen[node] = longer.chosen[node] | chosen_by(rule);
     }
     longer
 }
@@ -160,13 +159,12 @@ fn say_operand(from: u8, i: usize, thick: bool) {
     say(b"\n");
 }
 
-// The lines of a node's operands.
-fn say_operands(i: usize, node: Node, thick: [bool; MOST_BODY]) {
+// The lines of a node's operands, of which the path goes by the chosen ones.
+fn say_operands(i: usize, node: Node, chosen: u8) {
     let operands = netlists::operands_of(node);
-    let count = operand_count(node.kind);
     let mut j = 0;
-    while j < count {
-        say_operand(operands[j], i, thick[j]);
+    while j < operands.count {
+        say_operand(operands.at[j], i, (chosen >> j) % 2 == 1);
         j += 1;
     }
 }
@@ -180,8 +178,7 @@ fn say_nodes(netlist: Netlist, marks: Marks, path: Path) {
         }
         let node = netlist.nodes[i];
         say_node_line(netlist, i, node, marks.settled[i], marks.glitch[i]);
-        let thick = [path.first[i], path.second[i]];
-        say_operands(i, node, thick);
+        say_operands(i, node, path.chosen[i]);
         i += 1;
     }
 }
@@ -191,11 +188,10 @@ fn say_nodes(netlist: Netlist, marks: Marks, path: Path) {
 // The most registers on any path into a node, itself included, where these are the stages of the lower nodes.
 fn stage_of(node: Node, stages: [usize; MOST_NODES]) -> usize {
     let operands = netlists::operands_of(node);
-    let count = operand_count(node.kind);
     let mut stage = 0;
     let mut j = 0;
-    while j < count {
-        let lower = stage_at(stages, operands[j]);
+    while j < operands.count {
+        let lower = stage_at(stages, operands.at[j]);
         if stage < lower {
             stage = lower;
         }

@@ -1,5 +1,5 @@
-// What an edit of a block by value is made of: the node that a record's bytes offer; the lowest node that uses another; a
-// block without one of its nodes, and its families moved down. Of lent slices it touches the work bytes alone, where
+// What an edit of a block by value is made of: the node that a record's bytes offer; the lowest node that uses another;
+// a block without one of its nodes, and its families moved down. Of lent slices it touches the work bytes alone, where
 // families move. `edit_steps` uses it.
 ghost use mathlib.Core.Path.{_≡_};
 ghost use Prim.Native.Nat.{_+_, _*_, _<_, _≤_};
@@ -62,28 +62,32 @@ pub fn offered(bytes: &[u8], variables: usize, nodes: usize) -> Offer
 
 // ---- a node removed
 
-// Whether a node uses node `i`: that is one of its operands.
+// Whether a node uses node `i`: that is one of its operands. The loop goes over all fields, of which there are as many
+// at every node, so that the compiler unrolls it.
 fn uses(node: Node, i: usize) -> bool
     ensures { λ r. ⌜ ((cell : Cell) → node ≡ entry cell → r ≡ Edits.uses i cell) ⌝ }
 {
     let operands = netlists::operands_of(node);
-    let count = records::operand_count(node.kind);
-    let mut used = false;
     let mut j = 0;
     while j < MOST_BODY {
-        used = used | ((j < count) & ((operands[j] as usize) == i));
+        if j < operands.count {
+            if (operands.at[j] as usize) == i {
+                return true;
+            }
+        }
         j += 1;
     }
-    used
+    false
 }
 
-// The lowest node that uses node `i`, or the number of nodes where none does.
+// The lowest node that uses node `i`, or the number of nodes where none does. A node's operands are lower, so that only
+// those behind `i` are looked at.
 pub fn lowest_user(block: Netlist, i: usize) -> usize
-    requires { ⌜ block .count ≤ most-nodes ⌝ }
-    ensures { λ r. ⌜ ((n : Records.Netlist) → block ≡ flatOf n → r ≡ Edits.lowestUser i (n .nodes)) ⌝ }
+    requires { ⌜ (i < block .count) × (block .count ≤ most-nodes) ⌝ }
+    ensures { λ r. ⌜ ((n : Records.Netlist) → WellFormed n → block ≡ flatOf n → r ≡ Edits.lowestUser i (n .nodes)) ⌝ }
 {
     let count = block.count;
-    let mut j = 0;
+    let mut j = i + 1;
     while j < count {
         if uses(block.nodes[j], i) {
             return j;
@@ -110,7 +114,7 @@ fn renumbered(node: Node, removed: usize) -> Node
     let mut operands = netlists::operands_of(node);
     let mut j = 0;
     while j < MOST_BODY {
-        operands[j] = lowered(operands[j], removed);
+        operands.at[j] = lowered(operands.at[j], removed);
         j += 1;
     }
     netlists::node_of(node.kind, operands, node.set)

@@ -32,14 +32,14 @@ use Rattle.edit_steps.proofs.Changing.{state-count, contained-refused, 
 use Rattle.edit_rules.proofs.Removal.{Unused, marks-removed}
 
 -- a node is removed, where `by` is the lowest node that uses it
-module _ (block : Value.Netlist) (marks : Marks) (removed by : ℕ) (lowest : (n : Netlist) → block ≡ flatOf n → by ≡ lowestUser removed (n .nodes)) where
+module _ (block : Value.Netlist) (marks : Marks) (removed by : ℕ) (lowest : (n : Netlist) → WellFormed n → block ≡ flatOf n → by ≡ lowestUser removed (n .nodes)) where
   pub still-used : (examined : Examined) (before : List ℕ) → by < block .count → examined .reply ≡ Refused (record { reason = StillNamed; place = by })
       → NothingKept examined → RemovesUnused block marks removed examined before before
   unfolding removedIfUnused judged
   still-used examined before named r none = record {
     contained = contained-refused (block .count) examined before none;
     made = λ n formed is known holds.
-        rw (← (lowest n is), ← (value-count n is), lt-ltb by (block .count) named) (refusal (record { reason = StillNamed; place = by }) 14 by examined before refl refl r none);
+        rw (← (lowest n formed is), ← (value-count n is), lt-ltb by (block .count) named) (refusal (record { reason = StillNamed; place = by }) 14 by examined before refl refl r none);
   }
 
   pub removed-unused : (value : Value.Netlist) (fewer : Marks) (examined : Examined) (before after : List ℕ) → block .count ≤ by → removed < block .count
@@ -51,7 +51,7 @@ module _ (block : Value.Netlist) (marks : Marks) (removed by : ℕ) (lowest : (n
   unfolding removedIfUnused judged
   removed-unused value fewer examined before after unused there small room one-less is-without are-without moved l = record {
     contained = contained-looks (block .count) value fewer examined before after (omega arith) (omega arith) l;
-    made = λ n formed is known holds. rw (← (lowest n is), ← (value-count n is), le-ltb by (block .count) unused) (made n formed is known holds);
+    made = λ n formed is known holds. rw (← (lowest n formed is), ← (value-count n is), le-ltb by (block .count) unused) (made n formed is known holds);
   }
     where
       -- so are the marks, where no node uses it
@@ -63,7 +63,7 @@ module _ (block : Value.Netlist) (marks : Marks) (removed by : ℕ) (lowest : (n
       made : (n : Netlist) → WellFormed n → block ≡ flatOf n → marks ≡ marksOf n → HoldsFamilies n before
           → Examines (answered (withoutNode n removed)) examined before after
       made n formed is known holds =
-          let none : Unused removed (n .nodes) = omega (arith, lowest n is, value-count n is) in
+          let none : Unused removed (n .nodes) = omega (arith, lowest n formed is, value-count n is) in
           let same = value-count n is in
           let work = moved ∙ ap (λ (k : ℕ). movedDown removed k before) same ∙ moved-families n removed none (omega arith) before (omega arith) holds in
           answers value (withoutNode n removed) (is-without n formed is) fewer (own n is known none) examined before work l

@@ -7,7 +7,7 @@ ghost use mathlib.Core.Path.{_≡_};
 ghost use Prim.Native.Nat.{_*_, _<_, _≤_};
 ghost use lib.ListN.{length};
 ghost use Rattle.rules.specs.Records as Records;
-ghost use Rattle.rules.specs.Records.{most-nodes};
+ghost use Rattle.rules.specs.Records.{WellFormed, most-nodes};
 ghost use Rattle.netlists.specs.Netlists.{flatOf, Placed};
 ghost use Rattle.edit_rules.specs.Edits as Edits;
 ghost use Rattle.edit_rules.specs.Meaning.{editOf};
@@ -91,7 +91,8 @@ fn remove_if_unused(
     work: &mut [u8],
 ) -> Examined
     requires { ⌜ Limited block × (removed < block .count) × (256 * block .count ≤ length (now work)) ⌝ }
-    requires { ⌜ ((n : Records.Netlist) → block ≡ flatOf n → by ≡ Edits.lowestUser removed (n .nodes)) ⌝ }
+    requires { ⌜ ((n : Records.Netlist) → WellFormed n → block ≡ flatOf n →
+        by ≡ Edits.lowestUser removed (n .nodes)) ⌝ }
     ensures { λ r. ⌜ RemovesUnused block marks removed r (now (work .entry)) (now (work .exit)) ⌝ }
 {
     let count = block.count;
@@ -118,13 +119,13 @@ fn remove_node(
     ensures { λ r. ⌜ Changes block marks (Edits.remove removed) entries r (now (work .entry)) (now (work .exit)) ⌝ }
 {
     let count = block.count;
-    let by = edit_parts::lowest_user(block, removed);
     if count <= removed {
         return checker::refused(Refusal {
             reason: Reason::NoSuchNode,
             place: removed,
         });
     }
+    let by = edit_parts::lowest_user(block, removed);
     match checker::slices_fit(count, entries, work.len()) {
         QueryOutcome::Refused(refusal) => checker::refused(refusal),
         QueryOutcome::Answered => remove_if_unused(block, marks, removed, by, work),

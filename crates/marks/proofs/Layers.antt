@@ -1,18 +1,20 @@
--- Marks by value: what stands at a node's number, one mark more, what a scan that goes on has marked so far, and those
--- behind a node that is removed; over work bytes that hold the families of a netlist, they are the netlist's marks,
--- from which both halves of its answer are read. Assumes nothing.
-use Prim.Native.Nat.{ℕ, zero, suc, _+_, _-_, _≤_, _<_}
+-- Marks by value: what stands at a node's number, one mark more, what a scan that goes on has marked so far, the mark
+-- of one node, and those behind a node that is removed; over work bytes that hold the families of a netlist, they are the
+-- netlist's marks, from which both halves of its answer are read. Assumes nothing.
+use Prim.Native.Nat.{ℕ, zero, suc, _+_, _*_, _-_, _≤_, _<_}
 use mathlib.Core.Path.{_≡_, refl, sym, ap, ap₂, subst, _∙_}
 use mathlib.Core.Logic.{_≢_, ⊎-elim}
+use mathlib.Core.Bool.{true, false}
 use mathlib.Core.List.{List, [], _∷_, _++_, map}
 use mathlib.Core.Option.{Option, none, some}
 use native.Mathlib.Numerals.{add-one}
 use native.Mathlib.Omega.{arith}
+use borrow.Author.Tests.{lt-ltb, le-ltb}
 use lib.ListN.{length, getD, take, drop, set, replicate, length-append, length-map, length-take, length-replicate, List·getD-eq-default}
 use lib.Seq.{length-take-le, take-at, take-suc, getD-take, getD-drop, ext-getD}
 use Rattle.rules.specs.Lists.{without}
-use Rattle.rules.specs.Records.{Netlist, WellFormed, most-nodes}
-use Rattle.rules.specs.Families.{Family, Families, families, Finding, clear, suspectAt, layerMarks, lowest, half}
+use Rattle.rules.specs.Records.{input, Netlist, WellFormed, most-nodes, most-sets}
+use Rattle.rules.specs.Families.{Family, Families, families, Finding, clear, suspectAt, tested, reported, mark, layerMarks, lowest, half}
 use Rattle.rules.specs.Slices.{markNumber, markOf, workBytes}
 use Rattle.rules.proofs.Tests.{lt-or-le}
 use Rattle.rules.proofs.Halves.{NoneBefore, Lowest, lowest-says}
@@ -20,8 +22,9 @@ use Rattle.rules.proofs.Marks.{mark-written, layer-marks-length, marks-told}
 use Rattle.netlists.specs.Netlists.{padded}
 use Rattle.netlists.proofs.Netlists.{padded-same, made-set}
 use Rattle.netlists.proofs.Without.{without-before, without-behind, without-count, Becoming, none-done, next-done, all-done}
-use Rattle.suspects.specs.Suspects.{reportsIn, foundFrom}
-use Rattle.suspects.proofs.Search.{reports-are}
+use Rattle.families.specs.Parts.{familyAt}
+use Rattle.suspects.specs.Suspects.{reportOf, reportsIn, foundFrom}
+use Rattle.suspects.proofs.Search.{reports, report-there, reports-are}
 use Rattle.marks.specs.Marks.{flatMarks, marksIn, marksOf}
 
 -- ---- one layer
@@ -117,19 +120,26 @@ next-found reports from i A few h e =
     let nothing : NoneFrom reports from i = rw (← at) at (none-before reports from k before) in
     ap (λ (ms : List ℕ). set ms i A) (none-more reports from i few (omega arith) nothing) ∙ one-more reports i A few h here
 
--- a scan from a node on that finds no node leaves that one without a mark, and where it finds
--- that one it tells its mark
-pub last-none : (reports : List (Option ℕ)) (from : ℕ) → foundFrom from reports ≡ clear → 0 ≡ markNumber (getD reports from none)
-unfolding markNumber
-last-none reports from e =
-    ap markNumber (sym (none-before reports from 1 (scan-says reports from clear e 1) from (omega arith) (omega arith)))
+-- ---- one node
 
-pub last-found : (reports : List (Option ℕ)) (from A : ℕ) → foundFrom from reports ≡ suspectAt from A → A ≡ markNumber (getD reports from none)
-unfolding markNumber
-last-found reports from A e =
-    let (k, at, is, before) = scan-says reports from (suspectAt from A) e in
-    let here : from + k ≡ from = sym at in
-    ap markNumber (sym (rw here at (sym (getD-drop from reports k none) ∙ is)))
+-- what is looked at in the family of a node tells its mark: the set that it reports, or 0 for none
+module _ (n : Netlist) (layer : ℕ) (bytes : List ℕ) (i : ℕ) (h : i < length (n .nodes)) where
+  pub untested-mark : tested (getD (n .nodes) i (input 0)) ≡ false → 0 ≡ markNumber (getD (reportsIn n layer bytes) i none)
+  unfolding markNumber reports mark
+  untested-mark e = rw (report-there n layer bytes i h, e)
+
+  module _ (A : ℕ) (is : tested (getD (n .nodes) i (input 0)) ≡ true) (told : reportOf A ≡ reported (n .variables) (familyAt bytes (2 * i + layer))) where
+    report : reportOf A ≡ getD (reportsIn n layer bytes) i none
+    unfolding reports mark
+    report = rw (report-there n layer bytes i h, is) told
+
+    pub reported-mark : A < most-sets → A ≡ markNumber (getD (reportsIn n layer bytes) i none)
+    unfolding markNumber reportOf
+    reported-mark l = rw (← report, lt-ltb A most-sets l)
+
+    pub no-mark : most-sets ≤ A → 0 ≡ markNumber (getD (reportsIn n layer bytes) i none)
+    unfolding markNumber reportOf
+    no-mark l = rw (← report, le-ltb A most-sets l)
 
 -- ---- marks that move down
 

@@ -15,6 +15,7 @@ ghost use Rattle.rules.specs.Paper.{findingOf};
 ghost use Rattle.netlists.specs.Netlists.{flatOf, Sized};
 ghost use Rattle.suspects.specs.Suspects.{reportsIn};
 ghost use Rattle.marks.specs.Marks.{flatMarks, marksIn, withMarks};
+use families::SETS;
 use netlists::Netlist;
 use rules::Half;
 use rules::MOST_NODES;
@@ -79,10 +80,18 @@ fn last_mark(netlist: Netlist, layer: usize, work: &[u8]) -> u16
     ensures { λ r. ⌜ ((n : Records.Netlist) → netlist ≡ flatOf n →
         r ≡ markNumber (getD (reportsIn n layer (now (work .entry))) (netlist .count - 1) none)) ⌝ }
 {
-    match suspects::scan(netlist, layer, netlist.count - 1, work) {
-        Half::Clear => 0,
-        Half::Suspect(_, set) => set as u16,
+    let last = netlist.count - 1;
+    let node = netlist.nodes[last];
+    if !suspects::is_tested(node.kind) {
+        return 0;
     }
+    let secrets = suspects::variables_of(netlist, 0);
+    let masks = suspects::variables_of(netlist, 1);
+    let set = suspects::first_suspect(work, 2 * last + layer, secrets, masks);
+    if set < SETS {
+        return set as u16;
+    }
+    0
 }
 
 // The marks with those of the last node of a netlist, whose other nodes have the given ones.

@@ -5,7 +5,7 @@ ghost use mathlib.Core.Path.{_≡_};
 ghost use mathlib.Core.Bool.{cond};
 ghost use mathlib.Core.List.{List};
 ghost use Prim.Native.Nat.{ℕ, _+_, _*_, _<_, _≤_};
-ghost use lib.ListN.{getD};
+ghost use lib.ListN.{length, getD, replicate};
 ghost use Rattle.rules.specs.Records.{Cell, said, size, node, operands, listed, firstOf, empty, withNode};
 ghost use Rattle.rules.specs.Records.{most-nodes, last-kind, most-body, most-record};
 ghost use Rattle.rules.specs.Records as Records;
@@ -39,22 +39,43 @@ pub struct ReadFile {
     pub netlist: Netlist,
 }
 
-// The operands of a node, in their order; 0 where its kind has none.
-pub fn operands_of(node: Node) -> [u8; MOST_BODY]
-    ensures { λ r. ⌜ ((cell : Cell) → node ≡ entry cell → r ≡ padded most-body 0 (operands cell)) ⌝ }
+// The operands of a node, in their order: how many, and each at its place. Behind them is 0.
+pub struct Operands {
+    pub count: usize,
+    pub at: [u8; MOST_BODY],
+}
+
+// The operands of a node, which are as many as its kind has.
+pub fn operands_of(node: Node) -> Operands
+    ensures { λ r. ⌜ ((cell : Cell) → node ≡ entry cell →
+        (r .count ≡ length (operands cell)) × (r .at ≡ padded most-body 0 (operands cell))) ⌝ }
+    ensures few { λ r. ⌜ (r .count ≤ most-body) × (length (r .at) ≡ most-body) ⌝ }
 {
-    [node.first, node.second]
+    Operands {
+        count: records::operand_count(node.kind),
+        at: [node.first, node.second],
+    }
 }
 
 // The node of a kind with these operands and this set.
-pub fn node_of(kind: u8, operands: [u8; MOST_BODY], set: u16) -> Node
-    ensures { λ r. ⌜ r ≡ nodeOf kind operands set ⌝ }
+pub fn node_of(kind: u8, operands: Operands, set: u16) -> Node
+    ensures { λ r. ⌜ r ≡ nodeOf kind (operands .at) set ⌝ }
 {
     Node {
         kind,
-        first: operands[0],
-        second: operands[1],
+        first: operands.at[0],
+        second: operands.at[1],
         set,
+    }
+}
+
+// No operands.
+fn no_operands() -> Operands
+    ensures { λ r. ⌜ (r .count ≡ 0) × (r .at ≡ replicate most-body 0) ⌝ }
+{
+    Operands {
+        count: 0,
+        at: [0u8; MOST_BODY],
     }
 }
 
@@ -62,7 +83,7 @@ pub fn node_of(kind: u8, operands: [u8; MOST_BODY], set: u16) -> Node
 pub fn blank_node() -> Node
     ensures { λ r. ⌜ r ≡ blank ⌝ }
 {
-    node_of(0, [0u8; MOST_BODY], 0)
+    node_of(0, no_operands(), 0)
 }
 
 // The netlist of no records: no variable, no node, and 0 in every entry.
@@ -129,11 +150,11 @@ pub fn entry_of(own: RecordBytes) -> Node
     let kind = own.kind;
     let body = own.body;
     if kind == 2 {
-        return node_of(2, [0u8; MOST_BODY], set_of(body[0], body[1]));
+        return node_of(2, no_operands(), set_of(body[0], body[1]));
     }
     let count = records::operand_count(kind);
-    let operands = first_of(body, count);
-    node_of(kind, operands, 0)
+    let at = first_of(body, count);
+    node_of(kind, Operands { count, at }, 0)
 }
 
 // How many bytes the record of a variable or node of this kind has: at most as many as the longest, for any kind.

@@ -12,7 +12,7 @@ ghost use Rattle.rules.specs.Slices.{entry};
 ghost use Rattle.netlists.specs.Netlists.{padded, flatOf, Formed, Placed};
 ghost use Rattle.node_values.specs.Marks.{markAll, handedOn};
 use netlists::Netlist;
-use rules::MOST_BODY;
+use netlists::Operands;
 use rules::MOST_NODES;
 use rules::Node;
 
@@ -73,15 +73,15 @@ pub fn settled_values(netlist: Netlist, assignment: usize) -> [bool; MOST_NODES]
 
 // ---- feeding points
 
-// The marks with those of the first `count` of some nodes.
-fn mark_all(marks: [bool; MOST_NODES], nodes: [u8; MOST_BODY], count: usize) -> [bool; MOST_NODES]
-    requires { ⌜ (count ≤ most-body) × ((j : ℕ) → getD nodes j 0 < most-nodes) ⌝ }
-    ensures { λ r. ⌜ r ≡ markAll (listed count (firstOf count nodes)) marks ⌝ }
+// The marks with those of some operands.
+fn mark_all(marks: [bool; MOST_NODES], operands: Operands) -> [bool; MOST_NODES]
+    requires { ⌜ (operands .count ≤ most-body) × ((j : ℕ) → getD (operands .at) j 0 < most-nodes) ⌝ }
+    ensures { λ r. ⌜ r ≡ markAll (listed (operands .count) (firstOf (operands .count) (operands .at))) marks ⌝ }
 {
     let mut marked = marks;
     let mut j = 0;
-    while j < count {
-        marked[nodes[j] as usize] = true;
+    while j < operands.count {
+        marked[operands.at[j] as usize] = true;
         j += 1;
     }
     marked
@@ -102,11 +102,9 @@ fn hand_on(marks: [bool; MOST_NODES], i: usize, node: Node) -> [bool; MOST_NODES
     if kind == 7 {
         return marks;
     }
-    let operands = netlists::operands_of(node);
-    let count = records::operand_count(kind);
     let mut handed = marks;
     handed[i] = false;
-    mark_all(handed, operands, count)
+    mark_all(handed, netlists::operands_of(node))
 }
 
 // Marks the feeding points of a node. The node is marked; from it down, each marked gate hands its mark on to its

@@ -1,5 +1,5 @@
--- Over the bytes of a netlist's families what a pair reports is the rules': products and reports see only which sets are
--- in the families. Assumes nothing.
+-- Over the bytes of a netlist's families what a pair reports is the rules': products and reports see only which sets
+-- are in the families. Assumes nothing.
 use Prim.Native.Nat.{ℕ, _<_}
 use mathlib.Core.Path.{_≡_}
 use mathlib.Core.List.{List, _++_}

@@ -1,5 +1,5 @@
--- One turn more of a loop over entries: what holds of each entry before the next, and of the next, holds of each so far.
--- Assumes nothing.
+-- One turn more of a loop over entries: what holds of each entry before the next, and of the next, holds of each so
+-- far. Assumes nothing.
 use Prim.Native.Nat.{ℕ, _+_, _<_}
 use mathlib.Core.Path.{_≡_, sym, subst}
 use native.Mathlib.Decide.{ℕ-discrete}

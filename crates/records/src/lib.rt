@@ -1,6 +1,6 @@
 // One record of a netlist: what the bytes at an offset say by the rules, or the refusal; and the reader,
 // which takes the next record. Reads the netlist bytes and writes to no lent slice. Used by `netlists`,
-// `edit_parts` and `query_netlists`.
+// `edit_parts`, `read_words` and `query_netlists`.
 ghost use mathlib.Core.Path.{_≡_};
 ghost use mathlib.Core.List.{List};
 ghost use Prim.Native.Nat.{ℕ, _+_, _*_, _<_, _≤_};
@@ -17,8 +17,8 @@ use rules::QueryOutcome;
 use rules::Reason;
 use rules::Refusal;
 
-// The bytes of a record: its kind byte and those behind it, as many as the longest body has, of which a shorter one uses
-// fewer; where the file has no more, 0.
+// The bytes of a record: its kind byte and those behind it, as many as the longest body has, of which a shorter one
+// uses fewer; where the file has no more, 0.
 pub struct RecordBytes {
     pub kind: u8,
     pub body: [u8; MOST_BODY],

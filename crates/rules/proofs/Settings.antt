@@ -1,6 +1,5 @@
 -- The settings of k variables are the 2 to the power k lists of k bits, each once; an assignment and its three settings
--- make one another; on no points every mask setting gives the pattern. By induction on the number of variables,
--- or on their list. Assumes nothing.
+-- make one another. By induction on the number of variables, or on their list. Assumes nothing.
 use Prim.Native.Nat.{ℕ, zero, suc, _+_, _^_}
 use mathlib.Core.Path.{_≡_, refl, sym, ap, _∙_}
 use mathlib.Core.Logic.{_≢_}
@@ -11,9 +10,9 @@ use native.Mathlib.Omega.{arith}
 use lib.Dec.{T, eqb, eqb→eq, eqb-refl, eqb·zero-suc, eqb·suc-zero, eqb·suc-suc}
 use lib.ListN.{length, length-append, length-map}
 use Rattle.rules.specs.Lists.{digit, count}
-use Rattle.rules.specs.Records.{Class, secret, mask, public, Netlist}
+use Rattle.rules.specs.Records.{Class, secret, mask, public}
 use Rattle.rules.proofs.Lists.{count-append, count-map, count-constant}
-use Rattle.rules.specs.Values.{Assignment, same, howMany, settings, next, others, make, Pattern, matches, giving}
+use Rattle.rules.specs.Values.{Assignment, same, howMany, settings, next, others, make}
 
 -- ---- the settings of k variables
 
@@ -143,10 +142,3 @@ part-make mask (public ∷ v) s m p h = part-make mask v s m (others p) (omega a
 part-make public (secret ∷ v) s m p h = part-make public v (others s) m p (omega arith)
 part-make public (mask ∷ v) s m p h = part-make public v s (others m) p (omega arith)
 part-make public (public ∷ v) s m p h = one-taken p _ (howMany public v) h (part-make public v s m (others p))
-
--- ---- patterns
-
--- on no points every mask setting gives the pattern
-pub no-points : (n : Netlist) (pattern : Pattern) (p s : List Bool) → giving n [] pattern p s ≡ 2 ^ howMany mask (n .variables)
-unfolding giving matches
-no-points n pattern p s = omega (arith, count-constant true (settings (howMany mask (n .variables))), settings-length (howMany mask (n .variables)))

@@ -128,7 +128,7 @@ module _ (n : Netlist) (layer : ℕ) (bytes : List ℕ) where
   report-at j =
       marks-at (n .variables) (n .nodes) layerFamilies [] j (sym (tabulate-length (λ i. familyAt bytes (2 * i + layer)) (length (n .nodes))))
 
-  report-there : (j : ℕ) → j < length (n .nodes) → getD (reportsIn n layer bytes) j none ≡ reports n layer bytes j
+  pub report-there : (j : ℕ) → j < length (n .nodes) → getD (reportsIn n layer bytes) j none ≡ reports n layer bytes j
   unfolding reports layerFamilies
   report-there j h = report-at j ∙ rw (tabulate-at (λ i. familyAt bytes (2 * i + layer)) (length (n .nodes)) j [] h)
 

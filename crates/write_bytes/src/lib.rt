@@ -46,14 +46,13 @@ fn put_node(out: &mut [u8], at: usize, node: Node) -> usize
     let kind = node.kind;
     let set = node.set;
     let operands = netlists::operands_of(node);
-    let count = records::operand_count(kind);
     let mut end = put_byte(out, at, kind);
     if kind == 2 {
         return put_two(out, end, (set % 256) as u8, (set / 256) as u8);
     }
     let mut j = 0;
-    while j < count {
-        end = put_byte(out, end, operands[j]);
+    while j < operands.count {
+        end = put_byte(out, end, operands.at[j]);
         j += 1;
     }
     end

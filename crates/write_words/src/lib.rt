@@ -76,11 +76,10 @@ fn put_numbers(text: &mut [u8], at: usize, node: Node) -> usize
         return put_set(text, at, node.set);
     }
     let operands = netlists::operands_of(node);
-    let count = records::operand_count(node.kind);
     let mut end = at;
     let mut j = 0;
-    while j < count {
-        end = put_field(text, end, operands[j] as usize);
+    while j < operands.count {
+        end = put_field(text, end, operands.at[j] as usize);
         j += 1;
     }
     end

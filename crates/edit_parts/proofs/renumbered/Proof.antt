@@ -32,7 +32,7 @@ followed removed cell =
     rw (kind-renamed f cell, operands-renamed f cell, set-renamed f cell) (simp same)
 
 abbrev Inv-loop : tie.InvT-loop
-Inv-loop node removed operands₀ j₀ operands j = (j ≤ most-body) × Becoming 0 operands₀ (map (lowered removed) operands₀) operands j
+Inv-loop node removed operands₀ j₀ operands j = (j ≤ most-body) × Becoming 0 (operands₀ .at) (map (lowered removed) (operands₀ .at)) (operands .at) j
 
 abbrev μ-loop : tie.MeasureT-loop
 μ-loop node removed operands₀ j₀ operands j = most-body - j
@@ -42,10 +42,11 @@ loop-holds c = (omega arith, none-done 0 _ _ 0 (λ k h. absurd (omega arith)))
 
 loop-again : tie.Need-loop-again Inv-loop μ-loop
 loop-again c =
-    let loop = c .before .before .loop in
-    let own = c .before .before .before .operands-of .result in (
+    let loop = c .before .before .before .loop in
+    let got = c .before .before .before .before .operands-of in
+    let own = got .result .at in (
       omega arith,
-      next-done 0 own _ _ (loop .j) _ (omega arith)
+      next-done 0 own _ _ (loop .j) _ (omega (arith, got .ensures .1 .1))
           (c .lowered .ensures ∙ ap (lowered _) (loop .inv .1 .left (loop .j) (omega arith)) ∙ sym (follow-at _ own (loop .j))) (loop .inv .1),
     )
 
@@ -54,12 +55,12 @@ unfolding entry
 returns c cell e =
     let loop = c .before .before .loop in
     let start = c .before .before .before in
-    let own = start .operands-of .result in
+    let own = start .operands-of .result .at in
     let f = lowered (start .before .args .removed) in
-    let all = all-done 0 own (map f own) (loop .operands) (loop .j) (sym (length-map own f)) (λ k h.
-    let none : getD own k 0 ≡ 0 = List·getD-eq-default own 0 {n = k} (omega arith) in
+    let all = all-done 0 own (map f own) (loop .operands .at) (loop .j) (sym (length-map own f)) (λ k h.
+    let none : getD own k 0 ≡ 0 = List·getD-eq-default own 0 {n = k} (omega (arith, start .operands-of .ensures .1 .1)) in
     none ∙ sym (follow-at _ own k ∙ ap f none ∙ lowered-low _ 0 (omega arith))) (loop .inv .1) in
-    c .node-of .ensures ∙ rw (all, start .operands-of .ensures cell e, e) (followed _ cell)
+    c .node-of .ensures ∙ rw (all, start .operands-of .ensures .0 cell e .1, e) (followed _ cell)
 
 pub renumbered-spec : {M : Type 1} → statement M
 renumbered-spec =

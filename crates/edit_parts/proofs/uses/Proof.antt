@@ -1,20 +1,17 @@
--- `edit_parts::uses` meets its contract. The loop's invariant: of the first j operands one is node i exactly if it was
--- met. The measure is the number of fields left. Assumes nothing.
-use Prim.Native.Nat.{ℕ, _+_, _-_, _≤_, _<_}
-use mathlib.Core.Path.{_≡_, refl, sym, ap, _∙_, subst}
+-- `edit_parts::uses` meets its contract. The loop's invariant: none of the first j operands is node i. The measure is
+-- the number of fields left. Assumes nothing.
+use Prim.Native.Nat.{ℕ, _-_, _≤_, _<_}
+use mathlib.Core.Path.{_≡_, sym, ap, _∙_, subst}
 use mathlib.Core.Logic.{⊎-elim}
-use mathlib.Core.Bool.{Bool, true, false, _&&_, _||_}
+use mathlib.Core.Bool.{true, false}
 use mathlib.Core.List.{List}
 use native.Mathlib.Omega.{arith}
 use borrow.Author.Needs.{needs}
-use borrow.Author.Tests.{ltb-true, lt-ltb, eqb-true, eq-eqb}
-use lib.Dec.{T, eqb, ltb}
+use lib.Dec.{T}
 use lib.ListN.{length, getD}
-use Rattle.rules.specs.declared.Node.{Node}
 use Rattle.rules.specs.Lists.{member}
 use Rattle.rules.specs.Records.{Cell, operands, most-body}
-use Rattle.rules.specs.Slices.{entry}
-use Rattle.rules.proofs.Tests.{pass, or-left, or-right, or-cases, and-left, and-right, and-both, same-test}
+use Rattle.rules.proofs.Tests.{same-test}
 use Rattle.rules.proofs.Members.{entry-member, member-entry}
 use Rattle.rules.proofs.Operands.{few-operands}
 use Rattle.records.proofs.Turns.{one-more}
@@ -24,67 +21,51 @@ use Rattle.edit_rules.specs.Edits.{uses}
 use Rattle.edit_parts.proofs.uses.Statement.{statement}
 use Rattle.edit_parts.proofs.uses.Tie as tie
 
-is-true : (b : Bool) → T b → b ≡ true
-is-true true t = refl
-is-true false t = absurd t
+-- none of the first j operands, of which there are so many, is node i
+abbrev NoneYet : (i count : ℕ) (own : List ℕ) (j : ℕ) → Type 0
+NoneYet i count own j = (k : ℕ) → k < j → k < count → getD own k 0 ≡ i → ⊥
 
--- whether one of the first operands, of which there are so many, is node i
-record Met (i : ℕ) (own : List ℕ) (count j : ℕ) (used : Bool) : Type 0 where
-  each : (k : ℕ) → k < j → k < count → getD own k 0 ≡ i → T used
-  one : T used → (k : ℕ) × (k < count) × (getD own k 0 ≡ i)
+-- what the operands of a node, by value, tell of the nodes that it uses
+module _ (i : ℕ) (cell : Cell) {count : ℕ} {own : List ℕ} (is : (count ≡ length (operands cell)) × (own ≡ padded most-body 0 (operands cell))) where
+  operand : (j : ℕ) → getD own j 0 ≡ getD (operands cell) j 0
+  operand j = ap (λ (l : List ℕ). getD l j 0) (is .1) ∙ padded-same most-body 0 (operands cell) j
 
-met-more : (i : ℕ) (own : List ℕ) (count j : ℕ) (used : Bool) → Met i own count j used
-    → Met i own count (j + 1) (used || (ltb j count && eqb (getD own j 0) i))
-met-more i own count j used met = record {
-  each =
-      one-more (λ k. k < count → getD own k 0 ≡ i → T (used || here)) j (λ k h n e. or-left used here (met .each k h n e))
-      (λ n e. or-right used here (and-both (ltb j count) (eqb (getD own j 0) i) (pass (lt-ltb j count n)) (pass (eq-eqb (getD own j 0) i e))));
-  one = λ t.
-      ⊎-elim (met .one)
-      (λ u. (
-        j,
-        ltb-true j count (is-true _ (and-left (ltb j count) (eqb (getD own j 0) i) u)),
-        eqb-true (getD own j 0) i (is-true _ (and-right (ltb j count) (eqb (getD own j 0) i) u)),
-      ))
-      (or-cases used here t);
-}
-  where
-    here : Bool
-    here = ltb j count && eqb (getD own j 0) i
+  found : (j : ℕ) → j < count → getD own j 0 ≡ i → true ≡ uses i cell
+  unfolding uses
+  found j h e =
+      same-test true (member i (operands cell))
+      (λ t. subst (λ a. T (member a (operands cell))) (sym (operand j) ∙ e) (entry-member (operands cell) 0 j (omega (arith, is .0))))
+      (λ t. tt)
 
--- of all of them it tells whether the node uses node i
-met-all : (i : ℕ) (cell : Cell) {own : List ℕ} {count : ℕ} {used : Bool} {j : ℕ} → own ≡ padded most-body 0 (operands cell) → count ≡ length (operands cell)
-    → most-body ≤ j → Met i own count j used → used ≡ uses i cell
-unfolding uses
-met-all i cell {own} are many all met =
-    same-test _ (member i (operands cell))
-    (λ t. let (k, h, e) = met .one t in subst (λ a. T (member a (operands cell))) (sym (operand k) ∙ e) (entry-member (operands cell) 0 k (omega arith)))
-    (λ t. let (k, h, e) = member-entry (operands cell) 0 i t in met .each k (omega (arith, few-operands cell)) (omega arith) (operand k ∙ e))
-  where
-    operand : (j : ℕ) → getD own j 0 ≡ getD (operands cell) j 0
-    operand j = ap (λ (l : List ℕ). getD l j 0) are ∙ padded-same most-body 0 (operands cell) j
+  none-found : (j : ℕ) → most-body ≤ j → NoneYet i count own j → false ≡ uses i cell
+  unfolding uses
+  none-found j all none =
+      same-test false (member i (operands cell)) (λ t. absurd t)
+      (λ t. let (k, h, e) = member-entry (operands cell) 0 i t in none k (omega (arith, few-operands cell)) (omega (arith, is .0)) (operand k ∙ e))
 
 abbrev Inv-loop : tie.InvT-loop
-Inv-loop i operands count used₀ j₀ used j = (j ≤ most-body) × Met i operands count j used
+Inv-loop i operands j₀ j = (j ≤ most-body) × NoneYet i (operands .count) (operands .at) j
 
 abbrev μ-loop : tie.MeasureT-loop
-μ-loop i operands count used₀ j₀ used j = most-body - j
+μ-loop i operands j₀ j = most-body - j
 
 loop-holds : tie.Need-loop-holds Inv-loop μ-loop
-loop-holds c = (omega arith, record { each = λ k h. absurd (omega arith); one = λ t. absurd t })
-
-loop-again : tie.Need-loop-again Inv-loop μ-loop
-loop-again c = (omega arith, met-more _ _ _ (c .before .loop .j) (c .before .loop .used) (c .before .loop .inv .1))
+loop-holds c = (omega arith, λ k h. absurd (omega arith))
 
 returns : tie.Need-returns Inv-loop μ-loop
-unfolding entry
-returns c cell e =
-    let count = c .before .before in
-    met-all _ cell (count .before .operands-of .ensures cell e) (count .operand-count .ensures .0 cell (ap (λ (n : Node). n .kind) e))
-    (c .loop-test .left) (c .before .loop .inv .1)
+returns c cell e = found _ cell (c .before .before .before .before .before .operands-of .ensures .0 cell e) _ (c .before .before .if1 .taken) (c .if2 .taken)
+
+loop-again : tie.Need-loop-again Inv-loop μ-loop
+loop-again c = (
+  omega arith,
+  one-more _ (c .before .before .loop .j) (c .before .before .loop .inv .1) (⊎-elim (λ w n e. w .2 .left e) (λ w n. absurd (omega (arith, w .left))) (c .if1 .came)),
+)
+
+returns-2 : tie.Need-returns-2 Inv-loop μ-loop
+returns-2 c cell e = none-found _ cell (c .before .before .operands-of .ensures .0 cell e) _ (c .loop-test .left) (c .before .loop .inv .1)
 
 pub uses-spec : {M : Type 1} → statement M
 uses-spec =
     tie.close
-    (tie.spec Inv-loop μ-loop (λ c κs. search needs) (λ c κs. search needs) loop-holds
-    (λ c. search needs) (λ c. search needs) (λ c. search needs) (λ c. search needs) loop-again returns)
+    (tie.spec Inv-loop μ-loop (λ c κs. search needs) loop-holds
+    (λ c. search needs) (λ c. search needs) returns (λ c. search needs) (λ c. search needs) loop-again returns-2)

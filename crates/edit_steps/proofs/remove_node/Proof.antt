@@ -22,7 +22,7 @@ returns-2 c =
     let taken = c .before .before in
     let told = taken .before .before in
     refused-early _ _ _ _ _ _ _
-    (λ n formed s. by-slices _ _ _ _ n (state-count n s) (told .before .if1 .left) ∙ too-short (told .slices-fit .ensures) n (state-count n s) (taken .refusal .given .1))
+    (λ n formed s. by-slices _ _ _ _ n (state-count n s) (told .before .before .if1 .left) ∙ too-short (told .slices-fit .ensures) n (state-count n s) (taken .refusal .given .1))
     (c .refused2 .ensures .0) (c .refused2 .ensures .1)
 
 returns-3 : tie.Need-returns-3
@@ -30,11 +30,11 @@ returns-3 c =
     let removed = c .before .before in
     let taken = removed .before .before in
     let told = taken .before .before in
-    removes _ _ _ _ _ _ _ (told .before .if1 .left) (told .slices-fit .ensures) (taken .enum-told .given .1) (removed .remove-if-unused .ensures)
+    removes _ _ _ _ _ _ _ (told .before .before .if1 .left) (told .slices-fit .ensures) (taken .enum-told .given .1) (removed .remove-if-unused .ensures)
 
 pub remove-node-spec : {M : Type 1} → statement M
 remove-node-spec =
     tie.close
-    (tie.spec (λ c κs. search needs) (λ c κs. search needs) returns (λ c κs. search needs)
+    (tie.spec (λ c κs. search needs) returns (λ c κs. search needs) (λ c κs. search needs)
     (λ c. search needs) (λ c κs. search needs) (λ c. search needs) remove-if-unused-requires
     returns-2 (λ c. search needs) returns-3)

@@ -37,7 +37,7 @@ gate-entry k body count first cell other e counts same =
 
 returns : tie.Need-returns
 unfolding entry kindOf operands setOf
-returns c cell e = rw (c .node-of .ensures, c .before .set-of .ensures) (input-entry _ _ cell (c .before .before .if1 .taken) e)
+returns c cell e = rw (c .node-of .ensures, c .before .set-of .ensures, c .before .before .no-operands .ensures .1) (input-entry _ _ cell (c .before .before .before .if1 .taken) e)
 
 first-of-requires : tie.Need-first-of-requires
 first-of-requires c κs = c .operand-count .ensures .1 .1
@@ -51,5 +51,5 @@ returns-2 c cell e =
 pub entry-of-spec : {M : Type 1} → statement M
 entry-of-spec =
     tie.close
-    (tie.spec (λ c. search needs) (λ c. search needs) (λ c κs. search needs) (λ c κs. search needs)
+    (tie.spec (λ c κs. search needs) (λ c. search needs) (λ c. search needs) (λ c κs. search needs) (λ c κs. search needs)
     returns (λ c κs. search needs) first-of-requires (λ c κs. search needs) returns-2)

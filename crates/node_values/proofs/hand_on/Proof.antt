@@ -63,29 +63,28 @@ returns-3 : tie.Need-returns-3
 returns-3 c cell e = of-point _ _ cell (register-point cell e (c .if3 .taken))
 
 -- the operands of a node, taken from its fields by their count
-taken : (nodes : List ℕ) (count : ℕ) (cell : Cell) → nodes ≡ padded most-body 0 (operands cell) → count ≡ length (operands cell)
+taken : (nodes : List ℕ) (count : ℕ) (cell : Cell) → (count ≡ length (operands cell)) × (nodes ≡ padded most-body 0 (operands cell))
     → listed count (firstOf count nodes) ≡ operands cell
-taken nodes count cell e many =
+taken nodes count cell (many, e) =
     rw (e, many)
     (listed-first (length (operands cell)) (padded most-body 0 (operands cell)) (omega (arith, few-operands cell, padded-length most-body 0 (operands cell) (few-operands cell)))
     ∙ padded-first most-body 0 (operands cell))
 
 mark-all-requires : tie.Need-mark-all-requires
 mark-all-requires c κs =
-    let p = c .before .before .before .before .before .pre .1 in (
-      c .operand-count .ensures .1 .1,
-      λ j. rw (c .before .operands-of .ensures (p .cell) (p .is), padded-same most-body 0 (operands (p .cell)) j) (placed-operand p (omega arith) j),
+    let p = c .before .before .before .before .pre .1 in (
+      c .operands-of .ensures .1 .0,
+      λ j. rw (c .operands-of .ensures .0 (p .cell) (p .is) .1, padded-same most-body 0 (operands (p .cell)) j) (placed-operand p (omega arith) j),
     )
 
 returns-4 : tie.Need-returns-4
 returns-4 c cell e =
-    let gate = c .before .before .before in
-    let own = taken _ _ cell (c .before .before .operands-of .ensures cell e) (c .before .operand-count .ensures .0 cell (own-kind cell e)) in
-    rw (c .mark-all .ensures, own)
+    let gate = c .before .before in
+    rw (c .mark-all .ensures, taken _ _ cell (c .before .operands-of .ensures .0 cell e))
     (of-gate _ _ cell (not-false _ (gate .before .before .if1 .left)) (no-point cell e (gate .before .if2 .left) (gate .if3 .left)))
 
 pub hand-on-spec : {M : Type 1} → statement M
 hand-on-spec =
     tie.close
-    (tie.spec (λ c. search needs) returns returns-2 returns-3 (λ c κs. search needs)
-    (λ c κs. search needs) (λ c. search needs) mark-all-requires returns-4)
+    (tie.spec (λ c. search needs) returns returns-2 returns-3 (λ c. search needs)
+    (λ c κs. search needs) mark-all-requires returns-4)

@@ -37,28 +37,30 @@ all-marked count nodes j marks before all e =
     rw none at e
 
 abbrev Inv-loop : tie.InvT-loop
-Inv-loop count nodes marked₀ j₀ marked j =
+Inv-loop operands marked₀ j₀ marked j =
+    let count = operands .count in
+    let nodes = operands .at in
     (j ≤ count) × (count ≤ most-body) × ((k : ℕ) → getD nodes k 0 < most-nodes)
     × (markAll (rest count nodes j) marked ≡ markAll (listed count (firstOf count nodes)) marked₀)
 
 abbrev μ-loop : tie.MeasureT-loop
-μ-loop count nodes marked₀ j₀ marked j = count - j
+μ-loop operands marked₀ j₀ marked j = operands .count - j
 
 loop-holds : tie.Need-loop-holds Inv-loop μ-loop
 loop-holds c = (omega arith, c .pre .0, c .pre .1, refl)
 
 array-write-marked : tie.Need-array-write-marked Inv-loop μ-loop
-array-write-marked c = c .before .loop .inv .2 (c .before .loop .j)
+array-write-marked c = c .before .before .loop .inv .2 (c .before .before .loop .j)
 
 loop-again : tie.Need-loop-again Inv-loop μ-loop
 loop-again c =
-    let inv = c .before .loop .inv in
-    (omega arith, inv .1, inv .2, rw add-one (sym (next _ _ _ _ (c .loop-test .taken)) ∙ inv .3))
+    let inv = c .before .before .loop .inv in
+    (omega arith, inv .1, inv .2, rw add-one (sym (next _ _ _ _ (c .before .loop-test .taken)) ∙ inv .3))
 
 returns : tie.Need-returns Inv-loop μ-loop
 returns c =
     let loop = c .before .loop in
-    let all : loop .j ≡ c .before .before .args .count = omega arith in
+    let all : loop .j ≡ c .before .before .args .t2 .count = omega arith in
     all-marked _ _ _ _ _ all (loop .inv .3)
 
 pub mark-all-spec : {M : Type 1} → statement M

@@ -1,5 +1,5 @@
--- `node_values::settled_values` meets its contract. The invariant: the values of the first i nodes stand, of the netlist
--- that is asked, and beyond them all is 0. A value beyond the table is 0 as well, so the rule gives of either list the
+-- `node_values::settled_values` meets its contract. The invariant: the values of the first i nodes stand, of the
+-- netlist that is asked, and beyond them all is 0. A value beyond the table is 0 as well, so the rule gives of either list the
 -- same. The measure is the number of nodes left. Assumes nothing.
 use Prim.Native.Nat.{ℕ, _+_, _-_, _≤_, _<_}
 use mathlib.Core.Path.{_≡_, refl, sym, _∙_}

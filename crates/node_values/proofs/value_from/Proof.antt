@@ -1,5 +1,5 @@
--- `node_values::value_from` meets its contract: the rule of settled values is one test of the record's kind, by cases on
--- the node that the record is of. Assumes nothing.
+-- `node_values::value_from` meets its contract: the rule of settled values is one test of the record's kind, by cases
+-- on the node that the record is of. Assumes nothing.
 use Prim.Native.Nat.{ℕ}
 use mathlib.Core.Path.{_≡_, refl, ap, _∙_}
 use mathlib.Core.Bool.{Bool, false, not, _&&_, _||_, xor, cond}

@@ -1,5 +1,5 @@
--- `records::record_at` meets its contract: `judge` is handed the bytes that the specification judges, as far as it looks
--- at them. Assumes nothing.
+-- `records::record_at` meets its contract: `judge` is handed the bytes that the specification judges, as far as it
+-- looks at them. Assumes nothing.
 use Prim.Native.Nat.{ℕ, _+_}
 use mathlib.Core.Path.{_≡_, ap}
 use mathlib.Core.List.{List}

@@ -34,17 +34,17 @@ module _ {n : Node} (cell : Cell) (e : n ≡ entry cell) where
   unfolding entry recordBytes
   of-input two = rw (e, body-set cell (rw e at two))
 
-  of-gate : (n .kind ≡ 2 → ⊥) → (count : ℕ) (ops : List ℕ) → (n .kind ≡ kindOf cell → count ≡ length (operands cell)) → ops ≡ padded most-body 0 (operands cell)
+  of-gate : (n .kind ≡ 2 → ⊥) → (count : ℕ) (ops : List ℕ) → count ≡ length (operands cell) → ops ≡ padded most-body 0 (operands cell)
       → n .kind ∷ take count ops ≡ recordBytes (node cell)
   unfolding entry recordBytes padded
-  of-gate other count ops counted all = rw (all, take-at (operands cell) _ count (sym (counted (rw e))), e, body-operands cell (rw e at other))
+  of-gate other count ops many all = rw (all, take-at (operands cell) _ count (sym many), e, body-operands cell (rw e at other))
 
 abbrev Inv-loop : tie.InvT-loop
-Inv-loop out₀ at kind set operands count end₀ j₀ out end j =
-    (j ≤ count) × (count ≤ most-body) × (length out ≡ length out₀) × (end ≡ end₀ + j) × Appended out₀ out end₀ end (take j operands)
+Inv-loop out₀ at kind set operands end₀ j₀ out end j =
+    (j ≤ operands .count) × (length out ≡ length out₀) × (end ≡ end₀ + j) × Appended out₀ out end₀ end (take j (operands .at))
 
 abbrev μ-loop : tie.MeasureT-loop
-μ-loop out₀ at kind set operands count end₀ j₀ out end j = count - j
+μ-loop out₀ at kind set operands end₀ j₀ out end j = operands .count - j
 
 returns : tie.Need-returns Inv-loop μ-loop
 returns c =
@@ -55,40 +55,37 @@ returns c =
     )
 
 loop-holds : tie.Need-loop-holds Inv-loop μ-loop
-loop-holds c = (omega arith, search needs, refl, omega arith, appended-none _ _)
+loop-holds c = (omega arith, refl, omega arith, appended-none _ _)
 
 loop-again : tie.Need-loop-again Inv-loop μ-loop
 loop-again c =
     let put = c .before .before in
-    let turn = put .before .before .before in
-    let asked = turn .before .before .before .before .before .before in
+    let turn = put .before .before .before .before in
+    let own = turn .before .before .before .before .before .before .operands-of in
     let j = turn .loop .j in
-    let ops : List ℕ = asked .before .operands-of .result in
-    let here : j < length ops = omega arith in (
+    let here : j < length (own .result .at) = omega (arith, own .ensures .1) in (
       omega arith,
-      turn .loop .inv .1,
       search needs,
       omega (arith, put .put-byte2 .ensures .place),
-      rw (add-one, take-suc ops j 0 here) (appended-more (turn .loop .inv .4) (put .put-byte2 .ensures)),
+      rw (add-one, take-suc (own .result .at) j 0 here) (appended-more (turn .loop .inv .3) (put .put-byte2 .ensures)),
     )
 
 returns-2 : tie.Need-returns-2 Inv-loop μ-loop
 returns-2 c =
     let loop = c .before in
-    let asked = loop .before .before .before .before .before .before in
-    let all : loop .loop .j ≡ asked .operand-count .result = omega arith in (
+    let own = loop .before .before .before .before .before .before .operands-of in
+    let all : loop .loop .j ≡ own .result .count = omega arith in (
       λ cell e.
-          appended-as
-          (of-gate cell e (loop .before .if1 .left) (loop .loop .j) (asked .before .operands-of .result) (λ kind. all ∙ asked .operand-count .ensures .0 cell kind)
-          (asked .before .operands-of .ensures cell e))
-          (appended-more (loop .before .before .before .before .put-byte .ensures) (loop .loop .inv .4)),
-      omega (arith, loop .before .before .before .before .put-byte .ensures .place),
+          let (many, ops) = own .ensures .0 cell e in
+          appended-as (of-gate cell e (loop .before .if1 .left) (loop .loop .j) (own .result .at) (all ∙ many) ops)
+          (appended-more (loop .before .before .before .before .put-byte .ensures) (loop .loop .inv .3)),
+      omega (arith, loop .before .before .before .before .put-byte .ensures .place, own .ensures .1),
     )
 
 pub put-node-spec : {M : Type 1} → statement M
 put-node-spec =
     tie.close
-    (tie.spec Inv-loop μ-loop (λ c κs. search needs) (λ c κs. search needs) (λ c κs. search needs)
+    (tie.spec Inv-loop μ-loop (λ c κs. search needs) (λ c κs. search needs)
     (λ c. search needs) (λ c. search needs) (λ c κs. search needs) (λ c. search needs) returns
     loop-holds (λ c. search needs) (λ c κs. search needs) (λ c. search needs) (λ c. search needs)
     loop-again (λ c. search needs) returns-2)

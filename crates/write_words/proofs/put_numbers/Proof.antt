@@ -22,7 +22,7 @@ use Rattle.netlists.specs.Netlists.{padded}
 use Rattle.listing_lines.specs.Text.{Appended}
 use Rattle.listing_lines.proofs.Text.{appended-none, appended-more, appended-as}
 use Rattle.write_words.specs.Worded.{variablesBelow, numbersOf, fields}
-use Rattle.write_words.proofs.Worded.{fields-more, kind-of}
+use Rattle.write_words.proofs.Worded.{fields-more}
 use Rattle.write_words.proofs.put_numbers.Statement.{statement}
 use Rattle.write_words.proofs.put_numbers.Tie as tie
 
@@ -41,17 +41,18 @@ module _ {n : Node} (cell : Cell) (e : n ≡ entry cell) where
   unfolding entry
   of-input two = rw e (numbers-set cell (rw e at two))
 
-  of-gate : (n .kind ≡ 2 → ⊥) → (count : ℕ) (ops : List ℕ) → (n .kind ≡ kindOf cell → count ≡ length (operands cell)) → ops ≡ padded most-body 0 (operands cell)
+  of-gate : (n .kind ≡ 2 → ⊥) → (count : ℕ) (ops : List ℕ) → count ≡ length (operands cell) → ops ≡ padded most-body 0 (operands cell)
       → take count ops ≡ numbersOf cell
   unfolding entry padded
-  of-gate other count ops counted all = rw (all, take-at (operands cell) _ count (sym (counted (kind-of cell e)))) (numbers-operands cell (rw e at other))
+  of-gate other count ops many all = rw (all, take-at (operands cell) _ count (sym many)) (numbers-operands cell (rw e at other))
 
 abbrev Inv-loop : tie.InvT-loop
-Inv-loop text₀ at operands count end₀ j₀ text end j =
-    (j ≤ count) × (count ≤ most-body) × (length text ≡ length text₀) × (end ≤ end₀ + 4 * j) × Appended text₀ text end₀ end (fields (take j operands))
+Inv-loop text₀ at operands end₀ j₀ text end j =
+    (j ≤ operands .count) × (operands .count ≤ most-body) × (length text ≡ length text₀) × (end ≤ end₀ + 4 * j)
+    × Appended text₀ text end₀ end (fields (take j (operands .at)))
 
 abbrev μ-loop : tie.MeasureT-loop
-μ-loop text₀ at operands count end₀ j₀ text end j = count - j
+μ-loop text₀ at operands end₀ j₀ text end j = operands .count - j
 
 returns : tie.Need-returns Inv-loop μ-loop
 returns c =
@@ -64,23 +65,24 @@ unfolding fields
 loop-holds c = (omega arith, search needs, refl, omega arith, appended-none _ _)
 
 -- the next operand has at most three digits
-short : (c : tie.In-loop Inv-loop μ-loop) → length (decimal (getD (c .before .before .before .operands-of .result) (c .before .loop .j) 0)) ≤ 3
+short : (c : tie.In-loop Inv-loop μ-loop) → length (decimal (getD (c .before .before .operands-of .result .at) (c .before .loop .j) 0)) ≤ 3
 short c =
-    let operand : ℕ = getD (c .before .before .before .operands-of .result) (c .before .loop .j) 0 in
+    let operand : ℕ = getD (c .before .before .operands-of .result .at) (c .before .loop .j) 0 in
     let byte : Fits w8 operand = search needs in
     decimal-short 3 operand (omega arith) (omega arith)
 
 put-field-requires : tie.Need-put-field-requires Inv-loop μ-loop
-put-field-requires c κs = omega (arith, short (c .before))
+put-field-requires c κs = omega (arith, short (c .before .before))
 
 loop-again : tie.Need-loop-again Inv-loop μ-loop
 loop-again c =
     let put = c .before .before in
-    let turned = put .before .before in
+    let turned = put .before .before .before in
     let turn = turned .before in
-    let ops : List ℕ = turn .before .before .operands-of .result in
+    let own = turn .before .operands-of in
+    let ops : List ℕ = own .result .at in
     let j = turn .loop .j in
-    let here : j < length ops = omega arith in (
+    let here : j < length ops = omega (arith, own .ensures .1) in (
       omega arith,
       turn .loop .inv .1,
       search needs,
@@ -92,13 +94,11 @@ returns-2 : tie.Need-returns-2 Inv-loop μ-loop
 returns-2 c =
     let loop = c .before in
     let asked = loop .before in
-    let all : loop .loop .j ≡ asked .operand-count .result = omega arith in (
+    let own = asked .operands-of in
+    let all : loop .loop .j ≡ own .result .count = omega arith in (
       λ cell e.
-          appended-as
-          (ap fields
-          (of-gate cell e (asked .before .before .if1 .left) (loop .loop .j) (asked .before .operands-of .result) (λ kind. all ∙ asked .operand-count .ensures .0 cell kind)
-          (asked .before .operands-of .ensures cell e)))
-          (loop .loop .inv .4),
+          let (many, ops) = own .ensures .0 cell e in
+          appended-as (ap fields (of-gate cell e (asked .before .if1 .left) (loop .loop .j) (own .result .at) (all ∙ many) ops)) (loop .loop .inv .4),
       (omega arith, inr (omega arith)),
     )
 
@@ -106,6 +106,6 @@ pub put-numbers-spec : {M : Type 1} → statement M
 put-numbers-spec =
     tie.close
     (tie.spec Inv-loop μ-loop (λ c κs. search needs) (λ c. search needs) returns
-    (λ c κs. search needs) (λ c κs. search needs) loop-holds (λ c. search needs)
+    (λ c κs. search needs) loop-holds (λ c. search needs)
     (λ c. search needs) put-field-requires (λ c. search needs) (λ c. search needs) loop-again
     (λ c. search needs) returns-2)

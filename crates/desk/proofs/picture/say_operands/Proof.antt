@@ -6,14 +6,14 @@ use Rattle.desk.proofs.picture.say_operands.Statement.{statement}
 use Rattle.desk.proofs.picture.say_operands.Tie as tie
 
 abbrev Inv-loop : tie.InvT-loop
-Inv-loop i thick operands count j₀ j = (j ≤ count) × (count ≤ most-body)
+Inv-loop i chosen operands j₀ j = (j ≤ operands .count) × (operands .count ≤ most-body)
 
 abbrev μ-loop : tie.MeasureT-loop
-μ-loop i thick operands count j₀ j = count - j
+μ-loop i chosen operands j₀ j = operands .count - j
 
 pub say-operands-spec : {M : Type 1} → statement M
 say-operands-spec =
     tie.close
-    (tie.spec Inv-loop μ-loop (λ c κs. search needs) (λ c κs. search needs) (λ c. search needs)
+    (tie.spec Inv-loop μ-loop (λ c κs. search needs) (λ c. search needs) (λ c. search needs)
     (λ c. search needs) (λ c. search needs) (λ c κs. search needs) (λ c. search needs) (λ c. search needs)
     (λ c. search needs) (λ c. search needs))
