@@ -7,8 +7,7 @@ use borrow.Author.Rules.{rules}
 use lib.ListN.{get_or}
 use Rattle.rules.specs.Lists.{greatest}
 use Rattle.rule_laws.proofs.Operands.{counts, last_most, operands_counted}
-use Rattle.netlists.proofs.operand_count.Statement.{statement}
-use Rattle.netlists.proofs.operand_count.Tie as tie
+use Rattle.netlists.proofs.operand_count.Goals as goal
 
 none_below : (k : ℕ) → k < 2 → get_or counts k 0 ≡ 0
 none_below zero h = refl
@@ -21,16 +20,20 @@ at_most [] k = omega arith
 at_most (x ∷ l) zero = omega arith
 at_most (x ∷ l) (suc k) = omega (arith, at_most l k)
 
-cast-result : tie.Need-overflow-cast-result
-cast-result c = omega (arith, at_most counts c.before.args.kind)
+pub overflow_cast-result : goal.overflow_cast-result
+overflow_cast-result c = omega (arith, at_most counts c.before.args.kind)
 
-returns : tie.Need-returns
-returns c =
-    let kind = c.before.args.kind in
-    (λ cell e. ap (λ (k : ℕ). get_or counts k 0) e ∙ operands_counted cell, ((none_below kind, λ h. absurd (omega arith)), omega (arith, at_most counts kind)))
+pub returns-then-at-le-LAST_KIND : goal.returns-then-at-le-LAST_KIND
+returns-then-at-le-LAST_KIND c = let kind = c.before.args.kind in
+    record {
+      value = λ cell e. ap (λ (k : ℕ). get_or counts k 0) e ∙ operands_counted cell;
+      none = (none_below kind, λ h. absurd (omega arith));
+      few = omega (arith, at_most counts kind);
+    }
 
-returns-2 : tie.Need-returns-2
-returns-2 c = (λ cell e. absurd (omega (arith, last_most cell)), ((λ h. refl, λ h. refl), omega arith))
-
-pub operand-count-spec : {M : Type 1} → statement M
-operand-count-spec = tie.close (tie.spec (λ c. search rules) cast-result returns returns-2)
+pub returns : goal.returns
+returns c = record {
+  value = λ cell e. absurd (omega (arith, last_most cell));
+  none = (λ h. refl, λ h. refl);
+  few = omega arith;
+}

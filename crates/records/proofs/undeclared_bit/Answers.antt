@@ -7,21 +7,17 @@ use Prim.Native.Nat.{◌*◌, ◌%◌, ◌^◌}
 use mathlib.Core.Path.{◌≡◌}
 use lib.Pow.{pow_mono, pow-lt}
 use Rattle.rules.specs.Checks.{undeclared}
-use Rattle.records.proofs.undeclared_bit.Statement.{statement}
-use Rattle.records.proofs.undeclared_bit.Tie as tie
+use Rattle.records.proofs.undeclared_bit.Goals as goal
 
-returns : tie.Need-returns
+pub returns-then-variables-ge64 : goal.returns-then-variables-ge64
+unfolding undeclared
+returns-then-variables-ge64 c =
+    let a = c.before.args in
+    rw (lt-leb (2 ^ a.variables) a.number (omega (arith, pow_mono c.if-variables-ge64.true, c.before.ranges.number)))
+
+pub returns : goal.returns
 unfolding undeclared
 returns c =
-    let a = c.before.args in
-    rw (lt-leb (2 ^ a.variables) a.number (omega (arith, pow_mono c.if1.true, c.before.ranges.number)))
-
-returns-2 : tie.Need-returns-2
-unfolding undeclared
-returns-2 c =
     let v = c.before.args.variables in
-    let exact : (1 * 2 ^ v) % 2 ^ 64 ≡ 2 ^ v = omega (arith, pow-lt c.if1.false) in
+    let exact : (1 * 2 ^ v) % 2 ^ 64 ≡ 2 ^ v = omega (arith, pow-lt c.if-variables-ge64.false) in
     rw exact
-
-pub undeclared-bit-spec : {M : Type 1} → statement M
-undeclared-bit-spec = tie.close (tie.spec returns (λ c. search rules) returns-2)

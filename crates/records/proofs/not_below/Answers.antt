@@ -14,8 +14,8 @@ use Rattle.rules.specs.Records.{listed, first_of, most_body}
 use Rattle.rules.specs.Checks.{not_below}
 use Rattle.rule_laws.proofs.Tests.{pass, or_left, or_right, or_cases, and_left, and_right, and_both}
 use Rattle.rule_laws.proofs.Turns.{one_more}
-use Rattle.records.proofs.not_below.Statement.{statement}
-use Rattle.records.proofs.not_below.Tie as tie
+use Rattle.records.proofs.not_below.Invariants.{Met}
+use Rattle.records.proofs.not_below.Goals as goal
 
 later : (b : Bool) {t : Bool} → t ≡ true → (b || t) ≡ true
 later true e = refl
@@ -40,11 +40,6 @@ none-fails own (suc k) (x ∷ l) h = rw (h 0 (omega arith)) (none-fails own k l 
 is_true : (b : Bool) → T b → b ≡ true
 is_true true t = refl
 is_true false t = absurd t
-
--- whether one of the first j operands, of which there are so many, fails it
-record Met (own count : ℕ) (body : List ℕ) (j : ℕ) (found : Bool) : Type 0 where
-  each : (k : ℕ) → k < j → k < count → leb own (get_or body k 0) ≡ true → T found
-  one : T found → (k : ℕ) × (k < count) × (leb own (get_or body k 0) ≡ true)
 
 met-more : (own count : ℕ) (body : List ℕ) (j : ℕ) (found : Bool) → Met own count body j found
     → Met own count body (j + 1) (found || (ltb j count && leb own (get_or body j 0)))
@@ -72,23 +67,11 @@ met_all own count body j found all met = go found refl
         passes k h true f = absurd (subst T e (met.each k (omega arith) h f))
         passes k h false f = f
 
-abbrev invariant-loop : tie.invariant-loop
-invariant-loop count nodes body found₀ j₀ found j = (j ≤ most_body) × (count ≤ most_body) × Met nodes count body j found
+pub loop-j-init : goal.loop-j-init
+loop-j-init c = (omega arith, c.requires, record { each = λ k h. absurd (omega arith); one = λ t. absurd t })
 
-abbrev decreases-loop : tie.decreases-loop
-decreases-loop count nodes body found₀ j₀ found j = most_body - j
+pub loop-j-preserved : goal.loop-j-preserved
+loop-j-preserved c = let inv = c.before.loop-j.invariant in (omega arith, inv.1, met-more _ _ _ c.before.loop-j.j c.before.loop-j.found inv.2)
 
-loop-holds : tie.Need-loop-init invariant-loop decreases-loop
-loop-holds c = (omega arith, c.requires, record { each = λ k h. absurd (omega arith); one = λ t. absurd t })
-
-loop-again : tie.Need-loop-preserved invariant-loop decreases-loop
-loop-again c = let inv = c.before.loop.invariant in (omega arith, inv.1, met-more _ _ _ c.before.loop.j c.before.loop.found inv.2)
-
-returns : tie.Need-returns invariant-loop decreases-loop
-returns c = met_all _ _ _ c.before.loop.j _ (omega (arith, c.before.loop.invariant.1)) c.before.loop.invariant.2
-
-pub not-below-spec : {M : Type 1} → statement M
-not-below-spec =
-    tie.close
-    (tie.spec invariant-loop decreases-loop loop-holds (λ c. search rules) (λ c. search rules) (λ c. search rules)
-    (λ c. search rules) loop-again returns)
+pub returns : goal.returns
+returns c = met_all _ _ _ c.before.loop-j.j _ (omega (arith, c.before.loop-j.invariant.1)) c.before.loop-j.invariant.2

@@ -17,8 +17,7 @@ use Rattle.rule_laws.proofs.Tests.{same_test, pass}
 use Rattle.rule_laws.proofs.Lists.{member_insert}
 use Rattle.families.specs.Parts.{HasPart, family_at, with_family}
 use Rattle.families.proofs.Filling.{ByteOf, fill_end, bit_at}
-use Rattle.families.proofs.insert.Statement.{statement}
-use Rattle.families.proofs.insert.Tie as tie
+use Rattle.families.proofs.insert.Goals as goal
 
 -- bit A mod 8 set in byte A / 8
 one_more : (work : List ℕ) (part A byte : ℕ) → HasPart work part → A < most_sets → ((i : ℕ) → get_or work i 0 < 256) → byte < 256
@@ -51,17 +50,11 @@ one_more work part A byte has l bytes b bits =
           bit = λ k l. rw (member_insert, ne_eqb (8 * i + k) A (λ p. eqb-false i (A / 8) e (omega arith))) (bit_at work part i k h l);
         }
 
-returns : tie.Need-returns
+pub returns : goal.returns
 returns c =
     let start = c.before.before.before in
     let args = start.args in
-    one_more args.work.now args.part args.set c.with-bit.result start.requires.0 start.requires.1
-    (λ i. (c.before.slice-known2.given i).fits)
-    c.with-bit.type-inv
-    c.with-bit.ensures
-
-pub insert-spec : {M : Type 1} → statement M
-insert-spec =
-    tie.close
-    (tie.spec (λ c. search rules) (λ c. search rules) (λ c. search rules) (λ c κs. search rules)
-    (λ c. search rules) (λ c. search rules) returns)
+    one_more args.work.now args.part args.set c.with_bit.result start.requires.0 start.requires.1
+    (λ i. (c.before.slice_known-2-1.given i).fits)
+    c.with_bit.type_inv
+    c.with_bit.ensures

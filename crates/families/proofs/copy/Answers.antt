@@ -9,10 +9,9 @@ use Rattle.rules.specs.Lists.{member, union}
 use Rattle.rule_laws.proofs.Lists.{member_union}
 use Rattle.families.specs.Parts.{family_at}
 use Rattle.families.proofs.Parts.{with_same, with_other}
-use Rattle.families.proofs.copy.Statement.{statement}
-use Rattle.families.proofs.copy.Tie as tie
+use Rattle.families.proofs.copy.Goals as goal
 
-returns : tie.Need-returns
+pub returns : goal.returns
 unfolding member
 returns c =
     let united = c.before.before in
@@ -21,9 +20,5 @@ returns c =
     let work = start.args.work.now in
     let lower = family_at work start.args.from in
     united.unite.ensures
-    ∙ with_other work emptied.make-empty.new.0 start.args.into [] start.requires.0 emptied.make-empty.ensures start.args.from (λ same. omega arith)
+    ∙ with_other work emptied.make_empty.new.work start.args.into [] start.requires.0 emptied.make_empty.ensures start.args.from (λ same. omega arith)
     ∙ with_same work start.args.into (union lower []) lower (λ A h. member_union A lower [] ∙ or-false (member A lower))
-
-pub copy_spec : {M : Type 1} → statement M
-copy_spec =
-    tie.close (tie.spec (λ c κs. search rules) (λ c κs. search rules) (λ c. search rules) returns)

@@ -4,15 +4,8 @@ use mathlib.Core.Path.{sym}
 use borrow.Author.Rules.{rules}
 use Rattle.families.specs.Parts.{holds_at}
 use Rattle.families.proofs.Parts.{member_at}
-use Rattle.families.proofs.holds.Statement.{statement}
-use Rattle.families.proofs.holds.Tie as tie
+use Rattle.families.proofs.holds.Goals as goal
 
-returns : tie.Need-returns
+pub returns : goal.returns
 unfolding holds_at
 returns c = sym (member_at c.before.args.work.now c.before.args.part c.before.args.set c.before.requires.1)
-
-pub holds-spec : {M : Type 1} → statement M
-holds-spec =
-    tie.close
-    (tie.spec (λ c. search rules) (λ c. search rules) (λ c. search rules) (λ c. search rules)
-    (λ c. search rules) returns)

@@ -5,18 +5,13 @@ use mathlib.Core.List.{[]}
 use borrow.Author.Rules.{rules}
 use Rattle.rules.specs.Lists.{member, insert}
 use Rattle.families.proofs.Parts.{with_one}
-use Rattle.families.proofs.single.Statement.{statement}
-use Rattle.families.proofs.single.Tie as tie
+use Rattle.families.proofs.single.Goals as goal
 
-returns : tie.Need-returns
+pub returns : goal.returns
 unfolding member insert
 returns c =
     let inserted = c.before.before in
     let emptied = inserted.before.before.before.before in
     let start = emptied.before.before.before in
     inserted.insert.ensures
-    ∙ with_one start.args.work.now emptied.make-empty.new.0 start.args.into [] start.requires.0 emptied.make-empty.ensures start.args.set
-
-pub single-spec : {M : Type 1} → statement M
-single-spec =
-    tie.close (tie.spec (λ c κs. search rules) (λ c κs. search rules) (λ c. search rules) returns)
+    ∙ with_one start.args.work.now emptied.make_empty.new.work start.args.into [] start.requires.0 emptied.make_empty.ensures start.args.set

@@ -1,0 +1,14 @@
+-- `records::judge_end` meets its contract: its one test is the one row that is left for an end record. Assumes nothing.
+use borrow.Author.Rules.{rules}
+use borrow.Author.Tests.{lt-ltb, le-ltb}
+use Rattle.rules.specs.Checks.{judged}
+use Rattle.records.proofs.Judged.{end_checks}
+use Rattle.records.proofs.judge_end.Goals as goal
+
+pub returns-then-total-here-gt1 : goal.returns-then-total-here-gt1
+unfolding judged
+returns-then-total-here-gt1 c = let (inside, kind) = c.before.requires in rw (end_checks, lt-ltb _ _ c.if-total-here-gt1.true)
+
+pub returns : goal.returns
+unfolding judged
+returns c = let (inside, kind) = c.before.requires in rw (end_checks, le-ltb _ _ c.if-total-here-gt1.false)
