@@ -1,0 +1,43 @@
+-- `scanner::number_of` meets its contract. The loop's invariant: the word is the number that the digits left say
+-- behind the value so far, which fits. The measure is what is left of the word. Assumes nothing.
+use borrow.Author.Rules.{rules}
+use borrow.Author.Tests.{eq-eqb, ne_eqb}
+use Prim.Native.Nat.{◌-◌, ◌^◌, ◌≤◌, ◌<◌}
+use mathlib.Core.Path.{◌≡◌, sym, ◌∙◌}
+use native.Mathlib.Omega.{arith}
+use lib.ListN.{length, drop}
+use Rattle.scanner.specs.Numbers.{number_behind, number_in}
+use Rattle.scanner.proofs.Numbers.{from_place, no_digit, one_digit, too_high, at_end}
+use Rattle.scanner.proofs.number_of.Goals as goal
+
+pub returns-then-word-eq0 : goal.returns-then-word-eq0
+unfolding number_in
+returns-then-word-eq0 c = simp (eq-eqb _ _ c.if-word-eq0.true)
+
+pub loop-k-init : goal.loop-k-init
+unfolding number_in
+loop-k-init c = (search rules, search rules, simp (ne_eqb _ _ c.if-word-eq0.false))
+
+pub returns-then-digit-gt9 : goal.returns-then-digit-gt9
+returns-then-digit-gt9 c =
+    let turn = c.before.before.before in
+    sym (turn.before.loop-k.invariant.2 ∙ from_place _ _ _ turn.loop-k-test.true ∙ no_digit _ _ _ (c.before.digit_of-digit.ensures.1 c.if-digit-gt9.true))
+
+pub returns-then-value-digit : goal.returns-then-value-digit
+returns-then-value-digit c =
+    let turn = c.before.before.before.before in
+    let loop = turn.before.loop-k in
+    let digit = c.before.before.digit_of-digit.ensures.0 (omega arith) in
+    sym (loop.invariant.2 ∙ from_place _ _ _ turn.loop-k-test.true ∙ one_digit _ _ _ digit.0
+    ∙ too_high loop.value _ c.before.before.digit_of-digit.result _ digit.1 (omega arith))
+
+pub loop-k-preserved : goal.loop-k-preserved
+loop-k-preserved c =
+    let turn = c.before.before.before.before in
+    let digit = c.before.before.digit_of-digit.ensures.0 (omega arith) in
+    (search rules, search rules, turn.before.loop-k.invariant.2 ∙ from_place _ _ _ turn.loop-k-test.true ∙ one_digit _ _ _ digit.0 ∙ rw digit.1)
+
+pub returns : goal.returns
+returns c =
+    let loop = c.before.loop-k in
+    sym (loop.invariant.2 ∙ at_end _ c.before.before.before.before.args.word.now loop.k (omega arith) loop.invariant.1)
