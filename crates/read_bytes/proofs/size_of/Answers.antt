@@ -10,14 +10,14 @@ use Rattle.read_bytes.proofs.size_of.Goals as goal
 pub returns-in-1 : goal.returns-in-1
 unfolding said size record_bytes
 returns-in-1 c = record {
-  by_index = λ body p q. rw c.in-1.keys1;
+  by_index = λ body p q. rw c.in-1.is;
   few = omega arith;
 }
 
 pub returns-in-2 : goal.returns-in-2
 unfolding said size record_bytes kind_of body
 returns-in-2 c = record {
-  by_index = λ body p q. rw c.in-2.keys2;
+  by_index = λ body p q. rw c.in-2.is;
   few = omega arith;
 }
 
