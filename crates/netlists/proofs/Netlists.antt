@@ -1,7 +1,7 @@
 -- Netlists by value: a store behind the entries is one entry more, each entry stands in the flat form,
 -- and no two netlists have the same one. By laws of padded lists of any length, so that no array is unfolded.
 -- Assumes nothing.
-use Prim.Native.Nat.{ℕ, zero, suc, ◌+◌, ◌*◌, ◌-◌, ◌≤◌, ◌<◌}
+use Prim.Native.Nat.{ℕ, zero, suc, ◌+◌, ◌-◌, ◌≤◌, ◌<◌}
 use mathlib.Core.Path.{◌≡◌, refl, sym, ap, subst, ◌∙◌}
 use mathlib.Core.Bool.{cond}
 use mathlib.Core.List.{List, [], ◌∷◌, ◌++◌, map, map-append, append-nil}
@@ -12,7 +12,7 @@ use lib.ListN.{length, get_or, take, set, replicate, length-append, length-map, 
 use lib.Seq.{append_snoc, set-append_seam, take_at, ext_get_or}
 use borrow.Author.Tests.{ne_eqb}
 use Rattle.rules.specs.declared.Node.{Node}
-use Rattle.rules.specs.Records.{Class, public, kind_number, operand_count, listed, first_of, Cell, input, gate, Record, end, variable, node, Netlist, WellFormed, with_variable, with_node, said, class_of, class_byte, kind_of, operands, set_of, most_variables, most_nodes, most_body, last_kind}
+use Rattle.rules.specs.Records.{Class, public, kind_number, operand_count, listed, Cell, input, gate, Record, end, variable, node, Netlist, WellFormed, with_variable, with_node, said, class_of, class_byte, kind_of, operands, set_of, most_variables, most_nodes, most_body}
 use Rattle.rules.specs.Slices.{node_of, entry}
 use Rattle.rules.specs.Checks.{most_work}
 use Rattle.rule_laws.proofs.Members.{all_at}

@@ -4,7 +4,6 @@ use mathlib.Core.Path.{◌∙◌}
 use mathlib.Core.Bool.{or-false}
 use mathlib.Core.List.{[]}
 use native.Mathlib.Omega.{arith}
-use borrow.Author.Rules.{rules}
 use Rattle.rules.specs.Lists.{member, union}
 use Rattle.rule_laws.proofs.Lists.{member_union}
 use Rattle.families.specs.Parts.{family_at}

@@ -1,7 +1,6 @@
 -- `families::holds` meets its contract: the bit that it reads is that of the set in its part (`member_at`).
 -- Assumes nothing.
 use mathlib.Core.Path.{sym}
-use borrow.Author.Rules.{rules}
 use Rattle.families.specs.Parts.{holds_at}
 use Rattle.families.proofs.Parts.{member_at}
 use Rattle.families.proofs.holds.Goals as goal

@@ -1,13 +1,13 @@
 -- `families::make_empty` meets its contract. The loop's invariant: the part's bytes so far are those of the empty
 -- family, and all else is as it was (`Filled`). The measure is what is left of the 128 bytes. Assumes nothing.
-use Prim.Native.Nat.{ℕ, ◌-◌, ◌^◌}
+use Prim.Native.Nat.{ℕ, ◌^◌}
 use mathlib.Core.Path.{ap}
 use mathlib.Core.List.{[]}
 use native.Mathlib.Nat.{zero-div}
 use native.Mathlib.Omega.{arith}
 use Rattle.rules.specs.Lists.{member}
 use Rattle.rules.specs.Records.{odd}
-use Rattle.families.proofs.Filling.{ByteOf, Filled, fill_start, fill_more, fill_end}
+use Rattle.families.proofs.Filling.{ByteOf, fill_start, fill_more, fill_end}
 use Rattle.families.proofs.make_empty.Goals as goal
 
 pub loop-emptied-init : goal.loop-emptied-init

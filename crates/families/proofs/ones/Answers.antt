@@ -1,5 +1,5 @@
 -- `families::ones` meets its contract: at each byte, by a test that antt computes (`eights_count`). Assumes nothing.
-use Prim.Native.Nat.{ℕ, ◌-◌, ◌/◌, ◌≤◌}
+use Prim.Native.Nat.{ℕ, ◌/◌, ◌≤◌}
 use native.Mathlib.Omega.{arith}
 use lib.Bits.{and_le_l, and_le_r}
 use Rattle.families.proofs.Bits.{twos, fours, eights_count}

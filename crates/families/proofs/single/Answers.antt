@@ -2,7 +2,6 @@
 -- Assumes nothing.
 use mathlib.Core.Path.{◌∙◌}
 use mathlib.Core.List.{[]}
-use borrow.Author.Rules.{rules}
 use Rattle.rules.specs.Lists.{member, insert}
 use Rattle.families.proofs.Parts.{with_one}
 use Rattle.families.proofs.single.Goals as goal

@@ -1,9 +1,8 @@
 -- `families::size` meets its contract. The loop's invariant: `sets` counts those of the sets of the bytes passed that
 -- the part holds. The measure is what is left of the 128 bytes. Assumes nothing.
-use Prim.Native.Nat.{◌+◌, ◌*◌, ◌-◌, ◌≤◌}
+use Prim.Native.Nat.{◌+◌, ◌*◌}
 use mathlib.Core.Path.{◌≡◌, refl}
 use native.Mathlib.Omega.{arith}
-use lib.ListN.{length}
 use Rattle.rules.specs.Records.{most_sets}
 use Rattle.families.specs.Parts.{sets_under, family_at}
 use Rattle.families.proofs.Parts.{length_below}

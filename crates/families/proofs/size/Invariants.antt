@@ -1,13 +1,9 @@
 -- `families::size` meets its contract. The loop's invariant: `sets` counts those of the sets of the bytes passed that
 -- the part holds. The measure is what is left of the 128 bytes. Assumes nothing.
-use Prim.Native.Nat.{◌+◌, ◌*◌, ◌-◌, ◌≤◌}
-use mathlib.Core.Path.{◌≡◌, refl}
-use native.Mathlib.Omega.{arith}
+use Prim.Native.Nat.{◌*◌, ◌-◌, ◌≤◌}
+use mathlib.Core.Path.{◌≡◌}
 use lib.ListN.{length}
-use Rattle.rules.specs.Records.{most_sets}
-use Rattle.families.specs.Parts.{sets_under, family_at}
-use Rattle.families.proofs.Parts.{length_below}
-use Rattle.families.proofs.Present.{bits_of, length_more}
+use Rattle.families.specs.Parts.{sets_under}
 use Rattle.families.proofs.size.Given as goal
 
 abbrev pub invariant-loop-counted : goal.invariant-loop-counted

@@ -1,12 +1,10 @@
 -- `families::unite` meets its contract. The loop's invariant: the part's first j bytes are those of the union,
 -- and all else is as it was (`Filled`), so that each byte read is one at entry. The measure is what is left
 -- of the 128 bytes. Assumes nothing.
-use Prim.Native.Nat.{◌+◌, ◌*◌, ◌-◌}
-use mathlib.Core.Logic.{inl, inr}
-use native.Mathlib.Omega.{arith}
+use Prim.Native.Nat.{◌-◌}
 use Rattle.rules.specs.Lists.{union}
 use Rattle.families.specs.Parts.{family_at}
-use Rattle.families.proofs.Filling.{Filled, fill_start, fill_more, fill_end, unwritten, joined}
+use Rattle.families.proofs.Filling.{Filled}
 use Rattle.families.proofs.unite.Given as goal
 
 abbrev pub invariant-loop-j : goal.invariant-loop-j

@@ -1,6 +1,5 @@
 -- `netlists::blank_node` meets its contract: where there are no operands, both fields are 0. Assumes nothing.
 use mathlib.Core.Path.{◌∙◌}
-use borrow.Author.Rules.{rules}
 use Rattle.netlists.proofs.blank_node.Goals as goal
 
 pub returns : goal.returns

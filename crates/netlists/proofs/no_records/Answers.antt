@@ -1,6 +1,5 @@
 -- `netlists::no_records` meets its contract: an array of one value is a padded list of no entries. Assumes nothing.
 use Prim.Native.Nat.{ℕ}
-use borrow.Author.Rules.{rules}
 use Rattle.rules.specs.Records.{most_variables, most_nodes}
 use Rattle.netlists.specs.Netlists.{blank, flat_of}
 use Rattle.netlists.proofs.Netlists.{padded_none}

@@ -1,7 +1,6 @@
 -- `netlists::operands_of` meets its contract: of a node's record the kind tells how many operands there are, and the
 -- fields are these, with 0 beyond them. Assumes nothing.
 use mathlib.Core.Path.{refl, ap}
-use borrow.Author.Rules.{rules}
 use Rattle.rules.specs.declared.Node.{Node}
 use Rattle.rules.specs.Slices.{entry}
 use Rattle.netlists.proofs.Netlists.{fields_padded}

@@ -1,7 +1,6 @@
 -- `netlists::with_node` meets its contract: the store behind the nodes is one node more of the flat netlist.
 -- Assumes nothing.
 use mathlib.Core.Path.{refl}
-use borrow.Author.Rules.{rules}
 use Rattle.netlists.proofs.Netlists.{value_node}
 use Rattle.netlists.proofs.with_node.Goals as goal
 

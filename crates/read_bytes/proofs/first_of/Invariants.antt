@@ -1,18 +1,9 @@
 -- `netlists::first_of` meets its contract. The loop's invariant: below j the bytes are those wanted.
 -- The measure is the number of bytes left. Assumes nothing.
 use Prim.Native.Nat.{ℕ, ◌-◌, ◌≤◌, ◌<◌}
-use mathlib.Core.Path.{◌≡◌, refl, sym, ◌∙◌}
-use mathlib.Core.Bool.{Bool, true, false, cond}
-use mathlib.Core.List.{List}
-use native.Mathlib.Omega.{arith}
-use borrow.Author.Rules.{rules}
-use borrow.Author.Tests.{ltb-true, ltb-false}
-use lib.Dec.{ltb}
-use lib.ListN.{length, get_or, length-set}
-use lib.Seq.{get_or-set_same, get_or-set_other}
+use mathlib.Core.Path.{◌≡◌}
+use lib.ListN.{length, get_or}
 use Rattle.rules.specs.Records.{listed, first_of, most_body}
-use Rattle.rule_laws.proofs.Operands.{first_at, first_beyond}
-use Rattle.rule_laws.proofs.Turns.{one_more}
 use Rattle.read_bytes.proofs.first_of.Given as goal
 
 abbrev pub invariant-loop-j : goal.invariant-loop-j

@@ -1,5 +1,4 @@
 -- `netlists::read` meets its contract: it reads behind the netlist of no records. Assumes nothing.
-use borrow.Author.Rules.{rules}
 use Rattle.rules.specs.Records.{empty}
 use Rattle.rules.specs.Checks.{read}
 use Rattle.rule_laws.proofs.Reading.{empty_formed}

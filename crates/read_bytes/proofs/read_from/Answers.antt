@@ -1,7 +1,7 @@
 -- `read_bytes::read_from` meets its contract. The loop's invariant: after as many records as were taken,
 -- at most `most_records`, the rules are still reading, with this netlist at this offset (`Reached`).
 -- The measure is what is left of them. Assumes nothing.
-use Rattle.std.proofs.Common.{◌≡◌, List, ℕ, ◌+◌, ◌≤◌, ◌<◌, arith, refl, subst}
+use Rattle.std.proofs.Common.{◌≡◌, List, ℕ, ◌≤◌, ◌<◌, arith, refl, subst}
 use Rattle.rules.specs.Records.{Netlist, most_nodes}
 use Rattle.rules.specs.Checks.{after, most_records, outcome_of, read_from}
 use Rattle.rules.specs.declared.QueryOutcome.TheVariants as Query

@@ -1,17 +1,10 @@
 -- `netlists::read_from` meets its contract. The loop's invariant: after as many records as were taken,
 -- at most `most_records`, the rules are still reading, with this netlist at this offset (`Reached`).
 -- The measure is what is left of them. Assumes nothing.
-use Prim.Native.Nat.{◌-◌, ◌≤◌, ◌<◌}
-use mathlib.Core.Path.{◌≡◌, refl, subst}
-use native.Mathlib.Omega.{arith}
-use borrow.Author.Rules.{rules}
-use Rattle.rules.specs.Records.{Netlist, most_nodes}
-use Rattle.rules.specs.Checks.{after, most_records, outcome_of, read_from}
-use Rattle.read_bytes.specs.declared.ReadFile.{ReadFile}
-use Rattle.netlists.specs.Netlists.{flat_of, Formed}
-use Rattle.read_bytes.specs.Reading.{Reads}
-use Rattle.netlists.proofs.Netlists.{one_netlist}
-use Rattle.read_bytes.proofs.Reading.{Reached, refused_here, refused_reads, Turn, inside, known, answered_here, variable_room, node_room, variable_stored, node_stored}
+use Prim.Native.Nat.{◌-◌, ◌≤◌}
+use Rattle.rules.specs.Checks.{most_records}
+use Rattle.netlists.specs.Netlists.{Formed}
+use Rattle.read_bytes.proofs.Reading.{Reached}
 use Rattle.read_bytes.proofs.read_from.Given as goal
 
 abbrev pub invariant-loop-records : goal.invariant-loop-records

@@ -1,6 +1,5 @@
 -- `netlists::refused` meets its contract: field by field. Assumes nothing.
 use mathlib.Core.Path.{refl}
-use borrow.Author.Rules.{rules}
 use Rattle.rules.specs.Checks.{and_then}
 use Rattle.netlists.specs.Netlists.{kept}
 use Rattle.read_bytes.proofs.refused.Goals as goal

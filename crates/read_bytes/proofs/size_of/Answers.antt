@@ -2,7 +2,6 @@
 -- node one for each operand. Assumes nothing.
 use mathlib.Core.Path.{sym}
 use native.Mathlib.Omega.{arith}
-use borrow.Author.Rules.{rules}
 use Rattle.rules.specs.Records.{operand_count, first_of, gate, said, size, record_bytes, kind_of, body, operands}
 use Rattle.rule_laws.proofs.Records.{says_gate}
 use Rattle.read_bytes.proofs.size_of.Goals as goal

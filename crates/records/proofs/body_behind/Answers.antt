@@ -1,10 +1,8 @@
 -- `records::body_behind` meets its contract. The loop's invariant: the first j bytes are those behind the kind byte.
 -- The measure is the number of bytes left. Assumes nothing.
-use Prim.Native.Nat.{ℕ, ◌+◌, ◌-◌, ◌≤◌, ◌<◌}
 use mathlib.Core.Path.{◌≡◌, refl, sym, ◌∙◌}
 use native.Mathlib.Omega.{arith}
-use borrow.Author.Rules.{rules}
-use lib.ListN.{length, get_or, length-set}
+use lib.ListN.{length-set}
 use lib.Seq.{ext_get_or, get_or-set_same, get_or-set_other}
 use Rattle.rules.specs.Records.{most_body}
 use Rattle.rule_laws.proofs.Packing.{tabulate_length, tabulate_at}

@@ -1,5 +1,4 @@
 -- `records::byte_behind` meets its contract: past its end a list has the default. Assumes nothing.
-use borrow.Author.Rules.{rules}
 use native.Mathlib.Omega.{arith}
 use Prim.Native.Nat.{◌+◌}
 use mathlib.Core.Path.{sym}

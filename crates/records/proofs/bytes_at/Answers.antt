@@ -1,5 +1,4 @@
 -- `records::bytes_at` meets its contract: the kind byte stands no place behind its offset. Assumes nothing.
-use borrow.Author.Rules.{rules}
 use native.Mathlib.Nat.{add-zero}
 use Rattle.records.proofs.bytes_at.Goals as goal
 

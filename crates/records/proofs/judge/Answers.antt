@@ -1,6 +1,5 @@
 -- `records::judge` meets its contract: outside the file and above the last kind by the first two rows of the table,
 -- else by what the function for the kind ensures. Assumes nothing.
-use borrow.Author.Rules.{rules}
 use borrow.Author.Tests.{lt-ltb, le-leb, lt-leb}
 use Rattle.rules.specs.Checks.{and_then, judged, judged_record}
 use Rattle.records.specs.Bytes.{accepted_if}

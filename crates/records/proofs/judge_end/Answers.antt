@@ -1,5 +1,4 @@
 -- `records::judge_end` meets its contract: its one test is the one row that is left for an end record. Assumes nothing.
-use borrow.Author.Rules.{rules}
 use borrow.Author.Tests.{lt-ltb, le-ltb}
 use Rattle.rules.specs.Checks.{judged}
 use Rattle.records.proofs.Judged.{end_checks}

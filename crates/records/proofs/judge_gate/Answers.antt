@@ -1,6 +1,5 @@
 -- `records::judge_gate` meets its contract: its tests are the rows that are left for a node with operands.
 -- Assumes nothing.
-use borrow.Author.Rules.{rules}
 use borrow.Author.Tests.{lt-ltb, le-ltb, le-leb, lt-leb}
 use Rattle.rules.specs.Checks.{judged}
 use Rattle.records.proofs.Judged.{GateChecks, gate_checks}

@@ -1,6 +1,5 @@
 -- `records::judge_input` meets its contract: its tests are the rows that are left for an input. Assumes nothing.
 use mathlib.Core.Path.{sym, ap, ◌∙◌}
-use borrow.Author.Rules.{rules}
 use borrow.Author.Tests.{lt-ltb, le-ltb, le-leb, lt-leb}
 use Rattle.rules.specs.Checks.{judged, undeclared}
 use Rattle.records.proofs.Judged.{input_checks}

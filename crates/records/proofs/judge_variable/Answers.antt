@@ -1,6 +1,5 @@
 -- `records::judge_variable` meets its contract: its tests are the rows that are left for a variable. Assumes nothing.
 use native.Mathlib.Omega.{arith}
-use borrow.Author.Rules.{rules}
 use borrow.Author.Tests.{lt-ltb, le-ltb, le-leb, lt-leb}
 use Rattle.rules.specs.Records.{most_variables}
 use Rattle.rules.specs.Checks.{judged}

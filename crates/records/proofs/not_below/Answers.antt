@@ -1,16 +1,15 @@
 -- `records::not_below` meets its contract. The loop's invariant: of the first j operands one fails the check exactly if
 -- that was found. The measure is the number of bytes left. Assumes nothing.
-use Prim.Native.Nat.{ℕ, zero, suc, ◌+◌, ◌-◌, ◌≤◌, ◌<◌}
+use Prim.Native.Nat.{ℕ, zero, suc, ◌+◌, ◌≤◌, ◌<◌}
 use mathlib.Core.Path.{◌≡◌, refl, sym, subst}
 use mathlib.Core.Logic.{⊎_elim}
 use mathlib.Core.Bool.{Bool, true, false, ◌&&◌, ◌||◌}
 use mathlib.Core.List.{List, [], ◌∷◌}
 use native.Mathlib.Omega.{arith}
-use borrow.Author.Rules.{rules}
 use borrow.Author.Tests.{ltb-true, lt-ltb}
 use lib.Dec.{T, leb, ltb}
 use lib.ListN.{get_or}
-use Rattle.rules.specs.Records.{listed, first_of, most_body}
+use Rattle.rules.specs.Records.{listed, first_of}
 use Rattle.rules.specs.Checks.{not_below}
 use Rattle.rule_laws.proofs.Tests.{pass, or_left, or_right, or_cases, and_left, and_right, and_both}
 use Rattle.rule_laws.proofs.Turns.{one_more}

@@ -1,6 +1,5 @@
 -- `records::undeclared_bit` meets its contract. Below 64 variables the shift is 2 to the power of their number and does
 -- not wrap; from 64 on that power is above every number. Assumes nothing.
-use borrow.Author.Rules.{rules}
 use borrow.Author.Tests.{lt-leb}
 use native.Mathlib.Omega.{arith}
 use Prim.Native.Nat.{◌*◌, ◌%◌, ◌^◌}

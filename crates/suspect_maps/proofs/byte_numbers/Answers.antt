@@ -1,11 +1,10 @@
 -- `suspect_maps::byte_numbers` meets its contract. The loop's invariant: each entry passed is its own number.
 -- The measure is what is left of the 128. Assumes nothing.
-use Prim.Native.Nat.{ℕ, ◌-◌, ◌<◌}
+use Prim.Native.Nat.{ℕ}
 use mathlib.Core.Path.{◌≡◌, sym, ◌∙◌}
 use native.Mathlib.Omega.{arith}
 use borrow.Author.Count.{below_more}
-use borrow.Author.Rules.{rules}
-use lib.ListN.{length, get_or, set, length-set, length-replicate}
+use lib.ListN.{get_or, set, length-set, length-replicate}
 use lib.Seq.{get_or-set_same, get_or-set_other, ext_get_or}
 use Rattle.rule_laws.proofs.Packing.{tabulate_length, tabulate_at}
 use Rattle.suspect_maps.proofs.byte_numbers.Goals as goal

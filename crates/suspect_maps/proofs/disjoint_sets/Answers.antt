@@ -5,7 +5,6 @@ use Prim.Native.Nat.{◌^◌}
 use mathlib.Core.Path.{sym, ap, ◌∙◌}
 use native.Mathlib.Nat.{zero-div}
 use native.Mathlib.Omega.{arith}
-use borrow.Author.Rules.{rules}
 use Rattle.rules.specs.Records.{odd}
 use Rattle.suspect_maps.proofs.Maps.{not_apart, apart_below}
 use Rattle.suspect_maps.proofs.disjoint_sets.Goals as goal

@@ -1,9 +1,7 @@
 -- `suspect_maps::meets` meets its contract. The loop's invariant: `common` is not 0 just if one of the sets in the
 -- bytes passed is both in the map and in the part. The measure is what is left of the 128 bytes. Assumes nothing.
-use Prim.Native.Nat.{◌+◌, ◌*◌, ◌-◌}
-use native.Mathlib.Omega.{arith}
-use borrow.Author.Rules.{rules}
-use Rattle.suspect_maps.proofs.Maps.{Meeting, meeting_more, meeting_end}
+use Prim.Native.Nat.{◌*◌, ◌-◌}
+use Rattle.suspect_maps.proofs.Maps.{Meeting}
 use Rattle.suspect_maps.proofs.meets.Given as goal
 
 abbrev pub invariant-loop-j : goal.invariant-loop-j

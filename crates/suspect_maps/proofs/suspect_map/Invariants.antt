@@ -1,19 +1,11 @@
 -- `suspect_maps::suspect_map` meets its contract. The loop's invariant: of the bytes passed, each bit says
 -- whether its set meets the mask of the secrets, and not that of the masks; each other one is its own number.
 -- The measure is what is left of the 128 bytes. Assumes nothing.
-use Prim.Native.Nat.{ℕ, ◌+◌, ◌*◌, ◌-◌, ◌/◌, ◌%◌, ◌^◌, ◌<◌, ◌≤◌}
-use mathlib.Core.Path.{◌≡◌, sym, ◌∙◌}
-use native.Mathlib.Nat.{div-add-mod}
-use native.Mathlib.Omega.{arith}
-use borrow.Author.Count.{below_more}
-use borrow.Author.Rules.{rules}
-use lib.Bits.{bit_and}
-use lib.ListN.{length, get_or, set, length-set}
-use lib.Seq.{get_or-set_same, get_or-set_other}
+use Prim.Native.Nat.{ℕ, ◌+◌, ◌*◌, ◌-◌, ◌/◌, ◌^◌, ◌<◌, ◌≤◌}
+use mathlib.Core.Path.{◌≡◌}
+use lib.ListN.{length, get_or}
 use Rattle.rules.specs.Records.{odd}
-use Rattle.rule_laws.proofs.Packing.{tabulate_length, tabulate_at}
 use Rattle.suspect_maps.specs.Maps.{suspect_by}
-use Rattle.suspect_maps.proofs.Maps.{bit_not, bit_and_lem, bit_in}
 use Rattle.suspect_maps.proofs.suspect_map.Given as goal
 
 abbrev pub invariant-loop-j : goal.invariant-loop-j
