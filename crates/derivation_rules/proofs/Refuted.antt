@@ -58,6 +58,7 @@ a_first here six = absurd (omega arith)
 a_first (there here) six = absurd (omega arith)
 a_first (there (there here)) six = absurd (omega arith)
 a_first (there (there (there here))) six = refl
+a_first {c = c} (there (there (there (there x17)))) six = elim x17 [ ]
 
 -- so the next step is of that node
 abbrev rules_at : Cell → List Choice

@@ -1,6 +1,6 @@
--- `family_products::eight_zeros` meets its contract. The loop's invariant: the bytes passed, joined, are 0 just if each
+-- `family_lists::eight_zeros` meets its contract. The loop's invariant: the bytes passed, joined, are 0 just if each
 -- of them is. The measure is what is left of the eight. Assumes nothing.
-use Prim.Native.Nat.{ℕ, ◌+◌, ◌-◌, ◌<◌, ◌≤◌}
+use Prim.Native.Nat.{ℕ, ◌+◌}
 use mathlib.Core.Path.{◌≡◌, refl}
 use mathlib.Core.Logic.{◌↔◌}
 use mathlib.Core.List.{List}
@@ -28,13 +28,12 @@ loop-k-init c = (omega arith, (λ e i l. absurd (omega arith), λ zeros. refl))
 
 pub loop-k-preserved : goal.loop-k-preserved
 loop-k-preserved c =
-    let turn = c.before.before in
-    let args = turn.before.args in
-    (omega arith, one_more args.work.now args.at turn.loop-k.k turn.loop-k.joined turn.loop-k.invariant.1)
+    let args = c.args in
+    (omega arith, one_more args.work.now args.at c.loop-k.k c.loop-k.joined c.loop-k.invariant.1)
 
 pub returns : goal.returns
 returns c =
-    let joined = c.before.loop-k.joined in
-    let all : c.before.loop-k.k ≡ 8 = omega arith in
-    let zeros = rw all at c.before.loop-k.invariant.1 in
+    let joined = c.loop-k.joined in
+    let all : c.loop-k.k ≡ 8 = omega arith in
+    let zeros = rw all at c.loop-k.invariant.1 in
     (λ t. zeros.0 (eqb→eq joined 0 t), λ each. pass (eq-eqb joined 0 (zeros.1 each)))

@@ -1,16 +1,10 @@
--- `family_products::eight_zeros` meets its contract. The loop's invariant: the bytes passed, joined, are 0 just if each
+-- `family_lists::eight_zeros` meets its contract. The loop's invariant: the bytes passed, joined, are 0 just if each
 -- of them is. The measure is what is left of the eight. Assumes nothing.
 use Prim.Native.Nat.{ℕ, ◌+◌, ◌-◌, ◌<◌, ◌≤◌}
-use mathlib.Core.Path.{◌≡◌, refl}
+use mathlib.Core.Path.{◌≡◌}
 use mathlib.Core.Logic.{◌↔◌}
 use mathlib.Core.List.{List}
-use native.Mathlib.Omega.{arith}
-use borrow.Author.Count.{below_more}
-use borrow.Author.Tests.{eq-eqb}
-use lib.Bits.{bit_or, or_add_and, and_le_l, and_le_r}
-use lib.Dec.{eqb→eq}
 use lib.ListN.{get_or}
-use Rattle.rule_laws.proofs.Tests.{pass}
 use Rattle.family_lists.proofs.eight_zeros.Given as goal
 
 -- the first k bytes from `at` on are 0

@@ -1,15 +1,10 @@
--- `family_products::list_byte` meets its contract. The loop's invariant: those of the sets up to the bits passed are
+-- `family_lists::list_byte` meets its contract. The loop's invariant: those of the sets up to the bits passed are
 -- listed. The measure is what is left of the 8 bits. Assumes nothing.
 use Prim.Native.Nat.{ℕ, ◌+◌, ◌-◌, ◌≤◌}
-use mathlib.Core.Path.{◌≡◌, refl, sym, ◌∙◌}
-use mathlib.Core.Logic.{⊎_elim}
+use mathlib.Core.Path.{◌≡◌}
 use mathlib.Core.List.{List}
-use native.Mathlib.Nat.{add-zero}
-use native.Mathlib.Omega.{arith}
-use borrow.Author.Tests.{eq-eqb, ne_eqb}
-use lib.ListN.{length, length-set}
+use lib.ListN.{length}
 use Rattle.families.specs.Present.{BitsOf, Listed}
-use Rattle.families.proofs.Present.{listed_one, listed_none}
 use Rattle.family_lists.proofs.list_byte.Given as goal
 
 abbrev pub invariant-loop-k : goal.invariant-loop-k

@@ -1,15 +1,11 @@
--- `family_products::list_eight` meets its contract. The loop's invariant: the sets of the bytes passed that the
+-- `family_lists::list_eight` meets its contract. The loop's invariant: the sets of the bytes passed that the
 -- part holds are listed. A byte that is 0 has none (`listed_zero`). The measure is what is left of the eight bytes.
 -- Assumes nothing.
 use Prim.Native.Nat.{ℕ, ◌+◌, ◌*◌, ◌-◌, ◌≤◌}
-use mathlib.Core.Path.{◌≡◌, refl, ◌∙◌}
-use mathlib.Core.Logic.{⊎_elim}
+use mathlib.Core.Path.{◌≡◌}
 use mathlib.Core.List.{List}
-use native.Mathlib.Nat.{add-zero}
-use native.Mathlib.Omega.{arith}
 use lib.ListN.{length}
 use Rattle.families.specs.Present.{Listed}
-use Rattle.families.proofs.Present.{bits_in, listed_zero}
 use Rattle.family_lists.proofs.list_eight.Given as goal
 
 abbrev pub invariant-loop-passed : goal.invariant-loop-passed

@@ -1,16 +1,13 @@
--- `family_products::list_sets` meets its contract. The loop's invariant: the sets of the bytes passed that the
+-- `family_lists::list_sets` meets its contract. The loop's invariant: the sets of the bytes passed that the
 -- part holds are listed. Eight bytes that are 0 have none (`listed_zeros`). The measure is what is left of the
 -- sixteen times eight. Assumes nothing.
-use Prim.Native.Nat.{◌+◌, ◌*◌, ◌-◌, ◌≤◌}
+use Prim.Native.Nat.{◌+◌, ◌*◌}
 use mathlib.Core.Path.{◌≡◌, refl, ◌∙◌}
-use mathlib.Core.Logic.{⊎_elim}
 use native.Mathlib.Omega.{arith}
-use borrow.Author.Tests.{not-false}
-use lib.ListN.{length}
 use Rattle.rules.specs.Records.{most_sets}
 use Rattle.rule_laws.proofs.Tests.{pass}
 use Rattle.families.specs.Parts.{sets_under, family_at}
-use Rattle.families.specs.Present.{reversed, list_at, Listed}
+use Rattle.families.specs.Present.{reversed, list_at}
 use Rattle.families.proofs.Present.{listed_zeros}
 use Rattle.family_lists.proofs.list_sets.Goals as goal
 use Rattle.family_lists.proofs.list_sets.Goals.{else-not-eight_zeros, then-not-eight_zeros}
@@ -21,33 +18,32 @@ loop-eight-init c = (omega arith, refl, omega arith, record { count = refl; sets
 
 pub loop-eight-preserved : goal.loop-eight-preserved
 loop-eight-preserved c =
-    let turn = c.before.before.before in
-    let args = turn.before.before.before.args in
-    let eight = turn.loop-eight.eight in
-    let (few, long, most, so_far) = turn.loop-eight.invariant in
+    let args = c.args in
+    let eight = c.loop-eight.eight in
+    let (few, long, most, so_far) = c.loop-eight.invariant in
     let next : 64 * (eight + 1) ≡ 64 * eight + 64 = omega arith in
     elim c.if-not-eight_zeros.branch [
       | then-not-eight_zeros w ↦ rw (w.sets-is, w.listed-is, next) (
         omega arith,
-        w.list_eight-listed.kept.1.1.1.0 ∙ long,
-        omega (arith, w.list_eight-listed.ensures.1),
-        w.list_eight-listed.ensures.0 args.sets.now so_far,
+        w.list_eight-listed.auto.sets ∙ long,
+        omega (arith, w.list_eight-listed.ensures.few),
+        w.list_eight-listed.ensures.by_index args.sets.now so_far,
       )
-      | else-not-eight_zeros w ↦ rw (w.1, w.2, next) (
+      | else-not-eight_zeros w ↦ rw (w.sets-is, w.listed-is, next) (
         omega arith,
         long,
         omega arith,
-        listed_zeros args.work.now args.part eight args.sets.now _ _ (c.before.eight_zeros.ensures.0 (pass (not-false c.before.eight_zeros.result w.0.false))) so_far 8 (omega arith),
+        listed_zeros args.work.now args.part eight args.sets.now _ _ (c.eight_zeros.ensures.0 (pass w.if-not-eight_zeros.false)) so_far 8 (omega arith),
       )
     ]
 
 pub shape_of-sets : goal.shape_of-sets
-shape_of-sets c = c.before.loop-eight.invariant.1
+shape_of-sets c = c.loop-eight.invariant.1
 
 pub returns : goal.returns
 unfolding family_at list_at
-returns c = let all : 64 * c.before.loop-eight.eight ≡ most_sets = omega arith in
-    let done = rw all at c.before.loop-eight.invariant.3 in
+returns c = let all : 64 * c.loop-eight.eight ≡ most_sets = omega arith in
+    let done = rw all at c.loop-eight.invariant.3 in
     record {
       sets = done.sets;
       count = done.count;

@@ -1,17 +1,10 @@
--- `family_products::list_sets` meets its contract. The loop's invariant: the sets of the bytes passed that the
+-- `family_lists::list_sets` meets its contract. The loop's invariant: the sets of the bytes passed that the
 -- part holds are listed. Eight bytes that are 0 have none (`listed_zeros`). The measure is what is left of the
 -- sixteen times eight. Assumes nothing.
-use Prim.Native.Nat.{◌+◌, ◌*◌, ◌-◌, ◌≤◌}
-use mathlib.Core.Path.{◌≡◌, refl, ◌∙◌}
-use mathlib.Core.Logic.{⊎_elim}
-use native.Mathlib.Omega.{arith}
-use borrow.Author.Tests.{not-false}
+use Prim.Native.Nat.{◌*◌, ◌-◌, ◌≤◌}
+use mathlib.Core.Path.{◌≡◌}
 use lib.ListN.{length}
-use Rattle.rules.specs.Records.{most_sets}
-use Rattle.rule_laws.proofs.Tests.{pass}
-use Rattle.families.specs.Parts.{sets_under, family_at}
-use Rattle.families.specs.Present.{reversed, list_at, Listed}
-use Rattle.families.proofs.Present.{listed_zeros}
+use Rattle.families.specs.Present.{Listed}
 use Rattle.family_lists.proofs.list_sets.Given as goal
 
 abbrev pub invariant-loop-eight : goal.invariant-loop-eight
