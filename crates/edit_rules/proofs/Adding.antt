@@ -1,6 +1,6 @@
 -- A new node at the end of a netlist: where its record is offered, the node has room and can stand there, and the
 -- netlist with it obeys the record rules. And the nodes before it report what they did. Assumes nothing.
-use Prim.Native.Nat.{ℕ, ◌+◌, ◌^◌, ◌<◌, ◌≤◌}
+use Prim.Native.Nat.{ℕ, ◌^◌, ◌<◌, ◌≤◌}
 use mathlib.Core.Path.{◌≡◌, refl, sym, ap, ◌∙◌}
 use mathlib.Core.Bool.{false}
 use mathlib.Core.List.{List, [], ◌∷◌, ◌++◌, map-append}

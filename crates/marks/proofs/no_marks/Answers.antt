@@ -3,12 +3,8 @@ use Prim.Native.Nat.{ℕ}
 use Rattle.rules.specs.Records.{most_nodes}
 use Rattle.netlists.proofs.Netlists.{padded_none}
 use Rattle.marks.specs.Marks.{flat_marks, marks_in}
-use Rattle.marks.proofs.no_marks.Statement.{statement}
-use Rattle.marks.proofs.no_marks.Tie as tie
+use Rattle.marks.proofs.no_marks.Goals as goal
 
-returns : tie.Need-returns
+pub returns : goal.returns
 unfolding flat_marks marks_in
 returns c = cc (padded_none {A = ℕ} most_nodes 0)
-
-pub no-marks-spec : {M : Type 1} → statement M
-no-marks-spec = tie.close (tie.spec returns)
