@@ -44,7 +44,7 @@ put-decimal-cast-put-byte t c = omega arith
 put-decimal-add-put-byte : (t : ℕ) → put-decimal-lts.Need-overflow-add-put-byte (callees t) (put-decimal-at t) put-decimal.Post
 put-decimal-add-put-byte t c = omega arith
 
-put-decimal-put-byte-requires : (t : ℕ) → put-decimal-lts.Need-put-byte-requires (callees t) (put-decimal-at t) put-decimal.Post
+put-decimal-put-byte-requires : (t : ℕ) → put-decimal-lts.Need-put_byte-requires (callees t) (put-decimal-at t) put-decimal.Post
 put-decimal-put-byte-requires t c κs = omega (arith, one_digit c.before.before.before.args.number c.before.if1.true)
 
 put-decimal-same-length : (t : ℕ) → put-decimal-lts.Need-same-length (callees t) (put-decimal-at t) put-decimal.Post
@@ -62,7 +62,7 @@ put-decimal-cast-put-byte-2 t c = omega arith
 put-decimal-add-put-byte-2 : (t : ℕ) → put-decimal-lts.Need-overflow-add-put-byte-2 (callees t) (put-decimal-at t) put-decimal.Post
 put-decimal-add-put-byte-2 t c = omega arith
 
-put-decimal-put-byte-requires-2 : (t : ℕ) → put-decimal-lts.Need-put-byte-requires-2 (callees t) (put-decimal-at t) put-decimal.Post
+put-decimal-put-byte-requires-2 : (t : ℕ) → put-decimal-lts.Need-put_byte-requires-2 (callees t) (put-decimal-at t) put-decimal.Post
 put-decimal-put-byte-requires-2 t c κs =
     let start = c.before.before.before.before.before.before.before in
     omega (arith, more-digits start.args.number c.before.before.before.before.before.if1.false)
@@ -71,7 +71,7 @@ put-decimal-same-length-2 : (t : ℕ) → put-decimal-lts.Need-same-length-2 (ca
 put-decimal-same-length-2 t c =
     c.before.before.put-byte2.auto.0 ∙ c.before.before.before.before.before.before.put-decimal.auto.0
 
-put-decimal-returns-2 : (t : ℕ) → put-decimal-lts.Need-returns-2 (callees t) (put-decimal-at t) put-decimal.Post
+put-decimal-returns-2 : (t : ℕ) → put-decimal-lts.Need-returns (callees t) (put-decimal-at t) put-decimal.Post
 put-decimal-returns-2 t c =
     let recursive = c.before.before.before.before.before.before in
     appended_as (sym (decimal_more _ recursive.before.before.if1.false))

@@ -8,8 +8,7 @@ use Rattle.rules.specs.Families.{Finding, clear, suspect_at}
 use Rattle.rules.specs.Listing.{word, line, half_line}
 use Rattle.listing_lines.specs.Text.{found_text}
 use Rattle.listing_lines.proofs.Text.{appended_more}
-use Rattle.listing_lines.proofs.put_halves.Statement.{statement}
-use Rattle.listing_lines.proofs.put_halves.Tie as tie
+use Rattle.listing_lines.proofs.put_halves.Goals as goal
 
 -- a half's line: its name, and what it says behind that
 half-text : (name : List ℕ) (found : Finding) → half_line name found ≡ name ++ found_text found
@@ -17,7 +16,7 @@ unfolding line half_line found_text
 half-text name clear = refl
 half-text name (suspect_at i A) = refl
 
-returns : tie.Need-returns
+pub returns : goal.returns
 unfolding word
 returns c =
     let found-glitch = c.before.before in
@@ -26,11 +25,5 @@ returns c =
     let settled = found-settled.before.before.before.before in
     rw (half-text (word "settled") _, half-text (word "glitch") _)
     (appended_more
-    (appended_more settled.put_word.ensures found-settled.put-finding.ensures.0)
-    (appended_more glitch.put-word2.ensures found-glitch.put-finding2.ensures.0))
-
-pub put-halves-spec : {M : Type 1} → statement M
-put-halves-spec =
-    tie.close
-    (tie.spec (λ c. search rules) (λ c κs. search rules) (λ c κs. search rules) (λ c. search rules)
-    (λ c κs. search rules) (λ c κs. search rules) (λ c. search rules) returns)
+    (appended_more settled.put_word-first.ensures found-settled.put_finding-next.ensures.appended)
+    (appended_more glitch.put_word-second.ensures found-glitch.put_finding.ensures.appended))
