@@ -33,44 +33,26 @@ numbered (gate kind ops) = omega (arith, (known kind).above, (known kind).below)
 said : {kind : ℕ} (number : ℕ) → kind ≡ number → (cell : Cell) → kind ≡ kind_of cell → word_for number ≡ kind_name cell
 said number k cell e = ap word_for (sym k ∙ e) ∙ named cell
 
-pub returns-in-2 : goal.returns-in-2
+pub returns-in-2-clause-result_value : goal.returns-in-2-clause-result_value
 unfolding word_for word
-returns-in-2 c = record {
-  result_value = said 2 c.before.before.in-2.keys1;
-  short = (omega arith, λ e. refl, refl);
-}
+returns-in-2-clause-result_value c = said 2 c.in-2.is
 
-pub returns-in-3 : goal.returns-in-3
+pub returns-in-3-clause-result_value : goal.returns-in-3-clause-result_value
 unfolding word_for word
-returns-in-3 c = record {
-  result_value = said 3 c.before.before.in-3.keys2;
-  short = (omega arith, λ e. omega arith, refl);
-}
+returns-in-3-clause-result_value c = said 3 c.in-3.is
 
-pub returns-in-4 : goal.returns-in-4
+pub returns-in-4-clause-result_value : goal.returns-in-4-clause-result_value
 unfolding word_for word
-returns-in-4 c = record {
-  result_value = said 4 c.before.before.in-4.keys3;
-  short = (omega arith, λ e. omega arith, refl);
-}
+returns-in-4-clause-result_value c = said 4 c.in-4.is
 
-pub returns-in-5 : goal.returns-in-5
+pub returns-in-5-clause-result_value : goal.returns-in-5-clause-result_value
 unfolding word_for word
-returns-in-5 c = record {
-  result_value = said 5 c.before.before.in-5.keys4;
-  short = (omega arith, λ e. omega arith, refl);
-}
+returns-in-5-clause-result_value c = said 5 c.in-5.is
 
-pub returns-in-6 : goal.returns-in-6
+pub returns-in-6-clause-result_value : goal.returns-in-6-clause-result_value
 unfolding word_for word
-returns-in-6 c = record {
-  result_value = said 6 c.before.before.in-6.keys5;
-  short = (omega arith, λ e. omega arith, refl);
-}
+returns-in-6-clause-result_value c = said 6 c.in-6.is
 
-pub returns-in_default : goal.returns-in_default
+pub returns-in_default-clause-result_value : goal.returns-in_default-clause-result_value
 unfolding word_for word
-returns-in_default c = record {
-  result_value = λ cell e. said 7 (omega (arith, numbered cell)) cell e;
-  short = (omega arith, λ e. omega arith, refl);
-}
+returns-in_default-clause-result_value c = λ cell e. said 7 (omega (arith, numbered cell)) cell e

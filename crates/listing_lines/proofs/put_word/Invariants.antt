@@ -1,13 +1,8 @@
 -- `listing_lines::put_word` meets its contract. The loop's invariant: the word's first k bytes are behind the front.
 -- The measure is what is left of the word. Assumes nothing.
 use Prim.Native.Nat.{◌+◌, ◌-◌, ◌≤◌}
-use native.Mathlib.Nat.{add-zero, add_assoc}
-use native.Mathlib.Numerals.{add-one}
-use native.Mathlib.Omega.{arith}
 use lib.ListN.{length, take}
-use lib.Seq.{take-suc, take_all}
 use Rattle.listing_lines.specs.Text.{Appended}
-use Rattle.listing_lines.proofs.Text.{appended_none, appended_byte, appended_more, appended_as}
 use Rattle.listing_lines.proofs.put_word.Given as goal
 
 abbrev pub invariant-loop-k : goal.invariant-loop-k
