@@ -20,7 +20,6 @@ use Rattle.netlists.specs.Netlists.{padded}
 use Rattle.netlists.proofs.Netlists.{padded_set}
 use Rattle.scanner.specs.Numbers.{number_in, cut}
 use Rattle.read_words.specs.declared.Fault.{Fault}
-use Rattle.read_words.specs.declared.Fault.TheVariants as Fault
 use Rattle.read_words.specs.declared.Line.{Line}
 use Rattle.read_words.specs.declared.Worded.TheVariants as Worded
 use Rattle.read_words.specs.Words.{Said, nothing, says, wrong, number_fault, with_numbers, operand_in, with_operands, with_variables, forms, read_by, record_in}

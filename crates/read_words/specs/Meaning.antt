@@ -6,12 +6,9 @@ use Rattle.rules.specs.Listing.{most_input}
 use Rattle.netlists.specs.Netlists.{padded}
 use Rattle.scanner.specs.Words.{lines_of}
 use Rattle.read_words.specs.declared.Fault.{Fault}
-use Rattle.read_words.specs.declared.Fault.TheVariants as Fault
 use Rattle.read_words.specs.declared.Line.{Line}
 use Rattle.read_words.specs.declared.Worded.{Worded}
-use Rattle.read_words.specs.declared.Worded.TheVariants as Worded
 use Rattle.read_words.specs.declared.BlockWords.{BlockWords}
-use Rattle.read_words.specs.declared.BlockWords.TheVariants as BlockWords
 use Rattle.read_words.specs.Words.{Said, nothing, says, wrong, Form, form, forms}
 use Rattle.read_words.specs.Words.{BlockSaid, block, wrong_in, block_in}
 

@@ -9,7 +9,6 @@ use Rattle.rules.specs.Listing.{word}
 use Rattle.scanner.specs.Words.{words, same, lines_of}
 use Rattle.scanner.specs.Numbers.{number_in, cut}
 use Rattle.read_words.specs.declared.Fault.{Fault}
-use Rattle.read_words.specs.declared.Fault.TheVariants as Fault
 
 -- ---- the record of a line
 

@@ -1,7 +1,6 @@
 -- The number that a word is in decimal digits. Cited by the contracts of this crate. Assumes nothing.
 use Rattle.std.specs.Prelude.{ℕ, ◌+◌, ◌*◌, ◌-◌, ◌^◌, min, Bool, true, ◌&&◌, cond, List, [], ◌∷◌, leb, ltb, eqb, length}
 use Rattle.scanner.specs.declared.Number.{Number}
-use Rattle.scanner.specs.declared.Number.TheVariants as Number
 
 -- whether a byte is a decimal digit, `0` to `9`
 abbrev pub is_digit : ℕ → Bool

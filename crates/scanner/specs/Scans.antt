@@ -2,7 +2,6 @@
 -- contracts of this crate. Assumes nothing.
 use Rattle.std.specs.Prelude.{ℕ, suc, ◌-◌, ◌≤◌, ◌<◌, ◌≡◌, Bool, not, cond, ◌||◌, List, [], ◌∷◌, eqb, length, take, drop}
 use Rattle.scanner.specs.declared.Stop.{Stop}
-use Rattle.scanner.specs.declared.Stop.TheVariants as Stop
 use Rattle.scanner.specs.Words.{lines_of, is_blank, starts_comment, words}
 
 -- the place of the first entry that passes a test, and the length where none does

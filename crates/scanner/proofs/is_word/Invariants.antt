@@ -1,14 +1,8 @@
 -- `scanner::is_word` meets its contract. The loop's invariant: the bytes passed are the same.
 -- The measure is what is left of the word. Assumes nothing.
-use borrow.Author.Count.{below_more}
-use borrow.Author.Rules.{rules}
 use Prim.Native.Nat.{ℕ, ◌-◌, ◌≤◌, ◌<◌}
-use mathlib.Core.List.{List}
-use mathlib.Core.Path.{◌≡◌, ap}
-use native.Mathlib.Omega.{arith}
+use mathlib.Core.Path.{◌≡◌}
 use lib.ListN.{length, get_or}
-use lib.Seq.{ext_get_or}
-use Rattle.scanner.proofs.Words.{agree, differ}
 use Rattle.scanner.proofs.is_word.Given as goal
 
 abbrev pub invariant-loop-k : goal.invariant-loop-k

@@ -1,13 +1,9 @@
 -- `scanner::number_of` meets its contract. The loop's invariant: the word is the number that the digits left say
 -- behind the value so far, which fits. The measure is what is left of the word. Assumes nothing.
-use borrow.Author.Rules.{rules}
-use borrow.Author.Tests.{eq-eqb, ne_eqb}
 use Prim.Native.Nat.{◌-◌, ◌^◌, ◌≤◌, ◌<◌}
-use mathlib.Core.Path.{◌≡◌, sym, ◌∙◌}
-use native.Mathlib.Omega.{arith}
+use mathlib.Core.Path.{◌≡◌}
 use lib.ListN.{length, drop}
 use Rattle.scanner.specs.Numbers.{number_behind, number_in}
-use Rattle.scanner.proofs.Numbers.{from_place, no_digit, one_digit, too_high, at_end}
 use Rattle.scanner.proofs.number_of.Given as goal
 
 abbrev pub invariant-loop-k : goal.invariant-loop-k

@@ -1,11 +1,9 @@
 -- `scanner::past` meets its contract. The loop's invariant: a scan from here stops where one from the start does.
 -- The measure is what is left of the text. Assumes nothing.
 use Prim.Native.Nat.{◌+◌, ◌-◌, ◌≤◌}
-use mathlib.Core.Path.{◌≡◌, sym, ◌∙◌}
-use borrow.Author.Rules.{rules}
+use mathlib.Core.Path.{◌≡◌}
 use lib.ListN.{length, drop}
 use Rattle.scanner.specs.Scans.{first, stops_at}
-use Rattle.scanner.proofs.Scans.{stops_here, goes_on, stops_at_end}
 use Rattle.scanner.proofs.past.Given as goal
 
 abbrev pub invariant-loop-at : goal.invariant-loop-at

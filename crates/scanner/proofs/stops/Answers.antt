@@ -1,5 +1,4 @@
 -- `scanner::stops` meets its contract: each arm is the test of its letters. Assumes nothing.
-use borrow.Author.Rules.{rules}
 use Rattle.scanner.specs.Scans.{stops_at}
 use Rattle.scanner.proofs.stops.Goals as goal
 

@@ -1,11 +1,8 @@
 -- `scanner::word_at` meets its contract. The loop's invariant: the words from here on are those behind the first i.
 -- The measure is the number of words left to pass. Assumes nothing.
-use Prim.Native.Nat.{◌-◌, ◌≤◌}
 use mathlib.Core.Path.{◌≡◌, refl}
 use native.Mathlib.Omega.{arith}
 use borrow.Author.Rules.{rules}
-use lib.ListN.{length, drop}
-use Rattle.scanner.specs.Words.{words}
 use Rattle.scanner.proofs.Words.{word_here, word_missing, word_passed}
 use Rattle.scanner.proofs.word_at.Goals as goal
 

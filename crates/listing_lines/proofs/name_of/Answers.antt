@@ -8,8 +8,7 @@ use lib.ListN.{get_or}
 use Rattle.rules.specs.Records.{NOT, XOR, AND, OR, register, last_kind, Cell, input, gate, kind_of}
 use Rattle.rules.specs.Listing.{word, name_of, kind_name}
 use Rattle.rule_laws.proofs.Operands.{known}
-use Rattle.listing_lines.proofs.name_of.Statement.{statement}
-use Rattle.listing_lines.proofs.name_of.Tie as tie
+use Rattle.listing_lines.proofs.name_of.Goals as goal
 
 -- the word for a kind
 word_for : ℕ → List ℕ
@@ -34,29 +33,26 @@ numbered (gate kind ops) = omega (arith, (known kind).above, (known kind).below)
 said : {kind : ℕ} (number : ℕ) → kind ≡ number → (cell : Cell) → kind ≡ kind_of cell → word_for number ≡ kind_name cell
 said number k cell e = ap word_for (sym k ∙ e) ∙ named cell
 
-returns : tie.Need-returns
+pub returns-in-2-clause-result_value : goal.returns-in-2-clause-result_value
 unfolding word_for word
-returns c = (said 2 c.before.before.match.keys1, (omega arith, λ e. refl, refl))
+returns-in-2-clause-result_value c = said 2 c.in-2.is
 
-returns-2 : tie.Need-returns-2
+pub returns-in-3-clause-result_value : goal.returns-in-3-clause-result_value
 unfolding word_for word
-returns-2 c = (said 3 c.before.before.match.keys2, (omega arith, λ e. omega arith, refl))
+returns-in-3-clause-result_value c = said 3 c.in-3.is
 
-returns-3 : tie.Need-returns-3
+pub returns-in-4-clause-result_value : goal.returns-in-4-clause-result_value
 unfolding word_for word
-returns-3 c = (said 4 c.before.before.match.keys3, (omega arith, λ e. omega arith, refl))
+returns-in-4-clause-result_value c = said 4 c.in-4.is
 
-returns-4 : tie.Need-returns-4
+pub returns-in-5-clause-result_value : goal.returns-in-5-clause-result_value
 unfolding word_for word
-returns-4 c = (said 5 c.before.before.match.keys4, (omega arith, λ e. omega arith, refl))
+returns-in-5-clause-result_value c = said 5 c.in-5.is
 
-returns-5 : tie.Need-returns-5
+pub returns-in-6-clause-result_value : goal.returns-in-6-clause-result_value
 unfolding word_for word
-returns-5 c = (said 6 c.before.before.match.keys5, (omega arith, λ e. omega arith, refl))
+returns-in-6-clause-result_value c = said 6 c.in-6.is
 
-returns-6 : tie.Need-returns-6
+pub returns-in_default-clause-result_value : goal.returns-in_default-clause-result_value
 unfolding word_for word
-returns-6 c = (λ cell e. said 7 (omega (arith, numbered cell)) cell e, (omega arith, λ e. omega arith, refl))
-
-pub name-of-spec : {M : Type 1} → statement M
-name-of-spec = tie.close (tie.spec returns returns-2 returns-3 returns-4 returns-5 returns-6)
+returns-in_default-clause-result_value c = λ cell e. said 7 (omega (arith, numbered cell)) cell e
