@@ -1,5 +1,4 @@
 -- `test_second_checker::add_differences` is safe and ends: each turn leaves fewer sets. Assumes nothing.
-use borrow.Author.Rules.{rules}
 use Prim.Native.Nat.{◌-◌}
 use Rattle.test_second_checker.proofs.add_differences.Given as goal
 

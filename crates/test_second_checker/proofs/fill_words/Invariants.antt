@@ -1,5 +1,4 @@
 -- `test_second_checker::fill_words` is safe and ends: each turn leaves fewer words. Assumes nothing.
-use borrow.Author.Rules.{rules}
 use Prim.Native.Nat.{◌-◌}
 use Rattle.test_second_checker.proofs.fill_words.Given as goal
 

@@ -1,5 +1,4 @@
 -- `test_second_checker::first_pair` is safe and ends: each turn leaves fewer pairs. Assumes nothing.
-use borrow.Author.Rules.{rules}
 use Rattle.test_second_checker.proofs.first_pair.Given as goal
 
 abbrev pub invariant-loop-k : goal.invariant-loop-k

@@ -1,5 +1,4 @@
 -- `test_second_checker::first_suspect` is safe and ends: each turn leaves fewer nodes. Assumes nothing.
-use borrow.Author.Rules.{rules}
 use Rattle.test_second_checker.proofs.first_suspect.Given as goal
 
 abbrev pub invariant-loop-i : goal.invariant-loop-i

@@ -1,5 +1,4 @@
 -- `test_second_checker::has_set` is safe and ends: each turn leaves fewer sets. Assumes nothing.
-use borrow.Author.Rules.{rules}
 use Prim.Native.Nat.{◌-◌}
 use Rattle.test_second_checker.proofs.has_set.Given as goal
 

@@ -1,5 +1,4 @@
 -- `test_second_checker::input_word` is safe and ends: it shifts by less than ten. Assumes nothing.
-use borrow.Author.Rules.{rules}
 use Prim.Native.Nat.{◌-◌, ◌≤◌}
 use Rattle.test_second_checker.proofs.input_word.Given as goal
 

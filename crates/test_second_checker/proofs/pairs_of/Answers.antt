@@ -1,7 +1,6 @@
 -- `test_second_checker::pairs_of` is safe and ends: the product of two numbers of a byte has two bytes.
 -- Assumes nothing.
 use native.Mathlib.Omega.{arith}
-use borrow.Author.Rules.{rules}
 use Prim.Native.Nat.{ℕ, ◌*◌, ◌/◌, ◌^◌, ◌<◌, ◌≤◌}
 use native.Mathlib.Nat.{mul-le-mul}
 use Rattle.test_second_checker.proofs.pairs_of.Goals as goal

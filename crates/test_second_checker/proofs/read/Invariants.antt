@@ -1,5 +1,4 @@
 -- `test_second_checker::read` is safe and ends: each turn leaves less of the file. Assumes nothing.
-use borrow.Author.Rules.{rules}
 use Prim.Native.Nat.{◌-◌}
 use lib.ListN.{length}
 use Rattle.test_second_checker.proofs.read.Given as goal

@@ -1,5 +1,4 @@
 -- `test_second_checker::records_of` is safe and ends: each turn leaves fewer nodes. Assumes nothing.
-use borrow.Author.Rules.{rules}
 use Prim.Native.Nat.{◌-◌, ◌≤◌}
 use Rattle.test_second_checker.proofs.records_of.Given as goal
 

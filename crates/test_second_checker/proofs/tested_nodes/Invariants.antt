@@ -1,5 +1,4 @@
 -- `test_second_checker::tested_nodes` is safe and ends: each turn leaves fewer nodes. Assumes nothing.
-use borrow.Author.Rules.{rules}
 use Prim.Native.Nat.{◌-◌, ◌≤◌}
 use Rattle.test_second_checker.proofs.tested_nodes.Given as goal
 

@@ -1,5 +1,4 @@
 -- `test_second_checker::work_out` is safe and ends: each turn leaves fewer lists. Assumes nothing.
-use borrow.Author.Rules.{rules}
 use Prim.Native.Nat.{◌-◌, ◌≤◌}
 use Rattle.test_second_checker.proofs.work_out.Given as goal
 
