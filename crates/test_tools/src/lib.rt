@@ -4,9 +4,11 @@
 
 ghost use Rattle.std.specs.Prelude.{◌≡◌, ◌&&◌, ◌==◌};
 
-use libc::STDOUT_FILENO;
 use rules::{Answer, Half, NodeRecord, Refusal, Reply};
 use std::num::wrapping_add_usize;
+
+// Standard output's descriptor.
+const STDOUT: i32 = 1;
 
 // ---- counts
 
@@ -54,13 +56,13 @@ pub fn same_record(a: NodeRecord, b: NodeRecord) -> bool
 
 // Writes a text to standard output.
 pub fn print(text: &[u8]) {
-    io::write_all(STDOUT_FILENO, text);
+    io::write_all(STDOUT, text);
 }
 
 // A blank and a number.
 pub fn print_number(x: usize) {
     print(b" ");
-    io::print_decimal(STDOUT_FILENO, x as u64);
+    io::print_decimal(STDOUT, x as u64);
 }
 
 // A byte.

@@ -1,0 +1,9 @@
+-- `test_generator::variables` is safe and ends: each turn leaves fewer variables. Assumes nothing.
+use Prim.Native.Nat.{◌-◌}
+use Rattle.test_generator.proofs.variables.Given as goal
+
+abbrev pub invariant-loop-v : goal.invariant-loop-v
+invariant-loop-v l = Unit
+
+abbrev pub decreases-loop-v : goal.decreases-loop-v
+decreases-loop-v l = l.shape.variables - l.v
