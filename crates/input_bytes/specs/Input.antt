@@ -2,7 +2,6 @@
 use Rattle.std.specs.Prelude.{ℕ, ◌+◌, ◌≤◌, List, length}
 use Rattle.io.specs.Counts.{IsPrefixLen}
 use Rattle.input_bytes.specs.declared.Input.{Input}
-use Rattle.input_bytes.specs.declared.Input.TheVariants as Input
 
 -- as many bytes as it says stand at the front
 abbrev pub Front : Input → List ℕ → Type 0
