@@ -4,14 +4,12 @@ use Prim.Native.Nat.{ℕ, ◌+◌, ◌*◌}
 use mathlib.Core.Path.{◌≡◌, ◌∙◌}
 use mathlib.Core.List.{List}
 use native.Mathlib.Omega.{arith}
-use borrow.Author.Rules.{rules}
 use Rattle.rules.specs.Records.{Cell}
 use Rattle.rules.specs.Families.{settled_rule, glitch_rule, families_rule}
 use Rattle.families.specs.Parts.{HasPart, with_family}
 use Rattle.nodes.specs.Work.{so_far, with_families}
 use Rattle.nodes.proofs.Nodes.{so_far_with}
-use Rattle.nodes.proofs.node_families.Statement.{statement}
-use Rattle.nodes.proofs.node_families.Tie as tie
+use Rattle.nodes.proofs.node_families.Goals as goal
 
 both : (before settled after : List ℕ) (i : ℕ) (cell : Cell) → HasPart before (2 * i)
     → settled ≡ with_family before (2 * i) (settled_rule (so_far before i) cell)
@@ -20,11 +18,7 @@ both : (before settled after : List ℕ) (i : ℕ) (cell : Cell) → HasPart bef
 unfolding with_families families_rule
 both before settled after i cell has p q = q ∙ rw (p, so_far_with before i (settled_rule (so_far before i) cell) has)
 
-returns : tie.Need-returns
+pub returns : goal.returns
 returns c = λ cell e.
-    both _ _ _ _ cell (omega arith) (c.before.before.before.before.before.before.settled-family.ensures cell e)
-    (c.before.before.glitch-family.ensures cell e)
-
-pub node-families-spec : {M : Type 1} → statement M
-node-families-spec =
-    tie.close (tie.spec (λ c κs. search rules) (λ c κs. search rules) (λ c. search rules) returns)
+    both _ _ _ _ cell (omega arith) (c.settled_family.ensures cell e)
+    (c.glitch_family.ensures cell e)
