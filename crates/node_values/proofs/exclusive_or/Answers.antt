@@ -3,14 +3,13 @@
 use Prim.Native.Nat.{ℕ, suc, ◌+◌, ◌-◌, ◌/◌, ◌≤◌, ◌<◌}
 use mathlib.Core.Path.{◌≡◌, refl, sym, ◌∙◌}
 use mathlib.Core.Bool.{Bool, true, false, not, ◌&&◌, xor, beq}
-use mathlib.Core.Logic.{⊎_elim}
 use native.Mathlib.Omega.{arith}
 use borrow.Author.Tests.{eq-eqb, ne_eqb}
 use Rattle.rules.specs.Records.{odd, bits}
 use Rattle.rules.specs.Values.{exclusive_or}
 use Rattle.rule_laws.proofs.Characters.{false_xor}
-use Rattle.node_values.proofs.exclusive_or.Statement.{statement}
-use Rattle.node_values.proofs.exclusive_or.Tie as tie
+use Rattle.node_values.proofs.exclusive_or.Goals as goal
+use Rattle.node_values.proofs.exclusive_or.Goals.{Joined-s-eq1, else-s-eq1, then-s-eq1}
 
 xor-false : (a : Bool) → xor a false ≡ a
 unfolding xor
@@ -42,35 +41,18 @@ module _ (whole sum : Bool) (s x variables v : ℕ) (e : whole ≡ xor sum (excl
       let more : variables - v ≡ suc left = omega arith in
       e ∙ rw (more, ← is) (xor_assoc sum b (exclusive_or (s / 2) (bits left (x / 2))))
 
-abbrev invariant-loop : tie.invariant-loop
-invariant-loop variables set assignment s₀ x₀ sum₀ v₀ s x sum v =
-    (v ≤ variables) × (exclusive_or set (bits variables assignment) ≡ xor sum (exclusive_or s (bits (variables - v) x)))
-
-abbrev decreases-loop : tie.decreases-loop
-decreases-loop variables set assignment s₀ x₀ sum₀ v₀ s x sum v = variables - v
-
 -- whether the variable is in the set, and 1
-both : (c : tie.Joined1 invariant-loop decreases-loop) → c.if1.sum ≡ odd c.before.before.loop.s && odd c.before.before.loop.x
-both c = ⊎_elim (λ w. rw (eq-eqb _ 1 w.0.taken) w.1) (λ w. rw (ne_eqb _ 1 w.0.left) (w.1 ∙ ne_eqb _ 1 w.0.left)) c.if1.branch
+both : (c : Joined-s-eq1) → c.if-s-eq1.sum ≡ odd c.loop-v.s && odd c.loop-v.x
+both c = elim c.if-s-eq1.branch [ then-s-eq1 w ↦ rw (eq-eqb _ 1 w.if-s-eq1.true) w.sum-is | else-s-eq1 w ↦ rw (ne_eqb _ 1 w.if-s-eq1.false) (w.sum-is ∙ ne_eqb _ 1 w.if-s-eq1.false) ]
 
-loop-holds : tie.Need-loop-init invariant-loop decreases-loop
-loop-holds c =
+pub loop-v-init : goal.loop-v-init
+loop-v-init c =
     let a = c.args in
     let all : a.variables - 0 ≡ a.variables = omega arith in
     (omega arith, rw all (sym (false_xor (exclusive_or a.set (bits a.variables a.assignment)))))
 
-add-v : tie.Need-overflow-add-v invariant-loop decreases-loop
-add-v c = omega arith
+pub loop-v-preserved : goal.loop-v-preserved
+loop-v-preserved c = (omega arith, one_less _ _ _ _ _ _ c.loop-v.invariant.1 _ c.loop-v-test.true (both c))
 
-loop-less : tie.Need-loop-smaller invariant-loop decreases-loop
-loop-less c = omega arith
-
-loop-again : tie.Need-loop-preserved invariant-loop decreases-loop
-loop-again c = (omega arith, one_less _ _ _ _ _ _ c.before.before.loop.invariant.1 _ c.before.loop-test.true (both c))
-
-returns : tie.Need-returns invariant-loop decreases-loop
-returns c = none_left _ _ _ _ _ _ c.before.loop.invariant.1 c.loop-test.false
-
-pub exclusive-or-spec : {M : Type 1} → statement M
-exclusive-or-spec =
-    tie.close (tie.spec invariant-loop decreases-loop loop-holds add-v loop-less loop-again returns)
+pub returns : goal.returns
+returns c = none_left _ _ _ _ _ _ c.loop-v.invariant.1 c.loop-v-test.false

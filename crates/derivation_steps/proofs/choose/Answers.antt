@@ -5,7 +5,6 @@ use mathlib.Core.Path.{◌≡◌, refl, ap, ◌∙◌}
 use mathlib.Core.Bool.{cond}
 use mathlib.Core.List.{List, [], ◌∷◌}
 use native.Mathlib.Omega.{arith}
-use borrow.Author.Rules.{rules}
 use borrow.Author.Tests.{ne_eqb}
 use lib.Dec.{eqb}
 use Rattle.netlists.specs.Netlists.{Placed}
@@ -15,8 +14,7 @@ use Rattle.rules.specs.Records.{NOT, XOR, AND, OR, register, listed, Cell, input
 use Rattle.rules.specs.Families.{Families}
 use Rattle.rules.specs.Slices.{entry}
 use Rattle.derivation_rules.specs.Derivations.{Layer, settled, spreading, rules_of, layer_below, picked, claim, Way, way, needed, first_made, chosen, layer_of}
-use Rattle.derivation_steps.proofs.choose.Statement.{statement}
-use Rattle.derivation_steps.proofs.choose.Tie as tie
+use Rattle.derivation_steps.proofs.choose.Goals as goal
 
 -- both operands of a record that can stand in a netlist are numbers of nodes; 0 stands for one that the kind has not
 operand-numbers : {node : Node} → Placed most_nodes node → (node.first < most_nodes) × (node.second < most_nodes)
@@ -45,47 +43,52 @@ module _ (Fs : List Families) (ℓ : Layer) (A : ℕ) where
   by_record : (node : Node) (w : Way) → w ≡ byRecord node → (cell : Cell) → node ≡ entry cell → w ≡ chosen Fs ℓ cell A
   by_record node w e cell is = e ∙ ap byRecord is ∙ by-kind cell
 
-way-of-not-requires : tie.Need-way-of-not-requires
-way-of-not-requires c κs =
-    let pre = c.before.before.before.before.requires in (pre.0, (operand-numbers pre.1).0, pre.2, pre.3)
+pub way_of_not-requires : goal.way_of_not-requires
+way_of_not-requires c =
+    let pre = c.requires in (pre.0, (operand-numbers pre.1).0, pre.2, pre.3)
 
-way-of-xor-requires : tie.Need-way-of-xor-requires
-way-of-xor-requires c κs =
-    let pre = c.before.before.before.before.requires in
+pub way_of_xor-requires : goal.way_of_xor-requires
+way_of_xor-requires c =
+    let pre = c.requires in
     let (first, second) = operand-numbers pre.1 in
     (pre.0, first, second, pre.2, pre.3)
 
-way-of-spread-requires : tie.Need-way-of-spread-requires
-way-of-spread-requires c κs =
-    let pre = c.before.before.before.before.requires in
+pub way_of_spread-requires : goal.way_of_spread-requires
+way_of_spread-requires c =
+    let pre = c.requires in
     let (first, second) = operand-numbers pre.1 in
     (pre.0, first, second, pre.2, pre.3)
 
-returns : tie.Need-returns
-returns c = (by_record _ _ _ _ _ (rw c.match.keys1), (omega arith, omega arith, tt))
+pub returns-in-2 : goal.returns-in-2
+returns-in-2 c = record {
+  result_value = by_record _ _ _ _ _ (rw c.in-2.is);
+  layers = (omega arith, omega arith, tt);
+}
 
-returns-2 : tie.Need-returns-2
-returns-2 c =
-    let (same, layers) = c.way-of-not.ensures in
-    (by_record _ _ _ _ _ (rw c.before.match.keys2 same), layers)
+pub returns-in-3 : goal.returns-in-3
+returns-in-3 c = let told = c.way_of_not.ensures in
+    record {
+      result_value = by_record _ _ _ _ _ (rw c.in-3.is told.result_value);
+      layers = told.layers;
+    }
 
-returns-3 : tie.Need-returns-3
+pub returns-in-7 : goal.returns-in-7
 unfolding layer_of
-returns-3 c = (by_record _ _ _ _ _ (rw c.match.keys3), (omega arith, omega arith, (omega arith, tt)))
+returns-in-7 c = record {
+  result_value = by_record _ _ _ _ _ (rw c.in-7.is);
+  layers = (omega arith, omega arith, (omega arith, tt));
+}
 
-returns-4 : tie.Need-returns-4
-returns-4 c =
-    let (same, layers) = c.way-of-xor.ensures in
-    (by_record _ _ _ _ _ (rw c.before.match.keys4 same), layers)
+pub returns-in-4 : goal.returns-in-4
+returns-in-4 c = let told = c.way_of_xor.ensures in
+    record {
+      result_value = by_record _ _ _ _ _ (rw c.in-4.is told.result_value);
+      layers = told.layers;
+    }
 
-returns-5 : tie.Need-returns-5
-returns-5 c =
-    let (same, layers) = c.way-of-spread.ensures in
-    let other = c.before.match.rest in
-    (by_record _ _ _ _ _ (rw (ne_eqb _ 2 other.0.0.0.1, ne_eqb _ 3 other.0.0.1, ne_eqb _ 7 other.0.1, ne_eqb _ 4 other.1) same), layers)
-
-pub choose_spec : {M : Type 1} → statement M
-choose_spec =
-    tie.close
-    (tie.spec (λ c. search rules) (λ c. search rules) way-of-not-requires way-of-xor-requires
-    way-of-spread-requires returns returns-2 returns-3 returns-4 returns-5)
+pub returns-in_default : goal.returns-in_default
+returns-in_default c = let told = c.way_of_spread.ensures in
+    record {
+      result_value = by_record _ _ _ _ _ (rw (ne_eqb c.args.node.kind 2 (λ kind. omega arith), ne_eqb c.args.node.kind 3 (λ kind. omega arith), ne_eqb c.args.node.kind 7 (λ kind. omega arith), ne_eqb c.args.node.kind 4 (λ kind. omega arith)) told.result_value);
+      layers = told.layers;
+    }

@@ -1,12 +1,12 @@
 -- `node_values::settled_values` meets its contract. The invariant: the values of the first i nodes stand, of the
 -- netlist that is asked, and beyond them all is 0. A value beyond the table is 0 as well, so the rule gives of either list the
 -- same. The measure is the number of nodes left. Assumes nothing.
-use Prim.Native.Nat.{ℕ, ◌+◌, ◌-◌, ◌≤◌, ◌<◌}
+use Prim.Native.Nat.{ℕ, ◌+◌, ◌≤◌, ◌<◌}
 use mathlib.Core.Path.{◌≡◌, refl, sym, ◌∙◌}
 use mathlib.Core.Bool.{Bool, false}
-use mathlib.Core.List.{List, []}
+use mathlib.Core.List.{List}
 use native.Mathlib.Omega.{arith}
-use lib.ListN.{length, get_or, take, set, replicate, length-set, length-replicate}
+use lib.ListN.{length, get_or, set, replicate, length-set, length-replicate}
 use lib.Seq.{take_all}
 use Rattle.rules.specs.Tables.{table}
 use Rattle.rules.specs.Records.{operand_count, Cell, input, gate, Netlist, bits, most_nodes}
@@ -17,8 +17,8 @@ use Rattle.rule_laws.proofs.Tables.{first_length, first_next}
 use Rattle.netlists.specs.declared.Netlist as Value
 use Rattle.netlists.specs.Netlists.{padded, blank, flat_of, Formed}
 use Rattle.netlists.proofs.Netlists.{padded_none, padded_set, padded_same, value_variables, value_count, value_entry, few_nodes, one_netlist, placed_at, placed_operand, placed_later}
-use Rattle.node_values.proofs.settled_values.Statement.{statement}
-use Rattle.node_values.proofs.settled_values.Tie as tie
+use Rattle.node_values.proofs.settled_values.Invariants.{first, under, valuesDone}
+use Rattle.node_values.proofs.settled_values.Goals as goal
 
 -- ---- the rule over a padded list
 
@@ -27,18 +27,6 @@ unfolding value_rule
 rule-padded x k done (input s) = refl
 rule-padded x k done (gate kind ops) =
     from_same (operand_count kind) (value_of kind) (λ a. get_or (padded k false done) a false) (λ a. get_or done a false) ops (λ a t. padded_same k false done a)
-
--- ---- the values of the first nodes
-
-abbrev under : Netlist → ℕ → Assignment
-under n x = bits (length n.variables) x
-
--- of the first i
-abbrev first : Netlist → Assignment → ℕ → List Bool
-first n x i = table (value_rule x) [] (take i n.nodes)
-
-abbrev valuesDone : Netlist → ℕ → ℕ → List Bool
-valuesDone n x i = padded most_nodes false (first n (under n x) i)
 
 module _ (n : Netlist) (x : Assignment) where
   none_first : (k : ℕ) → replicate k false ≡ padded k false (first n x 0)
@@ -73,65 +61,37 @@ module _ {value : Value.Netlist} (f : Formed value) where
       let all : length own.nodes ≤ i = omega (arith, value_count own f.is) in
       rw (← one_netlist f n same, ← all_first own (under own x) i all) e
 
-abbrev invariant-loop : tie.invariant-loop
-invariant-loop assignment netlist variables count values₀ i₀ values i =
-    (i ≤ count) × (length values ≡ most_nodes) × ((f : Formed netlist) → values ≡ valuesDone f.netlist assignment i)
+pub loop-i-init : goal.loop-i-init
+loop-i-init c = (omega arith, length-replicate most_nodes false, λ f. none_first f.netlist _ most_nodes)
 
-abbrev decreases-loop : tie.decreases-loop
-decreases-loop assignment netlist variables count values₀ i₀ values i = count - i
+pub slice_bounds-value_from-end : goal.slice_bounds-value_from-end
+slice_bounds-value_from-end c = sym c.loop-i.invariant.1
 
-loop-holds : tie.Need-loop-init invariant-loop decreases-loop
-loop-holds c = (omega arith, length-replicate most_nodes false, λ f. none_first f.netlist _ most_nodes)
+pub offset_bounds-netlist-i : goal.offset_bounds-netlist-i
+offset_bounds-netlist-i c = omega (arith, few_nodes c.requires)
 
-slice-aggregate-value-from : tie.Need-slice-aggregate-value-from invariant-loop decreases-loop
-slice-aggregate-value-from c = sym c.before.before.loop.invariant.1
+pub bounds-netlist-i : goal.bounds-netlist-i
+bounds-netlist-i c = omega (arith, few_nodes c.requires)
 
-mul-value-from : tie.Need-overflow-mul-value-from invariant-loop decreases-loop
-mul-value-from c = omega (arith, few_nodes c.before.before.before.requires)
-
-element-copy-out-value-from : tie.Need-element-copy-out-value-from invariant-loop decreases-loop
-element-copy-out-value-from c = omega (arith, few_nodes c.before.before.before.requires)
-
-value-from-requires : tie.Need-value-from-requires invariant-loop decreases-loop
-value-from-requires c κs =
-    let turn = c.before.before.before in
-    let p = placed_later (few_nodes turn.before.requires) (placed_later (omega arith) (placed_at turn.before.requires _ c.before.before.loop-test.true)) in
+pub value_from-requires : goal.value_from-requires
+value_from-requires c =
+    let p = placed_later (few_nodes c.requires) (placed_later (omega arith) (placed_at c.requires _ c.loop-i-test.true)) in
     let lower = placed_operand p (omega arith) in
-    rw (turn.loop.invariant.1, p.is) (unfold entry in (lower 0, lower 1))
+    rw (c.loop-i.invariant.1, p.is) (unfold entry in (lower 0, lower 1))
 
-array-write-values : tie.Need-array-write-values invariant-loop decreases-loop
-array-write-values c = omega (arith, few_nodes c.before.before.before.before.before.requires)
+pub bounds-values-i : goal.bounds-values-i
+bounds-values-i c = omega (arith, few_nodes c.requires)
 
-add-i : tie.Need-overflow-add-i invariant-loop decreases-loop
-add-i c = omega (arith, few_nodes c.before.before.before.before.before.requires)
+pub overflow_add-i : goal.overflow_add-i
+overflow_add-i c = omega (arith, few_nodes c.requires)
 
-loop-less : tie.Need-loop-smaller invariant-loop decreases-loop
-loop-less c = omega arith
-
-loop-again : tie.Need-loop-preserved invariant-loop decreases-loop
-loop-again c =
+pub loop-i-preserved : goal.loop-i-preserved
+loop-i-preserved c =
     let turn = c.before.before.before in (
       omega arith,
-      simp length-set turn.before.loop.invariant.1,
-      λ f. next f _ _ _ _ turn.loop-test.true (turn.before.loop.invariant.2 f) c.value-from.ensures,
+      simp length-set turn.before.loop-i.invariant.1,
+      λ f. next f _ _ _ _ turn.loop-i-test.true (turn.before.loop-i.invariant.2 f) c.value_from.ensures,
     )
 
-returns : tie.Need-returns invariant-loop decreases-loop
-returns c = finished c.before.before.requires _ _ _ c.loop-test.false (c.before.loop.invariant.2 c.before.before.requires)
-
-pub settled-values-spec : {M : Type 1} → statement M
-settled-values-spec =
-    tie.close
-    (tie.spec
-    invariant-loop
-    decreases-loop
-    loop-holds
-    slice-aggregate-value-from
-    mul-value-from
-    element-copy-out-value-from
-    value-from-requires
-    array-write-values
-    add-i
-    loop-less
-    loop-again
-    returns)
+pub returns : goal.returns
+returns c = finished c.requires _ _ _ c.loop-i-test.false (c.loop-i.invariant.2 c.requires)

@@ -4,12 +4,10 @@ use Prim.Native.Nat.{ℕ}
 use mathlib.Core.Path.{◌≡◌, refl, sym, ap, ◌∙◌}
 use mathlib.Core.Bool.{true, false}
 use mathlib.Core.List.{List, [], ◌∷◌}
-use borrow.Author.Rules.{rules}
 use Rattle.rules.specs.Checks.{Outcome, answered, refused, Check, check, judged, number_check}
 use Rattle.rules.specs.Paper.{query_of}
 use Rattle.netlists.proofs.Netlists.{value_variables}
-use Rattle.query_netlists.proofs.judge.Statement.{statement}
-use Rattle.query_netlists.proofs.judge.Tie as tie
+use Rattle.query_netlists.proofs.judge.Goals as goal
 
 -- a row that refuses does so whatever stands behind it, and one that passes leaves it to them
 refuses : (row : Check) (rows : List Check) (k p : ℕ) → ◌≡◌ {A = Outcome (Unit {0})} (refused k p) (judged (row ∷ []) tt) → ◌≡◌ {A = Outcome (Unit {0})} (refused k p) (judged (row ∷ rows) tt)
@@ -22,34 +20,26 @@ unfolding judged
 passes_on (check j true q) rows e = cc
 passes_on (check j false q) rows e = refl
 
-returns : tie.Need-returns
-returns c = λ n e. rw c.enum-told2.given.1 (refuses _ _ _ _ (ap query_of (sym c.enum-told2.given.1) ∙ c.before.before.judge-node.ensures n e))
+pub returns-in_default : goal.returns-in_default
+returns-in_default c = λ n e. rw c.in_default.is (refuses _ _ _ _ (ap query_of (sym c.in_default.is) ∙ c.judge_node-outcome.ensures n e))
 
-returns-2 : tie.Need-returns-2
+pub returns-then-undeclared_bit : goal.returns-then-undeclared_bit
 unfolding judged number_check
-returns-2 c = λ n e.
-    let told = c.before.before in
+returns-then-undeclared_bit c = λ n e.
     rw (
-      passes_on _ _ (ap query_of (sym told.enum_told.given.1) ∙ told.before.before.judge-node.ensures n e),
+      passes_on _ _ (ap query_of (sym c.in-Answered.is) ∙ c.judge_node-outcome.ensures n e),
       ← value_variables n e,
-      ← c.before.undeclared-bit.ensures,
-      c.if1.true,
+      ← c.undeclared_bit.ensures,
+      c.if-undeclared_bit.true,
     )
 
-returns-3 : tie.Need-returns-3
+pub returns : goal.returns
 unfolding judged number_check
-returns-3 c = λ n e.
-    let told = c.before.before in
+returns c = λ n e.
     rw (
-      passes_on _ _ (ap query_of (sym told.enum_told.given.1) ∙ told.before.before.judge-node.ensures n e),
+      passes_on _ _ (ap query_of (sym c.in-Answered.is) ∙ c.judge_node-outcome.ensures n e),
       ← value_variables n e,
-      ← c.before.undeclared-bit.ensures,
-      c.if1.false,
-      told.enum_told.given.1,
+      ← c.undeclared_bit.ensures,
+      c.if-undeclared_bit.false,
+      c.in-Answered.is,
     )
-
-pub judge-spec : {M : Type 1} → statement M
-judge-spec =
-    tie.close
-    (tie.spec (λ c κs. search rules) (λ c. search rules) (λ c. search rules) returns
-    (λ c κs. search rules) returns-2 returns-3)

@@ -15,8 +15,7 @@ use Rattle.netlists.specs.Netlists.{blank, flat_of, Formed, Placed}
 use Rattle.netlists.proofs.Netlists.{value_count, value_entry, few_nodes, one_netlist, placed_at, placed_later}
 use Rattle.node_values.specs.Marks.{handed_on}
 use Rattle.node_values.proofs.Marks.{Leads, leads_start, leads_next, leads_end, handed_length}
-use Rattle.node_values.proofs.feeding_marks.Statement.{statement}
-use Rattle.node_values.proofs.feeding_marks.Tie as tie
+use Rattle.node_values.proofs.feeding_marks.Goals as goal
 
 module _ {value : Value.Netlist} (f : Formed value) where
   inside : (i : ℕ) → i < value.count → i < length f.netlist.nodes
@@ -43,68 +42,39 @@ module _ {value : Value.Netlist} (f : Formed value) where
   finished node marks i none e leads n same =
       rw (← one_netlist f n same) (leads_end f.netlist most_nodes node marks i none e leads)
 
-abbrev invariant-loop : tie.invariant-loop
-invariant-loop node netlist marks₀ i₀ marks i = (i ≤ node + 1) × (length marks ≡ most_nodes) × ((f : Formed netlist) → Leads f.netlist node marks i)
+pub bounds-marks-node : goal.bounds-marks-node
+bounds-marks-node c = omega (arith, few_nodes c.requires.0)
 
-abbrev decreases-loop : tie.decreases-loop
-decreases-loop node netlist marks₀ i₀ marks i = i
+pub overflow_add-i : goal.overflow_add-i
+overflow_add-i c = omega (arith, few_nodes c.requires.0)
 
-array-write-marks : tie.Need-array-write-marks invariant-loop decreases-loop
-array-write-marks c = omega (arith, few_nodes c.requires.0)
-
-add-i : tie.Need-overflow-add-i invariant-loop decreases-loop
-add-i c = omega (arith, few_nodes c.requires.0)
-
-loop-holds : tie.Need-loop-init invariant-loop decreases-loop
-loop-holds c = (
+pub loop-i-init : goal.loop-i-init
+loop-i-init c = (
   omega arith,
   length-set (replicate most_nodes false) c.args.node true ∙ length-replicate most_nodes false,
   λ f. leads_start f.netlist most_nodes c.args.node (omega (arith, few_nodes f)) (inside f _ c.requires.1),
 )
 
-sub-i : tie.Need-overflow-sub-i invariant-loop decreases-loop
-sub-i c = omega arith
+pub offset_bounds-netlist-i : goal.offset_bounds-netlist-i
+offset_bounds-netlist-i c = omega (arith, few_nodes c.requires.0)
 
-mul-hand-on : tie.Need-overflow-mul-hand-on invariant-loop decreases-loop
-mul-hand-on c = omega (arith, few_nodes c.before.before.requires.0)
+pub bounds-netlist-i : goal.bounds-netlist-i
+bounds-netlist-i c = omega (arith, few_nodes c.requires.0)
 
-element-copy-out-hand-on : tie.Need-element-copy-out-hand-on invariant-loop decreases-loop
-element-copy-out-hand-on c = omega (arith, few_nodes c.before.before.requires.0)
+pub hand_on-marks-requires : goal.hand_on-marks-requires
+hand_on-marks-requires c = few c.requires.0 _ (omega arith)
 
-hand-on-requires : tie.Need-hand-on-requires invariant-loop decreases-loop
-hand-on-requires c κs = few c.before.before.before.requires.0 _ (omega arith)
-
-loop-less : tie.Need-loop-smaller invariant-loop decreases-loop
-loop-less c = omega arith
-
-loop-again : tie.Need-loop-preserved invariant-loop decreases-loop
-loop-again c =
-    let f = c.before.before.before.before.requires.0 in
-    let (far, long, leads) = c.before.before.before.loop.invariant in (
+pub loop-i-preserved : goal.loop-i-preserved
+loop-i-preserved c =
+    let f = c.requires.0 in
+    let (far, long, leads) = c.loop-i.invariant in (
       omega arith,
-      same_length f _ _ _ (omega arith) c.hand_on.ensures long,
-      λ g. next g _ _ _ (omega arith) c.hand_on.ensures _ _ (omega arith) long (leads g),
+      same_length f _ _ _ (omega arith) c.hand_on-marks.ensures long,
+      λ g. next g _ _ _ (omega arith) c.hand_on-marks.ensures _ _ (omega arith) long (leads g),
     )
 
-returns : tie.Need-returns invariant-loop decreases-loop
+pub returns : goal.returns
 returns c n e =
-    let f = c.before.before.requires.0 in
-    let (far, long, leads) = c.before.loop.invariant in
-    finished f _ _ _ c.loop-test.false long (leads f) n e
-
-pub feeding-marks-spec : {M : Type 1} → statement M
-feeding-marks-spec =
-    tie.close
-    (tie.spec
-    invariant-loop
-    decreases-loop
-    array-write-marks
-    add-i
-    loop-holds
-    sub-i
-    mul-hand-on
-    element-copy-out-hand-on
-    hand-on-requires
-    loop-less
-    loop-again
-    returns)
+    let f = c.requires.0 in
+    let (far, long, leads) = c.loop-i.invariant in
+    finished f _ _ _ c.loop-i-test.false long (leads f) n e

@@ -4,7 +4,7 @@ use Prim.Native.Nat.{ℕ}
 use mathlib.Core.Path.{◌≡◌, refl, ap, ◌∙◌}
 use mathlib.Core.Bool.{Bool, false, not, ◌&&◌, ◌||◌, xor, cond}
 use mathlib.Core.List.{List}
-use borrow.Author.Rules.{rules}
+use native.Mathlib.Omega.{arith}
 use borrow.Author.Tests.{ne_eqb}
 use lib.Dec.{eqb}
 use lib.ListN.{get_or}
@@ -12,8 +12,7 @@ use Rattle.rules.specs.declared.Node.{Node}
 use Rattle.rules.specs.Records.{NOT, XOR, AND, OR, register, listed, from_operands, Cell, input, gate, kind_of, operands, set_of}
 use Rattle.rules.specs.Values.{Assignment, exclusive_or, value_of, value_rule}
 use Rattle.rules.specs.Slices.{entry}
-use Rattle.node_values.proofs.value_from.Statement.{statement}
-use Rattle.node_values.proofs.value_from.Tie as tie
+use Rattle.node_values.proofs.value_from.Goals as goal
 
 -- the settled value of a node of this kind, from its input's and its operands' values
 abbrev by_kind : (kind : ℕ) (own first second : Bool) → Bool
@@ -37,31 +36,29 @@ module _ (x : Assignment) (values : List Bool) where
   by_record : (node : Node) (r : Bool) → r ≡ byRecord node → (cell : Cell) → node ≡ entry cell → r ≡ value_rule x values cell
   by_record node r e cell is = e ∙ ap byRecord is ∙ by-kind cell
 
-returns : tie.Need-returns
-returns c = by_record _ _ _ _ (rw c.before.before.match.keys1 c.exclusive-or.ensures)
+pub returns-in-2 : goal.returns-in-2
+returns-in-2 c = by_record _ _ _ _ (rw c.in-2.is c.exclusive_or.ensures)
 
-returns-2 : tie.Need-returns-2
-returns-2 c = by_record _ _ _ _ (rw c.match.keys2)
+pub returns-in-3 : goal.returns-in-3
+returns-in-3 c = by_record _ _ _ _ (rw c.in-3.is)
 
-returns-3 : tie.Need-returns-3
+pub returns-in-4 : goal.returns-in-4
 unfolding xor
-returns-3 c = by_record _ _ _ _ (rw c.match.keys3)
+returns-in-4 c = by_record _ _ _ _ (rw c.in-4.is)
 
-returns-4 : tie.Need-returns-4
-returns-4 c = by_record _ _ _ _ (rw c.match.keys4)
+pub returns-in-5 : goal.returns-in-5
+returns-in-5 c = by_record _ _ _ _ (rw c.in-5.is)
 
-returns-5 : tie.Need-returns-5
-returns-5 c = by_record _ _ _ _ (rw c.match.keys5)
+pub returns-in-6 : goal.returns-in-6
+returns-in-6 c = by_record _ _ _ _ (rw c.in-6.is)
 
-returns-6 : tie.Need-returns-6
-returns-6 c =
-    let no = c.match.rest in
+pub returns-in_default : goal.returns-in_default
+returns-in_default c =
     by_record _ _ _ _
-    (rw (ne_eqb _ 2 no.0.0.0.0.1, ne_eqb _ 3 no.0.0.0.1, ne_eqb _ 4 no.0.0.1, ne_eqb _ 5 no.0.1, ne_eqb _ 6 no.1))
-
-pub value-from-spec : {M : Type 1} → statement M
-value-from-spec =
-    tie.close
-    (tie.spec (λ c. search rules) (λ c. search rules) (λ c. search rules) (λ c. search rules)
-    (λ c. search rules) (λ c κs. search rules) returns returns-2 returns-3 returns-4 returns-5
-    returns-6)
+    (rw (
+      ne_eqb c.args.node.kind 2 (λ kind. omega arith),
+      ne_eqb c.args.node.kind 3 (λ kind. omega arith),
+      ne_eqb c.args.node.kind 4 (λ kind. omega arith),
+      ne_eqb c.args.node.kind 5 (λ kind. omega arith),
+      ne_eqb c.args.node.kind 6 (λ kind. omega arith),
+    ))
