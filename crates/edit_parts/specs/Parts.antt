@@ -6,7 +6,6 @@ use Rattle.rules.specs.declared.Node.{Node}
 use Rattle.rules.specs.Checks.{Outcome, answered, refused}
 use Rattle.rules.specs.Paper.{number_of, place_of}
 use Rattle.edit_parts.specs.declared.Offer.{Offer}
-use Rattle.edit_parts.specs.declared.Offer.TheVariants as Offer
 
 -- what is offered: a node record, or a refusal
 abbrev pub offered_of : Offer → Outcome Node

@@ -8,12 +8,8 @@ use native.Mathlib.Omega.{arith}
 use lib.ListN.{length, get_or, drop, set, length-drop, length-set}
 use lib.Seq.{paste, paste-zero, paste-suc, drop-paste, get_or-drop}
 use Rattle.edit_parts.specs.Parts.{moved_down}
-use Rattle.edit_parts.proofs.move_down.Statement.{statement}
-use Rattle.edit_parts.proofs.move_down.Tie as tie
-
--- the bytes once those up to `at` have moved
-abbrev shifted : List ℕ → (removed at : ℕ) → List ℕ
-shifted old removed at = paste old (256 * removed) (drop (256 * (removed + 1)) old) (at - 256 * removed)
+use Rattle.edit_parts.proofs.move_down.Invariants.{shifted}
+use Rattle.edit_parts.proofs.move_down.Goals as goal
 
 none-shifted : (old : List ℕ) (removed : ℕ) → old ≡ shifted old removed (256 * removed)
 none-shifted old removed =
@@ -42,69 +38,20 @@ shifted_next old removed at from room =
     (next old (drop (256 * (removed + 1)) old) (256 * removed) j (omega arith) (omega (arith, length-drop (256 * (removed + 1)) old))
     (rw (here, ← beyond) (get_or-drop (256 * (removed + 1)) old j 0))))
 
-abbrev invariant-loop : tie.invariant-loop
-invariant-loop work₀ removed count end at₀ work at = (256 * removed ≤ at) × (at ≤ end) × (length work ≡ length work₀) × (work ≡ shifted work₀ removed at)
+pub loop-at-init : goal.loop-at-init
+loop-at-init c = (omega arith, omega arith, refl, none-shifted c.args.work.now c.args.removed)
 
-abbrev decreases-loop : tie.decreases-loop
-decreases-loop work₀ removed count end at₀ work at = end - at
-
-sub-end : tie.Need-overflow-sub-end invariant-loop decreases-loop
-sub-end c = omega arith
-
-mul-end : tie.Need-overflow-mul-end invariant-loop decreases-loop
-mul-end c = omega arith
-
-mul_at : tie.Need-overflow-mul-at invariant-loop decreases-loop
-mul_at c = omega arith
-
-loop-holds : tie.Need-loop-init invariant-loop decreases-loop
-loop-holds c = (omega arith, omega arith, refl, none-shifted c.args.work.now c.args.removed)
-
-add-work : tie.Need-overflow-add-work invariant-loop decreases-loop
-add-work c = omega arith
-
-slice-read-work : tie.Need-slice-read-work invariant-loop decreases-loop
-slice-read-work c = omega arith
-
-slice-write-work : tie.Need-slice-write-work invariant-loop decreases-loop
-slice-write-work c = omega arith
-
-add_at : tie.Need-overflow-add-at invariant-loop decreases-loop
-add_at c = omega arith
-
-loop-less : tie.Need-loop-smaller invariant-loop decreases-loop
-loop-less c = omega arith
-
-loop-again : tie.Need-loop-preserved invariant-loop decreases-loop
-loop-again c =
-    let (from, most, many, moved) = c.before.before.loop.invariant in
+pub loop-at-preserved : goal.loop-at-preserved
+loop-at-preserved c =
+    let (from, most, many, moved) = c.loop-at.invariant in
     (omega arith, omega arith, simp length-set many, rw moved (shifted_next _ _ _ from (omega arith)))
 
-same_length : tie.Need-same-length invariant-loop decreases-loop
-same_length c = c.before.loop.invariant.2
+pub shape_of-work : goal.shape_of-work
+shape_of-work c = c.loop-at.invariant.2
 
-returns : tie.Need-returns invariant-loop decreases-loop
+pub returns : goal.returns
 unfolding moved_down
 returns c =
-    let (from, most, many, moved) = c.before.loop.invariant in
-    let all : c.before.loop.at - 256 * c.before.before.args.removed ≡ 256 * (c.before.before.args.count - 1 - c.before.before.args.removed) = omega arith in
+    let (from, most, many, moved) = c.loop-at.invariant in
+    let all : c.loop-at.at - 256 * c.args.removed ≡ 256 * (c.args.count - 1 - c.args.removed) = omega arith in
     rw (← all) moved
-
-pub move_down_spec : {M : Type 1} → statement M
-move_down_spec =
-    tie.close
-    (tie.spec
-    invariant-loop
-    decreases-loop
-    sub-end
-    mul-end
-    mul_at
-    loop-holds
-    add-work
-    slice-read-work
-    slice-write-work
-    add_at
-    loop-less
-    loop-again
-    same_length
-    returns)

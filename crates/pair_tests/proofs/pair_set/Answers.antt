@@ -3,32 +3,24 @@
 use Prim.Native.Nat.{ℕ}
 use mathlib.Core.Path.{ap, ◌∙◌}
 use mathlib.Core.List.{List}
-use borrow.Author.Rules.{rules}
 use lib.ListN.{replicate, length-replicate}
 use Rattle.rules.specs.Families.{product, reported}
 use Rattle.families.specs.Parts.{family_at, with_family}
 use Rattle.pair_tests.specs.Tests.{report_of_parts}
 use Rattle.pair_tests.proofs.Scratch.{scratch_report}
-use Rattle.pair_tests.proofs.pair_set.Statement.{statement}
-use Rattle.pair_tests.proofs.pair_set.Tie as tie
+use Rattle.pair_tests.proofs.pair_set.Goals as goal
 
-returns : tie.Need-returns
+pub returns : goal.returns
 unfolding report_of_parts
 returns c =
     λ variables by.
-    let args = c.before.before.before.before.before.before.before.before.before.before.before.before.before.args in
-    let first = c.before.before.before.before.before.before.before.before.before.take-family.ensures in
-    let second = c.before.before.before.before.before.before.take-family2.ensures in
-    let made = c.before.before.before.multiply.ensures in
-    c.first-suspect.ensures variables by.secrets by.masks
+    let args = c.args in
+    let first = c.take_family.ensures in
+    let second = c.take_family-2.ensures in
+    let made = c.multiply.ensures in
+    c.first_suspect.ensures variables by.secrets by.masks
     ∙ ap (λ (bytes : List ℕ). reported variables (family_at bytes 2))
     (made
     ∙ ap (λ (bytes : List ℕ). with_family bytes 2 (product (family_at bytes 0) (family_at bytes 1)))
     (second ∙ ap (λ (bytes : List ℕ). with_family bytes 1 (family_at args.second.now args.q)) first))
     ∙ scratch_report (replicate 384 0) args.first.now args.p args.second.now args.q (length-replicate {A = ℕ} 384 0) variables
-
-pub pair-set-spec : {M : Type 1} → statement M
-pair-set-spec =
-    tie.close
-    (tie.spec (λ c. search rules) (λ c κs. search rules) (λ c. search rules) (λ c κs. search rules)
-    (λ c. search rules) (λ c κs. search rules) (λ c. search rules) (λ c κs. search rules) returns)
