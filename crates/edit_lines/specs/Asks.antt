@@ -4,7 +4,6 @@ use Rattle.std.specs.Prelude.{ℕ, Bool, true, false, cond, not, List, [], ◌�
 use Rattle.rules.specs.Records.{record_bytes}
 use Rattle.rules.specs.Listing.{word}
 use Rattle.scanner.specs.declared.Number.{Number}
-use Rattle.scanner.specs.declared.Number.TheVariants as Number
 use Rattle.scanner.specs.Numbers.{number_in}
 use Rattle.scanner.specs.Words.{is_blank, starts_comment, words, same}
 use Rattle.read_words.specs.Words.{nothing, says, wrong, record_in}

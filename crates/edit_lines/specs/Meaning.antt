@@ -5,7 +5,6 @@ use Rattle.rules.specs.Records.{most_record}
 use Rattle.scanner.specs.Scans.{part}
 use Rattle.edit_rules.specs.Edits.{add, remove}
 use Rattle.edit_lines.specs.declared.Ask.{Ask}
-use Rattle.edit_lines.specs.declared.Ask.TheVariants as Ask
 use Rattle.edit_lines.specs.declared.Asked.{Asked}
 use Rattle.edit_lines.specs.Asks.{Asks, none, changes, lists, writes, quits, no_edit}
 
