@@ -1,0 +1,29 @@
+-- `test_trial::work_kept_from` meets its contract. The invariant: `from` is the lowest number from which on, up to k,
+-- all bytes are as they were. The measure is what is left of the slice. Assumes nothing.
+use Prim.Native.Nat.{◌-◌, ◌≤◌}
+use mathlib.Core.Path.{◌≡◌, refl, sym, ap, ◌∙◌}
+use Rattle.test_trial.proofs.work_kept_from.Goals.{then-work-k, else-work-k}
+use native.Mathlib.Omega.{arith}
+use lib.Dec.{eqb}
+use lib.ListN.{length, get_or}
+use borrow.Author.Rules.{rules}
+use borrow.Author.Tests.{eq-eqb, ne_eqb}
+use Rattle.test_trial.specs.Before.{byte_before, kept_from}
+use Rattle.test_trial.proofs.Kept.{kept_on, kept_next}
+use Rattle.test_trial.proofs.work_kept_from.Goals as goal
+
+pub loop-k-init : goal.loop-k-init
+unfolding kept_from
+loop-k-init c = (search rules, refl)
+
+pub loop-k-preserved : goal.loop-k-preserved
+loop-k-preserved c = let byte = c.byte_before.ensures in (
+  search rules,
+  elim c.if-work-k.branch [
+    | then-work-k w ↦ w.from-is ∙ kept_next _ _ (ne_eqb _ _ (λ e. w.if-work-k.true (e ∙ sym byte)))
+    | else-work-k w ↦ kept_on _ _ (eq-eqb _ _ (w.if-work-k.false ∙ byte)) (w.from-is ∙ c.loop-k.invariant.1)
+  ],
+)
+
+pub returns : goal.returns
+returns c = let (inside, kept) = c.loop-k.invariant in kept ∙ ap (kept_from _) (omega arith)
