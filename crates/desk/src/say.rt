@@ -4,21 +4,23 @@ ghost use Rattle.std.specs.Prelude.{◌≤◌};
 ghost use Rattle.rules.specs.Listing.{most_text};
 
 use desk_text::ROOM;
-use libc::STDOUT_FILENO;
 use read_words::Fault;
 use rules::{Answer, Half, MOST_VARIABLES, Reason, Refusal};
+
+// Standard output.
+const STDOUT: i32 = 1;
 
 // The most bytes that are shown of what was found.
 const SHOWN: usize = 80;
 
 // Writes a text to standard output.
 pub fn say(text: &[u8]) {
-    io::write_all(STDOUT_FILENO, text);
+    io::write_all(STDOUT, text);
 }
 
 // Prints a number in base ten.
 pub fn say_number(x: usize) {
-    io::print_decimal(STDOUT_FILENO, x as u64);
+    io::print_decimal(STDOUT, x as u64);
 }
 
 // Prints a blank and a number.
@@ -39,7 +41,7 @@ pub fn put_first(to: i32, text: &[u8; ROOM], count: usize)
 pub fn say_first(text: &[u8; ROOM], count: usize)
     requires { count ≤ most_text }
 {
-    put_first(STDOUT_FILENO, text, count);
+    put_first(STDOUT, text, count);
 }
 
 // ---- answers and refusals

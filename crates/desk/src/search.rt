@@ -8,10 +8,12 @@ ghost use Rattle.desk.specs.Examined.{Leaves, Seen};
 use crate::say::{put_first, say, say_answer, say_first, say_refused, say_set};
 use checker::Examined;
 use desk_text::ROOM;
-use libc::STDERR_FILENO;
 use pair_search::{Found, Search};
 use pairs::{PairsReply, Progress};
 use rules::{MOST_VARIABLES, MOST_WORK};
+
+// Standard error.
+const STDERR: i32 = 2;
 
 // How many nodes are passed before it first tells how far it is: the pairs of so few take no time.
 const FIRST: usize = 32;
@@ -20,7 +22,7 @@ const FIRST: usize = 32;
 
 // Writes to standard error.
 fn tell(text: &[u8]) {
-    io::write_all(STDERR_FILENO, text);
+    io::write_all(STDERR, text);
 }
 
 // Tells how far a search is, if that is to be shown, in the place of what was told before.
@@ -29,7 +31,7 @@ fn tell_progress(shown: bool, progress: Progress) {
         let mut text = [0u8; ROOM];
         let count = desk_text::progress_fields(&mut text, progress);
         tell(b"\r");
-        put_first(STDERR_FILENO, &text, count);
+        put_first(STDERR, &text, count);
     }
 }
 
@@ -74,11 +76,10 @@ fn say_search(search: Search, classes: [u8; MOST_VARIABLES]) {
 }
 
 // Searches the pairs of nodes of a block that was examined, at most `limit` of them, and prints
-// its answer and what was found.
-pub fn pairs(examined: Examined, work: &[u8; MOST_WORK], limit: usize)
+// its answer and what was found. Tells how far it is, if that is to be shown.
+pub fn pairs(examined: Examined, work: &[u8; MOST_WORK], limit: usize, shown: bool)
     requires { Seen examined work.now }
 {
-    let shown = libc::isatty(STDERR_FILENO) == 1;
     let netlist = examined.netlist;
     let classes = netlist.classes;
     let reply = searched(examined, work, limit, shown);

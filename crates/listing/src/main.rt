@@ -7,8 +7,12 @@ ghost use Rattle.std.specs.Prelude.{◌≡◌, List, ℕ, ◌≤◌, length, tak
 ghost use Rattle.rules.specs.Listing.{listing, most_text, most_input};
 
 use input_bytes::Input;
-use libc::{STDERR_FILENO, STDIN_FILENO, STDOUT_FILENO};
 use listing_text::MOST_TEXT;
+
+// Where the program writes to.
+const STDOUT: i32 = 1;
+
+const STDERR: i32 = 2;
 
 // How many bytes of standard input are read.
 const MOST_INPUT: usize = 1024;
@@ -25,16 +29,17 @@ fn list_file(bytes: &[u8], read: usize, text: &mut [u8]) -> usize
 }
 
 // Reads a block and writes its listing. A read that fails is no end of the block: then there is no listing.
-fn main() {
+fn main(rt: HostRuntime) {
     let mut bytes = [0u8; MOST_INPUT];
     let mut text = [0u8; MOST_TEXT];
-    match input_bytes::read_input(STDIN_FILENO, &mut bytes) {
+    let mut input = rt.stdin();
+    match input_bytes::read_input(&mut input, &mut bytes) {
         Input::Failed => {
-            io::write_all(STDERR_FILENO, b"listing: standard input cannot be read\n");
+            io::write_all(STDERR, b"listing: standard input cannot be read\n");
         }
         Input::Bytes(read) => {
             let written = list_file(&bytes, read, &mut text);
-            io::write_all(STDOUT_FILENO, &text[..written]);
+            io::write_all(STDOUT, &text[..written]);
         }
     }
 }

@@ -21,10 +21,13 @@ use desk::say::{
 };
 use edit_lines::Ask;
 use edit_turns::{Told, Turn};
-use libc::STDIN_FILENO;
 use netlists::Netlist;
 use read_words::Fault;
 use rules::{MOST_VARIABLES, MOST_WORK, Refusal, Reply};
+use std::fs::File;
+use std::io::Read;
+use std::random::RandomSource;
+use std::rt::Files;
 use write_bytes::MOST_WRITTEN;
 use write_words::MOST_WORDS;
 
@@ -147,39 +150,53 @@ fn say_told(ask: Ask, line: &[u8], reply: Reply, classes: [u8; MOST_VARIABLES]) 
 // ---- the block as it is now
 
 // Writes the first so many bytes to a file: whether it could.
-fn write_first(name: &[u8], bytes: &[u8; MOST_WRITTEN], count: usize) -> bool
+fn write_first<R: Files<File = File> + RandomSource + Alloc>(
+    rt: &R,
+    name: &[u8],
+    bytes: &[u8; MOST_WRITTEN],
+    count: usize,
+) -> bool
     requires { count ≤ most_bytes }
 {
     let whole: &[u8] = bytes;
-    file_writes::write_file(name, &whole[..count])
+    file_writes::write_file(rt, name, &whole[..count])
 }
 
 // The same of a text.
-fn write_text(name: &[u8], text: &[u8; MOST_WORDS], count: usize) -> bool
+fn write_text<R: Files<File = File> + RandomSource + Alloc>(
+    rt: &R,
+    name: &[u8],
+    text: &[u8; MOST_WORDS],
+    count: usize,
+) -> bool
     requires { count ≤ most_words }
 {
     let whole: &[u8] = text;
-    file_writes::write_file(name, &whole[..count])
+    file_writes::write_file(rt, name, &whole[..count])
 }
 
 // Writes the block to a file, in words where the file's name says so: whether it could.
-fn write_block(name: &[u8], netlist: Netlist) -> bool {
+fn write_block<R: Files<File = File> + RandomSource + Alloc>(
+    rt: &R,
+    name: &[u8],
+    netlist: Netlist,
+) -> bool {
     if has_words(name) {
         let mut text = [0u8; MOST_WORDS];
         let count = write_words::word_netlist(netlist, &mut text);
-        return write_text(name, &text, count);
+        return write_text(rt, name, &text, count);
     }
     let mut bytes = [0u8; MOST_WRITTEN];
     let count = write_bytes::write_netlist(netlist, &mut bytes);
-    write_first(name, &bytes, count)
+    write_first(rt, name, &bytes, count)
 }
 
 // Writes the block to a file; where it could not, the turn is at fault.
-fn write(turn: Turn, name: &[u8]) -> Turn
+fn write<R: Files<File = File> + RandomSource + Alloc>(rt: &R, turn: Turn, name: &[u8]) -> Turn
     ensures { Wrote turn result }
 {
     let netlist = turn.netlist;
-    if write_block(name, netlist) {
+    if write_block(rt, name, netlist) {
         return turn;
     }
     say(b"expected a file that can be written, found: ");
@@ -190,7 +207,12 @@ fn write(turn: Turn, name: &[u8]) -> Turn
 // ---- lines
 
 // Obeys a line, without its line feed.
-fn obey(turn: Turn, line: &[u8], work: &mut [u8; MOST_WORK]) -> Taken
+fn obey<R: Files<File = File> + RandomSource + Alloc>(
+    rt: &R,
+    turn: Turn,
+    line: &[u8],
+    work: &mut [u8; MOST_WORK],
+) -> Taken
     ensures { Obeyed line.now turn result.turn work.old work.new }
 {
     let obeyed = edit_turns::obey(turn, line, work);
@@ -201,7 +223,7 @@ fn obey(turn: Turn, line: &[u8], work: &mut [u8; MOST_WORK]) -> Taken
     let reply = told.reply;
     match ask {
         Ask::Write(from, to) => {
-            let written = write(next, &line[from..to]);
+            let written = write(rt, next, &line[from..to]);
             Taken {
                 turn: written,
                 more: true,
@@ -247,25 +269,26 @@ fn wide(byte: u8) -> usize {
 }
 
 // The next byte of standard input, 256 at its end, and 257 where a read failed.
-fn next_byte() -> usize {
+fn next_byte<I: Read>(input: &mut I) -> usize {
     let mut one = [0u8; 1];
-    let got = libc::read(STDIN_FILENO, &mut one);
-    if got == 1 {
-        return wide(one[0]);
+    match input.read(&mut one) {
+        Err(_) => 257,
+        Ok(got) => {
+            if got == 0 {
+                return 256;
+            }
+            wide(one[0])
+        }
     }
-    if got == 0 {
-        return 256;
-    }
-    257
 }
 
 // The next line, at the front of `line`. What was read of a line before a read failed is no line.
-fn read_line(line: &mut [u8; MOST_LINE]) -> Line
+fn read_line<I: Read>(input: &mut I, line: &mut [u8; MOST_LINE]) -> Line
     ensures { Fits result }
 {
     let mut count = 0;
     while count < MOST_LINE {
-        let byte = next_byte();
+        let byte = next_byte(input);
         if byte == 10 {
             return Line::Of(count);
         }
@@ -281,16 +304,16 @@ fn read_line(line: &mut [u8; MOST_LINE]) -> Line
         line[count] = byte as u8;
         count += 1;
     }
-    skip_line()
+    skip_line(input)
 }
 
 // Reads to the end of a line that is too long.
-fn skip_line() -> Line
+fn skip_line<I: Read>(input: &mut I) -> Line
     ensures { Fits result }
 {
     let mut turns = MOST_TURNS;
     while turns > 0 {
-        let byte = next_byte();
+        let byte = next_byte(input);
         if (byte == 10) | (byte == 256) {
             return Line::Long;
         }
@@ -329,29 +352,45 @@ fn long_line(turn: Turn, line: &[u8; MOST_LINE]) -> Taken
 }
 
 // Obeys the line that the first so many bytes are.
-fn obey_first(turn: Turn, line: &[u8; MOST_LINE], count: usize, work: &mut [u8; MOST_WORK]) -> Taken
+fn obey_first<R: Files<File = File> + RandomSource + Alloc>(
+    rt: &R,
+    turn: Turn,
+    line: &[u8; MOST_LINE],
+    count: usize,
+    work: &mut [u8; MOST_WORK],
+) -> Taken
     requires { count ≤ 4097 }
     ensures { Obeyed (take count line.now) turn result.turn work.old work.new }
 {
     let whole: &[u8] = line;
-    obey(turn, &whole[..count], work)
+    obey(rt, turn, &whole[..count], work)
 }
 
 // The next line, obeyed.
-fn take_line(turn: Turn, work: &mut [u8; MOST_WORK]) -> Taken
+fn take_line<R: Files<File = File> + RandomSource + Alloc, I: Read>(
+    rt: &R,
+    input: &mut I,
+    turn: Turn,
+    work: &mut [u8; MOST_WORK],
+) -> Taken
     ensures { Stepped turn result.turn work.old work.new }
 {
     let mut line = [0u8; MOST_LINE];
-    match read_line(&mut line) {
+    match read_line(input, &mut line) {
         Line::End => Taken { turn, more: false },
         Line::Failed => unreadable(turn),
         Line::Long => long_line(turn, &line),
-        Line::Of(count) => obey_first(turn, &line, count, work),
+        Line::Of(count) => obey_first(rt, turn, &line, count, work),
     }
 }
 
 // One turn. At the last one the input has not ended, and goes unread.
-fn step(run: Run, work: &mut [u8; MOST_WORK]) -> Run
+fn step<R: Files<File = File> + RandomSource + Alloc, I: Read>(
+    rt: &R,
+    input: &mut I,
+    run: Run,
+    work: &mut [u8; MOST_WORK],
+) -> Run
     requires { 0 < run.left }
     ensures taken { Stepped run.turn result.turn work.old work.new }
     ensures left { result.left + 1 ≡ run.left }
@@ -368,7 +407,7 @@ fn step(run: Run, work: &mut [u8; MOST_WORK]) -> Run
             more: false,
         };
     }
-    let taken = take_line(turn, work);
+    let taken = take_line(rt, input, turn, work);
     let turn = taken.turn;
     Run {
         turn,
@@ -378,13 +417,18 @@ fn step(run: Run, work: &mut [u8; MOST_WORK]) -> Run
 }
 
 // Line by line until the edits end.
-fn run_lines(run: Run, work: &mut [u8; MOST_WORK]) -> Run
+fn run_lines<R: Files<File = File> + RandomSource + Alloc, I: Read>(
+    rt: &R,
+    input: &mut I,
+    run: Run,
+    work: &mut [u8; MOST_WORK],
+) -> Run
     requires { 0 < run.left }
     ensures { Ran run.turn result.turn run.left result.left work.old work.new }
 {
     let mut last = run;
     while last.more {
-        last = step(last, work);
+        last = step(rt, input, last, work);
     }
     last
 }
@@ -392,7 +436,12 @@ fn run_lines(run: Run, work: &mut [u8; MOST_WORK]) -> Run
 // ---- the whole
 
 // All edits of a block that was opened: the reply to that, and the block in the end.
-fn edit_block(opened: Examined, work: &mut [u8; MOST_WORK]) -> Told
+fn edit_block<R: Files<File = File> + RandomSource + Alloc, I: Read>(
+    rt: &R,
+    input: &mut I,
+    opened: Examined,
+    work: &mut [u8; MOST_WORK],
+) -> Told
     ensures reply { result.reply ≡ opened.reply }
     ensures edited { (n : Records.Netlist) → IsHeld n opened.netlist opened.marks work.old →
         reply_of opened.reply ≡ answered (findings n) → Edited n result.turn work.new }
@@ -408,7 +457,7 @@ fn edit_block(opened: Examined, work: &mut [u8; MOST_WORK]) -> Told
     match reply {
         Reply::Refused(_) => begun,
         Reply::Answered(_) => {
-            let last = run_lines(run, work);
+            let last = run_lines(rt, input, run, work);
             let turn = last.turn;
             Told { turn, reply }
         }
@@ -416,8 +465,13 @@ fn edit_block(opened: Examined, work: &mut [u8; MOST_WORK]) -> Told
 }
 
 // Edits of a block that was opened over these work bytes; the last line says how they ended.
-pub(crate) fn edit(opened: Examined, work: &mut [u8; MOST_WORK]) {
-    let told = edit_block(opened, work);
+pub(crate) fn edit<R: Files<File = File> + RandomSource + Alloc, I: Read>(
+    rt: &R,
+    input: &mut I,
+    opened: Examined,
+    work: &mut [u8; MOST_WORK],
+) {
+    let told = edit_block(rt, input, opened, work);
     let reply = told.reply;
     let turn = told.turn;
     match reply {

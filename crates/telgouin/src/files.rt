@@ -1,15 +1,18 @@
 // The arguments, and the file that holds the block: what is read here is all that a command is given.
 ghost use Rattle.std.specs.Prelude.{◌≡◌, ◌+◌, ◌<◌};
+ghost use Rattle.io.specs.Counts.{IsPrefixLen};
 ghost use Rattle.rules.specs.Paper.{number_of, place_of};
 ghost use Rattle.telgouin.specs.declared.files.ReadBlock.TheVariants.{None};
 ghost use Rattle.telgouin.specs.Files.{SameBehind, FrontRead, FromFile, AsBytes, has_words, line_in};
 
 use desk::say::{say, say_fault, say_found, say_no_number, say_number};
 use input_bytes::Input;
-use libc::STDIN_FILENO;
 use read_words::{BlockWords, MOST_BLOCK, MOST_TEXT};
 use rules::Refusal;
 use scanner::Number;
+use std::env::FillError;
+use std::fs;
+use std::rt::{Env, Files};
 
 // The argument that names the file, and the first of the numbers behind it.
 const FILE: usize = 2;
@@ -19,15 +22,39 @@ const NUMBERS: usize = 3;
 // The most numbers that a command takes.
 pub const MOST_NUMBERS: usize = 3;
 
+// ---- arguments
+
+// How many arguments the program was started with, its own name among them.
+pub fn argument_count<R: Env>(rt: &R) -> usize {
+    let mut word = [0u8; 1];
+    for i in 0..usize::MAX {
+        if let Err(FillError::NotPresent) = rt.arg(i, &mut word) {
+            return i;
+        }
+    }
+    usize::MAX
+}
+
+// Puts argument `i` at the front of `word`. Returns how many bytes it has, 0 where there is none, or one for which
+// there is no room.
+pub fn argument<R: Env>(rt: &R, i: usize, word: &mut [u8]) -> usize
+    ensures { IsPrefixLen result word.new }
+{
+    match rt.arg(i, word) {
+        Ok(length) => length,
+        Err(_) => 0,
+    }
+}
+
 // ---- numbers
 
 // Takes argument `i` as number `k`: whether it is a number; where it is none, what was expected is printed.
-fn take_number(i: usize, into: &mut [usize; MOST_NUMBERS], k: usize) -> bool
+fn take_number<R: Env>(rt: &R, i: usize, into: &mut [usize; MOST_NUMBERS], k: usize) -> bool
     requires { k < 3 }
     ensures { SameBehind (k + 1) into.old into.new }
 {
     let mut word = io::buffer();
-    let length = os::arg(i, &mut word);
+    let length = argument(rt, i, &mut word);
     match scanner::number_of(&word[..length]) {
         Number::Is(x) => {
             into[k] = x;
@@ -42,7 +69,7 @@ fn take_number(i: usize, into: &mut [usize; MOST_NUMBERS], k: usize) -> bool
 
 // Takes `count` numbers, at most three, from left to right: whether they are numbers; at the first that is none, what
 // was expected is printed. Which numbers the arguments are no contract can say; those behind them stay as they were.
-pub fn take_numbers(into: &mut [usize; MOST_NUMBERS], count: usize) -> bool
+pub fn take_numbers<R: Env>(rt: &R, into: &mut [usize; MOST_NUMBERS], count: usize) -> bool
     ensures { SameBehind count into.old into.new }
 {
     let mut k = 0;
@@ -50,7 +77,7 @@ pub fn take_numbers(into: &mut [usize; MOST_NUMBERS], count: usize) -> bool
         if k >= count {
             break;
         }
-        if !take_number(NUMBERS + k, into, k) {
+        if !take_number(rt, NUMBERS + k, into, k) {
             return false;
         }
         k += 1;
@@ -69,24 +96,25 @@ enum Read {
 }
 
 // Reads until the slice is full or the input ends.
-fn read_from(fd: i32, into: &mut [u8]) -> Read
+fn read_from<F: std::io::Read>(file: &mut F, into: &mut [u8]) -> Read
     ensures { FrontRead result into.new }
 {
-    match input_bytes::read_input(fd, into) {
+    match input_bytes::read_input(file, into) {
         Input::Failed => Read::Failed,
         Input::Bytes(count) => {
             if count < into.len() {
                 return Read::All(count);
             }
             let mut more = [0u8; 1];
-            let behind = libc::read(fd, &mut more);
-            if behind < 0 {
-                return Read::Failed;
+            match file.read(&mut more) {
+                Err(_) => Read::Failed,
+                Ok(behind) => {
+                    if behind > 0 {
+                        return Read::First(count);
+                    }
+                    Read::All(count)
+                }
             }
-            if behind > 0 {
-                return Read::First(count);
-            }
-            Read::All(count)
         }
     }
 }
@@ -136,8 +164,8 @@ fn too_long() -> ReadBlock
 }
 
 // Reads a block in words from a file that is open, by way of `text`.
-fn read_words(
-    fd: i32,
+fn read_words<F: std::io::Read>(
+    file: &mut F,
     name: &[u8],
     text: &mut [u8],
     bytes: &mut [u8; MOST_BLOCK],
@@ -145,7 +173,7 @@ fn read_words(
 ) -> ReadBlock
     ensures { FromFile result bytes.old lines.old bytes.new lines.new }
 {
-    match read_from(fd, text) {
+    match read_from(file, text) {
         Read::Failed => unreadable(name),
         Read::First(_) => too_long(),
         Read::All(count) => translated(&text[..count], bytes, lines),
@@ -153,10 +181,14 @@ fn read_words(
 }
 
 // Reads a block that is given as bytes from a file that is open: as many as fit, which are more than a block may have.
-fn read_bytes(fd: i32, name: &[u8], bytes: &mut [u8; MOST_BLOCK]) -> ReadBlock
+fn read_bytes<F: std::io::Read>(
+    file: &mut F,
+    name: &[u8],
+    bytes: &mut [u8; MOST_BLOCK],
+) -> ReadBlock
     ensures { AsBytes result }
 {
-    match read_from(fd, bytes) {
+    match read_from(file, bytes) {
         Read::Failed => unreadable(name),
         Read::First(count) => ReadBlock::Bytes(count, 0),
         Read::All(count) => ReadBlock::Bytes(count, 0),
@@ -174,31 +206,44 @@ pub fn has_words(name: &[u8]) -> bool
     scanner::is_word(&name[from..], b".txt")
 }
 
-// The block of the file that is named, in words or as bytes by its name.
-fn read_named(
+// The block of an open file, in words or as bytes by its name.
+fn read_open<F: std::io::Read>(
+    file: &mut F,
     name: &[u8],
     bytes: &mut [u8; MOST_BLOCK],
     lines: &mut [usize; MOST_BLOCK],
 ) -> ReadBlock
     ensures { FromFile result bytes.old lines.old bytes.new lines.new }
 {
-    let fd = os::open_read(name);
-    if fd < 0 {
-        return unreadable(name);
-    }
     if has_words(name) {
         let mut text = io::large_buffer();
-        let block = read_words(fd, name, &mut text, bytes, lines);
-        libc::close(fd);
-        return block;
+        return read_words(file, name, &mut text, bytes, lines);
     }
-    let block = read_bytes(fd, name, bytes);
-    libc::close(fd);
-    block
+    read_bytes(file, name, bytes)
+}
+
+// The block of the file that is named. A name that is no text leads to no file that the system opens.
+fn read_named<R: Files>(
+    rt: &R,
+    name: &[u8],
+    bytes: &mut [u8; MOST_BLOCK],
+    lines: &mut [usize; MOST_BLOCK],
+) -> ReadBlock
+    ensures { FromFile result bytes.old lines.old bytes.new lines.new }
+{
+    match std::str::from_utf8(name) {
+        Err(_) => unreadable(name),
+        Ok(path) => match fs::open(rt, path) {
+            Err(_) => unreadable(name),
+            Ok(mut file) => read_open(&mut file, name, bytes, lines),
+        },
+    }
 }
 
 // The block of the file that is named, or of standard input for `-` unless that has the edits.
-pub fn read_block(
+pub fn read_block<R: Env + Files, I: std::io::Read>(
+    rt: &R,
+    input: &mut I,
     edits: bool,
     bytes: &mut [u8; MOST_BLOCK],
     lines: &mut [usize; MOST_BLOCK],
@@ -206,15 +251,15 @@ pub fn read_block(
     ensures { FromFile result bytes.old lines.old bytes.new lines.new }
 {
     let mut path = io::buffer();
-    let length = os::arg(FILE, &mut path);
+    let length = argument(rt, FILE, &mut path);
     if !scanner::is_word(&path[..length], b"-") {
-        return read_named(&path[..length], bytes, lines);
+        return read_named(rt, &path[..length], bytes, lines);
     }
     if edits {
         say(b"expected a file to edit, found: -, where the edits are\n");
         return ReadBlock::None;
     }
-    read_bytes(STDIN_FILENO, &path[..length], bytes)
+    read_bytes(input, &path[..length], bytes)
 }
 
 // The line of a text in words that a refused record stands on, where the text has so many lines: with no end record it

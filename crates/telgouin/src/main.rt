@@ -19,6 +19,10 @@ use files::{MOST_NUMBERS, ReadBlock};
 use read_words::MOST_BLOCK;
 use rules::{Answer, MOST_NODES, MOST_WORK, QueryOutcome, Reply};
 use scanner::is_word;
+use std::fs::File;
+use std::io::{IsTerminal, Read};
+use std::random::RandomSource;
+use std::rt::{Env, Files};
 
 // The commands; none where the first argument is no command's word.
 #[derive(Clone, Copy)]
@@ -101,8 +105,11 @@ fn say_usage(command: Command) {
 }
 
 // Obeys a command over a whole block that was examined and got this answer, with so many numbers.
-// The work bytes hold the block's families.
-fn obey_examined(
+// The work bytes hold the block's families. How far a search is is told if that is to be shown.
+fn obey_examined<R: Files<File = File> + RandomSource + Alloc, I: Read>(
+    rt: &R,
+    input: &mut I,
+    shown: bool,
     command: Command,
     examined: Examined,
     answer: Answer,
@@ -118,9 +125,9 @@ fn obey_examined(
         Command::List => ask::list_held(answer, netlist, work),
         Command::Pairs => {
             if count == 0 {
-                search::pairs(examined, work, usize::MAX);
+                search::pairs(examined, work, usize::MAX, shown);
             } else {
-                search::pairs(examined, work, numbers[0]);
+                search::pairs(examined, work, numbers[0], shown);
             }
         }
         Command::Why => {
@@ -130,7 +137,7 @@ fn obey_examined(
                 why::why(netlist, work, numbers[0], numbers[1], numbers[2]);
             }
         }
-        Command::Edit => editing::edit(examined, work),
+        Command::Edit => editing::edit(rt, input, examined, work),
         Command::Picture => picture::picture(answer, netlist, marks, work),
         _ => {}
     }
@@ -138,7 +145,10 @@ fn obey_examined(
 
 // Examines the block that these bytes are, and obeys a command over it, with so many numbers.
 // A block that is refused is left to the caller to print.
-fn examine(
+fn examine<R: Files<File = File> + RandomSource + Alloc, I: Read>(
+    rt: &R,
+    input: &mut I,
+    shown: bool,
     command: Command,
     bytes: &[u8],
     numbers: [usize; MOST_NUMBERS],
@@ -150,7 +160,9 @@ fn examine(
     match reply {
         Reply::Refused(refusal) => QueryOutcome::Refused(refusal),
         Reply::Answered(answer) => {
-            obey_examined(command, examined, answer, &mut work, numbers, count);
+            obey_examined(
+                rt, input, shown, command, examined, answer, &mut work, numbers, count,
+            );
             QueryOutcome::Answered
         }
     }
@@ -158,7 +170,10 @@ fn examine(
 
 // Obeys a command over the block that these bytes are, with so many numbers: the queries read it for themselves,
 // and for all others it is examined. Where the block is refused, or a query of it, nothing is printed.
-fn obey(
+fn obey<R: Files<File = File> + RandomSource + Alloc, I: Read>(
+    rt: &R,
+    input: &mut I,
+    shown: bool,
     command: Command,
     bytes: &[u8],
     numbers: [usize; MOST_NUMBERS],
@@ -168,7 +183,7 @@ fn obey(
         Command::Value => ask::value(bytes, numbers[0], numbers[1]),
         Command::Feeding => ask::feeding(bytes, numbers[0]),
         Command::Member => ask::member(bytes, numbers[0], numbers[1]),
-        _ => examine(command, bytes, numbers, count),
+        _ => examine(rt, input, shown, command, bytes, numbers, count),
     }
 }
 
@@ -183,7 +198,10 @@ fn has_edits(command: Command) -> bool {
 // Obeys a command over the block that the first `length` bytes are, with so many numbers, and prints the
 // refusal where there is one: a block that is refused gets it from every command, with the line that the record
 // stands on where its text has lines.
-fn run_block(
+fn run_block<R: Files<File = File> + RandomSource + Alloc, I: Read>(
+    rt: &R,
+    input: &mut I,
+    shown: bool,
     command: Command,
     block: &[u8; MOST_BLOCK],
     length: usize,
@@ -196,7 +214,7 @@ fn run_block(
 {
     let whole: &[u8] = block;
     let bytes = &whole[..length];
-    let outcome = obey(command, bytes, numbers, count);
+    let outcome = obey(rt, input, shown, command, bytes, numbers, count);
     if let QueryOutcome::Refused(refusal) = outcome {
         say_refused(refusal, files::line_of(refusal, lines, last));
     }
@@ -204,17 +222,25 @@ fn run_block(
 
 // Obeys a command over the block of the file that is named, with so many numbers behind it. Where they are no numbers,
 // or where the file has no block, what was expected is printed.
-fn run(command: Command, count: usize) {
+fn run<R: Files<File = File> + RandomSource + Alloc + Env, I: Read>(
+    rt: &R,
+    input: &mut I,
+    shown: bool,
+    command: Command,
+    count: usize,
+) {
     let mut numbers = [0usize; MOST_NUMBERS];
-    if !files::take_numbers(&mut numbers, count) {
+    if !files::take_numbers(rt, &mut numbers, count) {
         return;
     }
     let mut bytes = [0u8; MOST_BLOCK];
     let mut lines = [0usize; MOST_BLOCK];
-    match files::read_block(has_edits(command), &mut bytes, &mut lines) {
+    match files::read_block(rt, input, has_edits(command), &mut bytes, &mut lines) {
         ReadBlock::None => {}
         ReadBlock::Bytes(length, last) => {
-            run_block(command, &bytes, length, &lines, last, numbers, count);
+            run_block(
+                rt, input, shown, command, &bytes, length, &lines, last, numbers, count,
+            );
         }
     }
 }
@@ -230,10 +256,10 @@ fn no_command(word: &[u8], words: usize) {
     }
 }
 
-fn main() {
-    let words = os::arg_count();
+fn main(rt: HostRuntime) {
+    let words = files::argument_count(&rt);
     let mut word = io::buffer();
-    let length = os::arg(1, &mut word);
+    let length = files::argument(&rt, 1, &mut word);
     let command = command_of(&word[..length]);
     let mut behind = 0;
     if words > 2 {
@@ -248,7 +274,9 @@ fn main() {
         Command::Help => help::help(),
         _ => {
             if behind > 0 {
-                run(command, behind - 1);
+                let mut input = rt.stdin();
+                let shown = rt.stderr().is_terminal();
+                run(&rt, &mut input, shown, command, behind - 1);
             }
         }
     }
