@@ -17,8 +17,7 @@ use Rattle.netlists.specs.Netlists.{flat_of, Formed}
 use Rattle.netlists.proofs.Netlists.{value_count, few_nodes, all_ready, well_formed}
 use Rattle.families.specs.Parts.{family_at}
 use Rattle.families.proofs.Work.{settled_there, glitch_there}
-use Rattle.queries.proofs.in_families.Statement.{statement}
-use Rattle.queries.proofs.in_families.Tie as tie
+use Rattle.queries.proofs.in_families.Goals as goal
 
 module _ {value : Value.Netlist} (f : Formed value) where
   -- a node's parts are there
@@ -34,44 +33,31 @@ module _ {value : Value.Netlist} (f : Formed value) where
       let l : i < length n.nodes = omega (arith, value_count n e) in
       rw w ((settled_there n formed rest i l).same A, (glitch_there n formed rest i l).same A)
 
-all-families-requires : tie.Need-all-families-requires
-all-families-requires c κs = all_ready c.before.requires.0 _ (length-replicate {A = ℕ} most_work 0)
+pub all_families-requires : goal.all_families-requires
+all_families-requires c = all_ready c.requires.0 _ (length-replicate {A = ℕ} most_work 0)
 
-slice-aggregate-holds : tie.Need-slice-aggregate-init
-slice-aggregate-holds c = search rules
+pub overflow_mul-node : goal.overflow_mul-node
+overflow_mul-node c = omega (arith, few_nodes c.requires.0)
 
-mul_holds : tie.Need-overflow-mul-holds
-mul_holds c = omega (arith, few_nodes c.before.before.before.before.requires.0)
+pub holds-settled-requires : goal.holds-settled-requires
+holds-settled-requires c =
+    let pre = c.requires in
+    (has_part pre.0 _ _ _ pre.1 (omega arith) (search rules), pre.2)
 
-holds-requires : tie.Need-holds-requires
-holds-requires c κs =
-    let pre = c.before.before.before.before.requires in
-    (has_part pre.0 _ _ _ pre.1 (omega arith) (slice-aggregate-holds c), pre.2)
+pub overflow_mul-node-2 : goal.overflow_mul-node-2
+overflow_mul-node-2 c = omega (arith, few_nodes c.requires.0)
 
-slice-aggregate-holds-2 : tie.Need-slice-aggregate-init-2
-slice-aggregate-holds-2 c = search rules
+pub overflow_add-node : goal.overflow_add-node
+overflow_add-node c = omega (arith, few_nodes c.requires.0)
 
-mul-holds-2 : tie.Need-overflow-mul-holds-2
-mul-holds-2 c = omega (arith, few_nodes c.before.before.before.before.before.before.requires.0)
+pub holds-glitch-requires : goal.holds-glitch-requires
+holds-glitch-requires c =
+    let pre = c.requires in
+    (has_part pre.0 _ _ _ pre.1 (omega arith) (search rules), pre.2)
 
-add_holds : tie.Need-overflow-add-holds
-add_holds c = omega (arith, few_nodes c.before.before.before.before.before.before.requires.0)
-
-holds-requires-2 : tie.Need-holds-requires-2
-holds-requires-2 c κs =
-    let pre = c.before.before.before.before.before.before.requires in
-    (has_part pre.0 _ _ _ pre.1 (omega arith) (slice-aggregate-holds-2 c), pre.2)
-
-returns : tie.Need-returns
+pub returns : goal.returns
 returns c =
-    let all = c.before.before.before.before.before in
-    let pre = all.before.before.requires in
+    let pre = c.requires in
     λ n e.
-    let (s, g) = in_parts pre.0 n e _ _ _ _ pre.1 (all.all-families.ensures n e) in
-    (refl, c.before.before.holds.ensures ∙ s, c.holds2.ensures ∙ g)
-
-pub in-families-spec : {M : Type 1} → statement M
-in-families-spec =
-    tie.close
-    (tie.spec (λ c. search rules) all-families-requires slice-aggregate-holds mul_holds
-    holds-requires slice-aggregate-holds-2 mul-holds-2 add_holds holds-requires-2 returns)
+    let (s, g) = in_parts pre.0 n e _ _ _ _ pre.1 (c.all_families.ensures n e) in
+    (refl, c.holds-settled.ensures ∙ s, c.holds-glitch.ensures ∙ g)
