@@ -155,7 +155,8 @@ pub fn derive_held(
     let room = fitting(steps.len());
     let reply = explain(netlist, work, claim, &mut found, room);
     if let Derived::Steps(count) = reply {
-        bytes::copy(&found[..STEP * count], steps);
+        let end = STEP * count;
+        steps[..end].copy_from_slice(&found[..end]);
     }
     reply
 }
