@@ -1,7 +1,7 @@
 -- The order of the pairs: it lists each pair of tested nodes exactly once, i below j, by j and then i.
 -- What holds of each entry of a list and between any two of its entries is followed through the lists that
 -- `pairs` is made of. Assumes nothing.
-use Prim.Native.Nat.{ℕ, zero, suc, ◌+◌, ◌≤◌, ◌<◌}
+use Prim.Native.Nat.{ℕ, zero, suc, ◌≤◌, ◌<◌}
 use mathlib.Core.Path.{◌≡◌, refl, sym, ap, subst}
 use mathlib.Core.Logic.{◌⊎◌, inl, inr, ⊎_elim}
 use mathlib.Core.Bool.{Bool, true, false, cond}

@@ -1,0 +1,13 @@
+-- `pairs::examine_pairs` meets its contract. The loop's invariant: what was under way where it began still is.
+-- The measure is how many nodes are left. Assumes nothing.
+use Prim.Native.Nat.{ℕ, ◌-◌}
+use mathlib.Core.List.{List}
+use Rattle.pairs.specs.Underway.{Underway}
+use Rattle.pairs.proofs.examine_pairs.Given as goal
+
+abbrev pub invariant-loop-netlist : goal.invariant-loop-netlist
+invariant-loop-netlist l =
+    (before : List ℕ) → Underway l.bytes l.entries l.limit before l.netlist l.work l.initial.progress → Underway l.bytes l.entries l.limit before l.netlist l.work l.progress
+
+abbrev pub decreases-loop-netlist : goal.decreases-loop-netlist
+decreases-loop-netlist l = l.progress.nodes - l.progress.next
