@@ -1,6 +1,6 @@
 // The cases and edges of document 01 that are not in its table: what a check, a query or the listing answers, and what
 // the lent slices hold after it; and products of families. Where two conditions meet, the case shows which is checked
-// first. It uses the functions that it tests, over slices that `test_trial` and `test_trial` lend.
+// first. It uses the functions that it tests, over slices that `test_trial` lends.
 //
 // Standard input has one case a line: a command with its numbers, a block and the case's name, with colons between
 // them.
@@ -50,7 +50,6 @@ use check::same;
 use derivations::Derived;
 use edit_rules::{Edit, State};
 use families::{PART, SETS};
-use libc::{STDIN_FILENO, STDOUT_FILENO};
 use listing_text::MOST_TEXT;
 use pair_search::{Found, Search};
 use pairs::PairsReply;
@@ -62,6 +61,11 @@ use test_tools::{
     same_record,
 };
 use test_trial::SeenEdit;
+
+// Standard input's and standard output's descriptors.
+const STDIN: i32 = 0;
+
+const STDOUT: i32 = 1;
 
 // The most bytes of standard input, and of a block.
 const MOST_INPUT: usize = 65536;
@@ -768,7 +772,7 @@ fn print_set(set: u16, joined: bool, more: bool) {
     }
     if !more {
         print_byte(b'-');
-        io::print_decimal(STDOUT_FILENO, set as u64);
+        io::print_decimal(STDOUT, set as u64);
     }
 }
 
@@ -1035,7 +1039,7 @@ fn run_lines(text: &[u8])
 
 fn main() {
     let mut text = [0u8; MOST_INPUT];
-    let count = io::read_full(STDIN_FILENO, &mut text);
+    let count = io::read_full(STDIN, &mut text);
     run_lines(&text[0..count]);
     if count == MOST_INPUT {
         print(b"standard input is too long\n");

@@ -1,0 +1,9 @@
+-- `test_random_derivations::judge` is safe and ends: each turn leaves fewer steps. Assumes nothing.
+use Rattle.std.proofs.Common.{rules}
+use Rattle.test_random_derivations.proofs.judge.Given as goal
+
+abbrev pub invariant-loop-at : goal.invariant-loop-at
+invariant-loop-at l = Unit
+
+abbrev pub decreases-loop-at : goal.decreases-loop-at
+decreases-loop-at l = l.at
