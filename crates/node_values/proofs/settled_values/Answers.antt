@@ -86,12 +86,11 @@ pub overflow_add-i : goal.overflow_add-i
 overflow_add-i c = omega (arith, few_nodes c.requires)
 
 pub loop-i-preserved : goal.loop-i-preserved
-loop-i-preserved c =
-    let turn = c.before.before.before in (
-      omega arith,
-      simp length-set turn.before.loop-i.invariant.1,
-      λ f. next f _ _ _ _ turn.loop-i-test.true (turn.before.loop-i.invariant.2 f) c.value_from.ensures,
-    )
+loop-i-preserved c = (
+  omega arith,
+  simp length-set c.loop-i.invariant.1,
+  λ f. next f _ _ _ _ c.loop-i-test.true (c.loop-i.invariant.2 f) c.value_from.ensures,
+)
 
 pub returns : goal.returns
 returns c = finished c.requires _ _ _ c.loop-i-test.false (c.loop-i.invariant.2 c.requires)
