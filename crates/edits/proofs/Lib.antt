@@ -4,5 +4,3 @@ pub mod Loaded
 pub mod Promises
 pub mod Runs
 pub mod Altered
--- A mutable slice that is lent as a shared one for the length of a call.
-pub mod Shared

@@ -2,7 +2,7 @@
 -- check of its written-out netlist leaves it, and so it is in any longer slices, and in shorter ones that have room.
 -- Opening gives such a block, and every edit, made or refused, in slices that have room or not, keeps it such.
 -- So after any run of edits what both arrays hold is what checking the written-out block gives. Assumes nothing.
-use Prim.Native.Nat.{ℕ, ◌+◌, ◌*◌, ◌≤◌}
+use Prim.Native.Nat.{ℕ, ◌*◌, ◌≤◌}
 use mathlib.Core.Path.{◌≡◌, refl, sym, ap, subst, ◌∙◌}
 use mathlib.Core.List.{List, [], ◌∷◌, ◌++◌, append-nil}
 use native.Mathlib.Omega.{arith}
@@ -315,12 +315,12 @@ EndsIn state nodes work b = (state ≡ state_of b.netlist) × (nodes ≡ b.nodes
 abbrev Open : OpenBlock → State → Type 0
 Open b state = IsOpen b.netlist state b.nodes b.work
 
-pub run_as_promised : {n : Netlist} {state state' : State} {nodes nodes' : List NodeRecord} {work work' : List ℕ} {calls : List Call}
+pub run_as_promised : {state' : State} {nodes' : List NodeRecord} {work' : List ℕ} {state : State} {nodes : List NodeRecord} {work : List ℕ} {calls : List Call} {n : Netlist}
     → IsOpen n state nodes work → Ran state' nodes' work' calls state nodes work
     → EndsIn state' nodes' work' (after_calls (record { netlist = n; nodes = nodes; work = work }) calls)
 unfolding lent_of given_back after_calls
 run_as_promised is ended = (is.its_state, refl, refl)
-run_as_promised {n} {state} {state'} {nodes} {nodes'} {work} {work'} is (called {calls} c given ns ws promised rest) =
+run_as_promised {state'} {nodes'} {work'} {state} {nodes} {work} {n = n} is (called {calls} c given ns ws promised rest) =
     let (_, its-state, arrays) = as_promised is c given ns ws promised in
     let open-there = subst (λ (b : OpenBlock). Open b (state_of b.netlist)) (sym arrays) (call_stays_open is c) in
     subst (λ (b : OpenBlock). EndsIn state' nodes' work' (after_calls b calls)) arrays (run_as_promised (rw its-state open-there) rest)

@@ -1,6 +1,5 @@
 -- `edits::edited_of` meets its contract: of a refusal the state is the one handed in, and of an answer
 -- `opened_of` ensures it. Assumes nothing.
-use borrow.Author.Rules.{rules}
 use Rattle.edits.proofs.edited_of.Goals as goal
 
 pub returns-in-Refused : goal.returns-in-Refused

@@ -1,11 +1,8 @@
 -- `edits::loaded_of` meets its contract. The loop's invariant: each array has the field of so many of the records,
 -- and zeros beyond them. The measure is what is left of the records. Assumes nothing.
-use Prim.Native.Nat.{◌-◌, ◌≤◌}
 use mathlib.Core.Path.{◌≡◌, sym}
 use native.Mathlib.Omega.{arith}
-use borrow.Author.Rules.{rules}
-use Rattle.netlists.specs.Netlists.{blank}
-use Rattle.edits.specs.Edited.{column, loaded_from}
+use Rattle.edits.specs.Edited.{loaded_from}
 use Rattle.edits.proofs.Loaded.{column_none, column_more}
 use Rattle.edits.proofs.loaded_of.Goals as goal
 

@@ -1,12 +1,9 @@
 -- `edits::loaded_of` meets its contract. The loop's invariant: each array has the field of so many of the records,
 -- and zeros beyond them. The measure is what is left of the records. Assumes nothing.
 use Prim.Native.Nat.{◌-◌, ◌≤◌}
-use mathlib.Core.Path.{◌≡◌, sym}
-use native.Mathlib.Omega.{arith}
-use borrow.Author.Rules.{rules}
+use mathlib.Core.Path.{◌≡◌}
 use Rattle.netlists.specs.Netlists.{blank}
-use Rattle.edits.specs.Edited.{column, loaded_from}
-use Rattle.edits.proofs.Loaded.{column_none, column_more}
+use Rattle.edits.specs.Edited.{column}
 use Rattle.edits.proofs.loaded_of.Given as goal
 
 abbrev pub invariant-loop-i : goal.invariant-loop-i

@@ -1,6 +1,5 @@
 -- `edits::opened_of` meets its contract: its state is the one that `state_of` ensures.
 -- Assumes nothing.
-use borrow.Author.Rules.{rules}
 use Rattle.edits.proofs.opened_of.Goals as goal
 
 pub returns : goal.returns

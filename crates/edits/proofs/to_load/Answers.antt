@@ -1,7 +1,6 @@
 -- `edits::to_load` meets its contract: the two tests take the lower of two numbers, one after the other.
 -- Assumes nothing.
 use native.Mathlib.Omega.{arith}
-use mathlib.Core.Logic.{⊎_elim}
 use Rattle.edits.proofs.to_load.Goals as goal
 use Rattle.edits.proofs.to_load.Goals.{else-most-gt-MOST_NODES, then-most-gt-MOST_NODES}
 
