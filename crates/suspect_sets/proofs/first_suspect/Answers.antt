@@ -1,4 +1,4 @@
--- `suspects::first_suspect` meets its contract. Where the part and the map have no set in common,
+-- `suspect_sets::first_suspect` meets its contract. Where the part and the map have no set in common,
 -- none is suspect (`none_suspect`). The loop's invariant: the sets at the places passed are not suspect members.
 -- The measure is what is left to pass. Assumes nothing.
 use Prim.Native.Nat.{ℕ}

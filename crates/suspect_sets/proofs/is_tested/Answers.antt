@@ -1,4 +1,4 @@
--- `suspects::is_tested` meets its contract: kind 2 is an input. Assumes nothing.
+-- `suspect_sets::is_tested` meets its contract: kind 2 is an input. Assumes nothing.
 use mathlib.Core.Path.{ap, ◌∙◌}
 use mathlib.Core.Bool.{not, not-not}
 use Rattle.rules.specs.Families.{tested}

@@ -1,4 +1,4 @@
--- `suspects::variables_of` meets its contract. The loop's invariant: the set is that of the variables passed,
+-- `suspect_sets::variables_of` meets its contract. The loop's invariant: the set is that of the variables passed,
 -- and below 2 to the power of their number. The measure is what is left of them. Assumes nothing.
 use Prim.Native.Nat.{ℕ, ◌+◌, ◌*◌, ◌^◌, ◌<◌, ◌≤◌}
 use mathlib.Core.Path.{◌≡◌, refl, sym, ap₂, ◌∙◌}

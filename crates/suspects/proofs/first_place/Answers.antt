@@ -3,7 +3,7 @@
 use Rattle.suspects.proofs.first_place.Goals as goal
 
 pub returns-then-is_tested-met : goal.returns-then-is_tested-met
-returns-then-is_tested-met c = λ cell e. rw (← c.before.is_tested.ensures cell e, c.if-is_tested-met.true)
+returns-then-is_tested-met c = λ cell e. rw (← c.is_tested.ensures cell e, c.if-is_tested-met.true)
 
 pub returns-else-is_tested-met : goal.returns-else-is_tested-met
-returns-else-is_tested-met c = λ cell e. rw (← c.before.is_tested.ensures cell e, c.if-is_tested-met.false)
+returns-else-is_tested-met c = λ cell e. rw (← c.is_tested.ensures cell e, c.if-is_tested-met.false)
