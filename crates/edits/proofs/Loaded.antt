@@ -21,7 +21,7 @@ use Rattle.netlists.specs.Netlists.{flat_of}
 use Rattle.netlists.proofs.Netlists.{padded_none, made_set}
 use Rattle.marks.specs.Marks.{flat_marks, marks_in, marks_of}
 use Rattle.checker.specs.Work.{unwritten, no_entries, stored}
-use Rattle.checker.proofs.Stored.{stored_front, stored_length, no_entries_length}
+use Rattle.checker.proofs.Stored.{stored_front, no_entries_length}
 use Rattle.edit_rules.specs.declared.State.{State}
 use Rattle.edit_rules.specs.Meaning.{state_of, IsOpen}
 use Rattle.edit_steps.specs.Changes.{state_in}
@@ -47,9 +47,6 @@ module _ (records : List NodeRecord) where
   -- the first k of them
   abbrev pub copied : (k : ℕ) → List NodeRecord
   copied = stored (λ i. get_or records i unwritten) no_entries
-
-  pub copied_length : (k : ℕ) → length (copied k) ≡ most_nodes
-  copied_length k = stored_length (λ i. get_or records i unwritten) no_entries k ∙ no_entries_length
 
   tabulated : (k : ℕ) → k ≤ length records → tabulate (λ i. get_or records i unwritten) k ≡ take k records
   unfolding tabulate
