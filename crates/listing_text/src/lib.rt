@@ -1,7 +1,7 @@
 // The listing: `telgouin_listing` checks netlist bytes and writes the text to the lent slice, the only
 // thing that is written to; `listing_of` makes the text of a block whose answer and families are at hand.
-// The lines are those of `listing_lines`. For the programs `listing` and `telgouin`, by way of `desk`, and for
-// callers of the library in C and Rust.
+// The lines are those of `listing_lines`. For the programs `listing` and `telgouin`, by way of `desk`, and, by
+// `listing_text_c`, for callers in C and Rust.
 #![tactic(auto)]
 
 ghost use Rattle.std.specs.Prelude.{◌≡◌, List, ◌++◌, ℕ, ◌+◌, ◌*◌, ◌≤◌, length};
@@ -125,8 +125,7 @@ fn put_listing(text: &mut [u8; MOST_TEXT], bytes: &[u8]) -> usize
 // The listing of netlist bytes: checks them and writes the listing's text to the front of `text`.
 // Returns how many bytes the text has; a slice that is too short for it keeps its contents.
 // `MOST_TEXT` bytes are enough for every listing.
-#[unsafe(no_mangle)]
-pub extern "C" fn telgouin_listing(bytes: &[u8], text: &mut [u8]) -> usize
+pub fn telgouin_listing(bytes: &[u8], text: &mut [u8]) -> usize
     ensures size { result ≡ length (listing bytes.now) }
     ensures most { result ≤ most_text }
     ensures text { text.new ≡ shown (listing bytes.now) text.old }
@@ -134,7 +133,7 @@ pub extern "C" fn telgouin_listing(bytes: &[u8], text: &mut [u8]) -> usize
     let mut whole = [0u8; MOST_TEXT];
     let count = put_listing(&mut whole, bytes);
     if count <= text.len() {
-        bytes::copy(&whole[..count], text);
+        text[..count].copy_from_slice(&whole[..count]);
     }
     count
 }

@@ -1,0 +1,20 @@
+-- `listing_text::put_listing` meets its contract: the work bytes and the number of entries have room for every netlist,
+-- so what is examined is what is read, and the work bytes hold its families. Assumes nothing.
+use Rattle.std.proofs.Common.{ℕ}
+use lib.ListN.{length-replicate}
+use Rattle.rules.specs.Checks.{most_work}
+use Rattle.rules.specs.Listing.{text_of, listing}
+use Rattle.listing_text.proofs.Checked.{refused_read, checked, obeys}
+use Rattle.listing_text.proofs.put_listing.Goals as goal
+
+pub returns-in-Refused : goal.returns-in-Refused
+unfolding listing text_of
+returns-in-Refused c =
+    rw (refused_read _ _ (length-replicate {A = ℕ} most_work 0) c.in-Refused.is c.examine-examined.ensures.reply) c.put_refusal.ensures
+
+pub returns-in-Answered : goal.returns-in-Answered
+unfolding listing text_of
+returns-in-Answered c =
+    let given = c.examine-examined.ensures in
+    let checks = checked _ _ (length-replicate {A = ℕ} most_work 0) c.in-Answered.is given.reply given.netlist given.work in
+    rw checks.is_read (c.listing_of.ensures.appended checks.netlist _ (obeys checks) checks.is_value checks.found checks.is_work)
