@@ -1,0 +1,38 @@
+-- `desk_text::put_numbers` meets its contract. The loop's invariant: the first k numbers are behind the front,
+-- in at most 21 bytes each. The measure is how many are left. Assumes nothing.
+use Prim.Native.Nat.{ℕ, ◌+◌, ◌*◌, ◌-◌, ◌≤◌}
+use mathlib.Core.Path.{ap}
+use mathlib.Core.List.{List, map}
+use native.Mathlib.Numerals.{add-one}
+use native.Mathlib.Omega.{arith}
+use borrow.Author.Rules.{rules}
+use lib.ListN.{length, take, get_or}
+use lib.Seq.{take-suc, take_all}
+use Rattle.rules.specs.Listing.{decimal}
+use Rattle.rule_laws.proofs.Decimal.{decimal_short}
+use Rattle.listing_lines.specs.Text.{Appended}
+use Rattle.listing_lines.proofs.Text.{appended_none, appended_more, appended_as}
+use Rattle.desk_text.specs.Desk.{behind}
+use Rattle.desk_text.proofs.Desk.{numbers_more}
+use Rattle.desk_text.proofs.put_numbers.Goals as goal
+
+pub loop-k-init : goal.loop-k-init
+unfolding behind
+loop-k-init c = (omega arith, omega arith, appended_none _ _)
+
+pub put_field-end-requires : goal.put_field-end-requires
+put_field-end-requires c =
+    let number = get_or c.args.numbers.now c.loop-k.k 0 in
+    let fits = c.type_inv.numbers c.loop-k.k in
+    omega (arith, decimal_short 20 number (omega arith) (omega (arith, fits)))
+
+pub loop-k-preserved : goal.loop-k-preserved
+loop-k-preserved c =
+    let numbers = c.args.numbers.now in
+    let k = c.loop-k.k in
+    let fits = c.type_inv.numbers k in (
+      omega arith,
+      omega (arith, decimal_short 20 (get_or numbers k 0) (omega arith) (omega (arith, fits))),
+      rw (add-one k, take-suc numbers k 0 (omega arith))
+          (appended_as (numbers_more (take k numbers) _) (appended_more c.loop-k.invariant.2 c.put_field-end.ensures)),
+    )

@@ -1,0 +1,17 @@
+-- `edit_turns::begin` meets its contract: a block that is admitted is held, and the reply is its answer.
+-- Assumes nothing.
+use mathlib.Core.Path.{◌≡◌, ap, ◌∙◌}
+use lib.ListN.{length}
+use borrow.Author.Rules.{rules}
+use Rattle.rules.specs.Checks.{most_work}
+use Rattle.rules.specs.Paper.{reply_of}
+use Rattle.edit_turns.proofs.Outcomes.{admitted_reply}
+use Rattle.edit_turns.proofs.begin.Goals as goal
+
+pub returns-clause-stands : goal.returns-clause-stands
+returns-clause-stands c =
+    let opened = c.open_held.ensures in
+    let begun = c.begin_with.ensures in
+    let long : length c.args.work.now ≡ most_work = search rules in
+    let says = rw long at opened.0 in
+    λ n admits. begun.1.0 n _ (opened.1 n (rw long admits)) (says ∙ admitted_reply _ _ _ n admits)

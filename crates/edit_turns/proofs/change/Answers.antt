@@ -1,0 +1,18 @@
+-- `edit_turns::change` meets its contract: the block is held after an edit, made or refused, and the reply tells which.
+-- Assumes nothing.
+use mathlib.Core.Path.{◌≡◌, sym}
+use native.Mathlib.Omega.{arith}
+use lib.ListN.{length}
+use lib.Seq.{length-take-le}
+use borrow.Author.Rules.{rules}
+use Rattle.rules.specs.Checks.{most_work}
+use Rattle.edit_turns.proofs.Outcomes.{turned_answers}
+use Rattle.edit_turns.proofs.change.Goals as goal
+
+pub returns : goal.returns
+returns c =
+    let changed = c.edit_held-changed.ensures in
+    let long : length c.args.work.now ≡ most_work = search rules in
+    λ s stands.
+    rw c.turned-turn.ensures
+    (turned_answers s _ _ _ _ stands _ (rw long at (changed.0 s.netlist-1 stands.is)) (rw long at (changed.1 s.netlist-1 stands.is)))

@@ -1,0 +1,38 @@
+-- `write_words::put_nodes` meets its contract. The loop's invariant: the lines of the first i nodes are behind the
+-- variables'. The measure is the number of nodes left. Assumes nothing.
+use Prim.Native.Nat.{◌+◌, ◌*◌, ◌-◌, ◌≤◌, ◌<◌}
+use mathlib.Core.Path.{◌≡◌, refl, ap}
+use mathlib.Core.List.{List, map}
+use native.Mathlib.Omega.{arith}
+use borrow.Author.Rules.{rules}
+use lib.ListN.{length, take}
+use lib.Seq.{take_all}
+use Rattle.rules.specs.Records.{Netlist, Cell, input, node}
+use Rattle.netlists.specs.Netlists.{flat_of}
+use Rattle.netlists.proofs.Netlists.{value_count, value_entry}
+use Rattle.listing_lines.specs.Text.{Appended}
+use Rattle.listing_lines.proofs.Text.{appended_none, appended_more, appended_as}
+use Rattle.write_words.specs.Worded.{record_lines, most_node_line}
+use Rattle.write_words.proofs.Worded.{lines_more}
+use Rattle.write_words.proofs.put_nodes.Goals as goal
+
+pub loop-i-init : goal.loop-i-init
+unfolding record_lines
+loop-i-init c = (omega arith, omega arith, refl, λ n e. appended_none _ _)
+
+pub loop-i-preserved : goal.loop-i-preserved
+loop-i-preserved c =
+    let i = c.loop-i.i in (
+      omega arith,
+      omega arith,
+      omega arith,
+      λ n e.
+          let h : i < length n.nodes = omega (arith, value_count n e) in
+          appended_as (lines_more node n.nodes i (input 0) h)
+          (appended_more (c.loop-i.invariant.3 n e) (c.put_node-next.ensures.appended _ (value_entry n e i (omega arith)))),
+    )
+
+pub returns-clause-appended : goal.returns-clause-appended
+returns-clause-appended c = λ n e.
+    let all : length n.nodes ≤ c.loop-i.i = omega (arith, value_count n e) in
+    appended_as (ap (λ (nodes : List Cell). record_lines (map node nodes)) (take_all c.loop-i.i n.nodes all)) (c.loop-i.invariant.3 n e)
