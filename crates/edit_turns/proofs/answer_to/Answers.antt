@@ -1,6 +1,5 @@
 -- `edit_turns::answer_to` meets its contract: an edit is made, and all else leaves the block as it is. Assumes nothing.
 use mathlib.Core.Path.{refl}
-use borrow.Author.Rules.{rules}
 use Rattle.edit_lines.specs.Asks.{none, lists, writes, quits, no_edit}
 use Rattle.edit_turns.specs.Turns.{failed, after_asks, reply_to}
 use Rattle.edit_turns.proofs.Outcomes.{unchanged_answers}

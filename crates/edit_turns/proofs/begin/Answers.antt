@@ -1,10 +1,9 @@
 -- `edit_turns::begin` meets its contract: a block that is admitted is held, and the reply is its answer.
 -- Assumes nothing.
-use mathlib.Core.Path.{◌≡◌, ap, ◌∙◌}
+use mathlib.Core.Path.{◌≡◌, ◌∙◌}
 use lib.ListN.{length}
 use borrow.Author.Rules.{rules}
 use Rattle.rules.specs.Checks.{most_work}
-use Rattle.rules.specs.Paper.{reply_of}
 use Rattle.edit_turns.proofs.Outcomes.{admitted_reply}
 use Rattle.edit_turns.proofs.begin.Goals as goal
 
@@ -13,5 +12,5 @@ returns-clause-stands c =
     let opened = c.open_held.ensures in
     let begun = c.begin_with.ensures in
     let long : length c.args.work.now ≡ most_work = search rules in
-    let says = rw long at opened.0 in
-    λ n admits. begun.1.0 n _ (opened.1 n (rw long admits)) (says ∙ admitted_reply _ _ _ n admits)
+    let says = rw long at opened.reply in
+    λ n admits. begun.stands n _ (opened.held n (rw long admits)) (says ∙ admitted_reply _ _ _ n admits)

@@ -1,9 +1,7 @@
 -- `edit_turns::change` meets its contract: the block is held after an edit, made or refused, and the reply tells which.
 -- Assumes nothing.
-use mathlib.Core.Path.{◌≡◌, sym}
-use native.Mathlib.Omega.{arith}
+use mathlib.Core.Path.{◌≡◌}
 use lib.ListN.{length}
-use lib.Seq.{length-take-le}
 use borrow.Author.Rules.{rules}
 use Rattle.rules.specs.Checks.{most_work}
 use Rattle.edit_turns.proofs.Outcomes.{turned_answers}
@@ -15,4 +13,4 @@ returns c =
     let long : length c.args.work.now ≡ most_work = search rules in
     λ s stands.
     rw c.turned-turn.ensures
-    (turned_answers s _ _ _ _ stands _ (rw long at (changed.0 s.netlist-1 stands.is)) (rw long at (changed.1 s.netlist-1 stands.is)))
+    (turned_answers s _ _ _ _ stands _ (rw long at (changed.reply s.netlist stands.is)) (rw long at (changed.held s.netlist stands.is)))
