@@ -1,17 +1,11 @@
 -- `write_bytes::put_nodes` meets its contract. The loop's invariant: the records of the first i nodes are stored behind
 -- the variables'. The measure is the number of nodes left. Assumes nothing.
-use Prim.Native.Nat.{◌+◌, ◌*◌, ◌-◌, ◌≤◌, ◌<◌}
-use mathlib.Core.Path.{◌≡◌, refl, ap}
-use native.Mathlib.Omega.{arith}
-use borrow.Author.Rules.{rules}
+use Prim.Native.Nat.{◌+◌, ◌*◌, ◌-◌, ◌≤◌}
+use mathlib.Core.Path.{◌≡◌}
 use lib.ListN.{length, take}
-use lib.Seq.{take_all}
 use Rattle.rules.specs.Records.{Netlist, nodes_out, most_record}
 use Rattle.netlists.specs.Netlists.{flat_of}
-use Rattle.netlists.proofs.Netlists.{value_count, value_entry}
 use Rattle.listing_lines.specs.Text.{Appended}
-use Rattle.listing_lines.proofs.Text.{appended_none, appended_more, appended_as}
-use Rattle.write_bytes.proofs.Records.{nodes_more}
 use Rattle.write_bytes.proofs.put_nodes.Given as goal
 
 abbrev pub invariant-loop-i : goal.invariant-loop-i

@@ -1,15 +1,12 @@
 -- `write_bytes::put_variables` meets its contract. The loop's invariant: the records of the first i variables are
 -- stored at the front. The measure is the number of variables left. Assumes nothing.
-use Prim.Native.Nat.{◌*◌, ◌-◌, ◌≤◌, ◌<◌}
-use mathlib.Core.Path.{◌≡◌, refl, ap}
+use Prim.Native.Nat.{◌≤◌, ◌<◌}
+use mathlib.Core.Path.{refl, ap}
 use native.Mathlib.Omega.{arith}
-use borrow.Author.Rules.{rules}
-use lib.ListN.{length, take}
+use lib.ListN.{length}
 use lib.Seq.{take_all}
-use Rattle.rules.specs.Records.{Netlist, record_bytes, variables_out}
-use Rattle.netlists.specs.Netlists.{flat_of}
+use Rattle.rules.specs.Records.{record_bytes, variables_out}
 use Rattle.netlists.proofs.Netlists.{flat_class_at, value_variables}
-use Rattle.listing_lines.specs.Text.{Appended}
 use Rattle.listing_lines.proofs.Text.{appended_none, appended_more, appended_as}
 use Rattle.write_bytes.proofs.Records.{variables_more}
 use Rattle.write_bytes.proofs.put_variables.Goals as goal

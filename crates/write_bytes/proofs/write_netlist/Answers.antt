@@ -1,14 +1,8 @@
 -- `write_bytes::write_netlist` meets its contract: a netlist is within the limits, and the records of its variables,
 -- those of its nodes and the end are stored one behind the other. Assumes nothing.
-use Prim.Native.Nat.{◌+◌}
-use mathlib.Core.Path.{◌≡◌}
 use native.Mathlib.Omega.{arith}
-use borrow.Author.Rules.{rules}
-use lib.ListN.{set}
-use Rattle.rules.specs.Records.{Netlist, WellFormed, record_bytes, written_out}
-use Rattle.netlists.specs.Netlists.{flat_of}
+use Rattle.rules.specs.Records.{record_bytes, written_out}
 use Rattle.netlists.proofs.Netlists.{value_variables, value_count}
-use Rattle.listing_lines.specs.Text.{Appended}
 use Rattle.listing_lines.proofs.Text.{appended_byte, appended_more, appended_size, appended_whole}
 use Rattle.write_bytes.proofs.write_netlist.Goals as goal
 
