@@ -1,10 +1,8 @@
 -- `write_words::put_class` meets its contract: the word of the class's form, and a line feed. Assumes nothing.
 use Prim.Native.Nat.{ℕ, ◌+◌, ◌≤◌}
 use mathlib.Core.Path.{◌≡◌, refl, ap, ◌∙◌}
-use mathlib.Core.Logic.{⊎_elim}
 use mathlib.Core.List.{[], ◌∷◌, ◌++◌}
 use native.Mathlib.Omega.{arith}
-use borrow.Author.Rules.{rules}
 use Rattle.rules.specs.Records.{Class, secret, mask, public, variable, class_byte}
 use Rattle.rules.specs.Listing.{line}
 use Rattle.listing_lines.proofs.Text.{appended_more, appended_as}

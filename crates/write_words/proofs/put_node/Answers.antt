@@ -1,9 +1,5 @@
 -- `write_words::put_node` meets its contract: the name of the kind, the numbers behind it, and a line feed.
 -- Assumes nothing.
-use Prim.Native.Nat.{◌+◌, ◌≤◌}
-use mathlib.Core.Logic.{⊎_elim}
-use native.Mathlib.Omega.{arith}
-use borrow.Author.Rules.{rules}
 use Rattle.listing_lines.proofs.Text.{appended_more, appended_as}
 use Rattle.write_words.specs.Worded.{numbers_of, record_words, record_line}
 use Rattle.write_words.proofs.Worded.{line_fields, kind_of_lem}

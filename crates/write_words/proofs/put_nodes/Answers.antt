@@ -1,18 +1,15 @@
 -- `write_words::put_nodes` meets its contract. The loop's invariant: the lines of the first i nodes are behind the
 -- variables'. The measure is the number of nodes left. Assumes nothing.
-use Prim.Native.Nat.{◌+◌, ◌*◌, ◌-◌, ◌≤◌, ◌<◌}
-use mathlib.Core.Path.{◌≡◌, refl, ap}
+use Prim.Native.Nat.{◌≤◌, ◌<◌}
+use mathlib.Core.Path.{refl, ap}
 use mathlib.Core.List.{List, map}
 use native.Mathlib.Omega.{arith}
-use borrow.Author.Rules.{rules}
-use lib.ListN.{length, take}
+use lib.ListN.{length}
 use lib.Seq.{take_all}
-use Rattle.rules.specs.Records.{Netlist, Cell, input, node}
-use Rattle.netlists.specs.Netlists.{flat_of}
+use Rattle.rules.specs.Records.{Cell, input, node}
 use Rattle.netlists.proofs.Netlists.{value_count, value_entry}
-use Rattle.listing_lines.specs.Text.{Appended}
 use Rattle.listing_lines.proofs.Text.{appended_none, appended_more, appended_as}
-use Rattle.write_words.specs.Worded.{record_lines, most_node_line}
+use Rattle.write_words.specs.Worded.{record_lines}
 use Rattle.write_words.proofs.Worded.{lines_more}
 use Rattle.write_words.proofs.put_nodes.Goals as goal
 

@@ -1,19 +1,13 @@
 -- `write_words::put_nodes` meets its contract. The loop's invariant: the lines of the first i nodes are behind the
 -- variables'. The measure is the number of nodes left. Assumes nothing.
-use Prim.Native.Nat.{◌+◌, ◌*◌, ◌-◌, ◌≤◌, ◌<◌}
-use mathlib.Core.Path.{◌≡◌, refl, ap}
-use mathlib.Core.List.{List, map}
-use native.Mathlib.Omega.{arith}
-use borrow.Author.Rules.{rules}
+use Prim.Native.Nat.{◌+◌, ◌*◌, ◌-◌, ◌≤◌}
+use mathlib.Core.Path.{◌≡◌}
+use mathlib.Core.List.{map}
 use lib.ListN.{length, take}
-use lib.Seq.{take_all}
-use Rattle.rules.specs.Records.{Netlist, Cell, input, node}
+use Rattle.rules.specs.Records.{Netlist, node}
 use Rattle.netlists.specs.Netlists.{flat_of}
-use Rattle.netlists.proofs.Netlists.{value_count, value_entry}
 use Rattle.listing_lines.specs.Text.{Appended}
-use Rattle.listing_lines.proofs.Text.{appended_none, appended_more, appended_as}
 use Rattle.write_words.specs.Worded.{record_lines, most_node_line}
-use Rattle.write_words.proofs.Worded.{lines_more}
 use Rattle.write_words.proofs.put_nodes.Given as goal
 
 abbrev pub invariant-loop-i : goal.invariant-loop-i

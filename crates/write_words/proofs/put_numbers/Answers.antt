@@ -1,15 +1,12 @@
 -- `write_words::put_numbers` meets its contract: an input has the variables of its set, and every other node its
 -- operands. The loop's invariant: the first j operands are put, each in at most three digits with its blank. The
 -- measure is the number of operands left. Assumes nothing.
-use Prim.Native.Nat.{ℕ, ◌+◌, ◌*◌, ◌-◌, ◌≤◌, ◌<◌}
+use Prim.Native.Nat.{ℕ, ◌≤◌, ◌<◌}
 use mathlib.Core.Path.{◌≡◌, refl, sym, ap, ◌∙◌}
-use mathlib.Core.Logic.{inl, inr}
 use mathlib.Core.List.{List, append-nil}
 use native.Mathlib.Numerals.{add-one}
 use native.Mathlib.Omega.{arith}
 use borrow.Author.Rules.{rules}
-use mir.Syntax.{w8}
-use mir.Val.{Fits}
 use lib.ListN.{length, get_or, take}
 use lib.Seq.{take-suc, take_at}
 use Rattle.rules.specs.declared.Node.{Node}
@@ -19,7 +16,6 @@ use Rattle.rules.specs.Slices.{entry}
 use Rattle.rule_laws.proofs.Decimal.{decimal_short}
 use Rattle.rule_laws.proofs.Operands.{known}
 use Rattle.netlists.specs.Netlists.{padded}
-use Rattle.listing_lines.specs.Text.{Appended}
 use Rattle.listing_lines.proofs.Text.{appended_none, appended_more, appended_as}
 use Rattle.write_words.specs.Worded.{variables_below, numbers_of, fields}
 use Rattle.write_words.proofs.Worded.{fields_more}

@@ -1,13 +1,7 @@
 -- `write_words::put_set` meets its contract. The loop's invariant: the variables of the set that are below the next one
 -- are put, each in two bytes with its blank. The measure is how many variables are left. Assumes nothing.
-use Prim.Native.Nat.{◌+◌, ◌*◌, ◌-◌, ◌≤◌}
-use mathlib.Core.Path.{◌≡◌}
-use mathlib.Core.Logic.{⊎_elim}
 use native.Mathlib.Omega.{arith}
-use borrow.Author.Rules.{rules}
-use Rattle.rules.specs.Records.{most_variables}
 use Rattle.rule_laws.proofs.Decimal.{decimal_short}
-use Rattle.listing_lines.specs.Text.{Appended}
 use Rattle.listing_lines.proofs.Text.{appended_none, appended_more, appended_as}
 use Rattle.write_words.specs.Worded.{variables_below, fields}
 use Rattle.write_words.proofs.Worded.{held_more, held_same}

@@ -1,18 +1,15 @@
 -- `write_words::put_variables` meets its contract. The loop's invariant: the lines of the first i variables are at the
 -- front. The measure is the number of variables left. Assumes nothing.
-use Prim.Native.Nat.{◌*◌, ◌-◌, ◌≤◌, ◌<◌}
-use mathlib.Core.Path.{◌≡◌, refl, ap}
+use Prim.Native.Nat.{◌≤◌, ◌<◌}
+use mathlib.Core.Path.{refl, ap}
 use mathlib.Core.List.{List, map}
 use native.Mathlib.Omega.{arith}
-use borrow.Author.Rules.{rules}
-use lib.ListN.{length, take}
+use lib.ListN.{length}
 use lib.Seq.{take_all}
-use Rattle.rules.specs.Records.{Netlist, Class, public, variable}
-use Rattle.netlists.specs.Netlists.{flat_of}
+use Rattle.rules.specs.Records.{Class, public, variable}
 use Rattle.netlists.proofs.Netlists.{flat_class_at, value_variables}
-use Rattle.listing_lines.specs.Text.{Appended}
 use Rattle.listing_lines.proofs.Text.{appended_none, appended_more, appended_as}
-use Rattle.write_words.specs.Worded.{record_lines, most_variable_line}
+use Rattle.write_words.specs.Worded.{record_lines}
 use Rattle.write_words.proofs.Worded.{lines_more}
 use Rattle.write_words.proofs.put_variables.Goals as goal
 

@@ -1,13 +1,8 @@
 -- `write_words::word_netlist` meets its contract: a netlist is within the limits, and the lines of its variables,
 -- those of its nodes and the end go one behind the other. Assumes nothing.
-use mathlib.Core.Path.{◌≡◌}
 use native.Mathlib.Omega.{arith}
-use borrow.Author.Rules.{rules}
-use Rattle.rules.specs.Records.{Netlist, WellFormed}
 use Rattle.rules.specs.Listing.{word, line}
-use Rattle.netlists.specs.Netlists.{flat_of}
 use Rattle.netlists.proofs.Netlists.{value_variables, value_count}
-use Rattle.listing_lines.specs.Text.{Appended}
 use Rattle.listing_lines.proofs.Text.{appended_more, appended_size, appended_whole}
 use Rattle.write_words.specs.Worded.{record_words, record_line, worded_out}
 use Rattle.write_words.proofs.word_netlist.Goals as goal
