@@ -1,6 +1,5 @@
 -- `desk_text::counts_fields` meets its contract: a word and a number, twice. Assumes nothing.
 use mathlib.Core.List.{append-nil}
-use borrow.Author.Rules.{rules}
 use Rattle.rules.specs.Listing.{word}
 use Rattle.listing_lines.proofs.Text.{appended_more, appended_as}
 use Rattle.desk_text.specs.Desk.{behind, parted, counts_text}

@@ -1,15 +1,10 @@
 -- `desk_text::feeding_fields` meets its contract. The loop's invariant: behind the word are the numbers of the marked
 -- nodes below i, each in at most four bytes with its blank. The measure is how many nodes are left. Assumes nothing.
-use Prim.Native.Nat.{◌+◌, ◌*◌, ◌-◌, ◌≤◌}
 use mathlib.Core.Path.{◌≡◌}
-use mathlib.Core.Logic.{⊎_elim}
-use mathlib.Core.List.{map}
 use native.Mathlib.Omega.{arith}
-use borrow.Author.Rules.{rules}
-use Rattle.rules.specs.Listing.{word, decimal}
+use Rattle.rules.specs.Listing.{word}
 use Rattle.rules.specs.Records.{most_nodes}
 use Rattle.rule_laws.proofs.Decimal.{decimal_short}
-use Rattle.listing_lines.specs.Text.{Appended}
 use Rattle.listing_lines.proofs.Text.{appended_none, appended_more, appended_as}
 use Rattle.desk_text.specs.Desk.{behind, parted, marked_below, feeding_text}
 use Rattle.desk_text.proofs.Desk.{marked_more, marked_same}

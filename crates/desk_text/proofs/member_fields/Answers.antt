@@ -1,7 +1,6 @@
 -- `desk_text::member_fields` meets its contract: for each family its name, and behind that the membership.
 -- Assumes nothing.
 use mathlib.Core.List.{append-nil}
-use borrow.Author.Rules.{rules}
 use Rattle.rules.specs.Listing.{word}
 use Rattle.listing_lines.proofs.Text.{appended_more, appended_as}
 use Rattle.desk_text.specs.Desk.{behind, parted, member_text}

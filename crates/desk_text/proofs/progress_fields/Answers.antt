@@ -1,5 +1,4 @@
 -- `desk_text::progress_fields` meets its contract: words and a number, three times. Assumes nothing.
-use borrow.Author.Rules.{rules}
 use Rattle.rules.specs.Listing.{word}
 use Rattle.listing_lines.proofs.Text.{appended_more}
 use Rattle.desk_text.specs.Desk.{parted, progress_text}

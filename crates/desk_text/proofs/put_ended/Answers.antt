@@ -1,6 +1,4 @@
 -- `desk_text::put_ended` meets its contract: each arm writes the words and the numbers of its case. Assumes nothing.
-use native.Mathlib.Omega.{arith}
-use borrow.Author.Rules.{rules}
 use Rattle.rules.specs.Listing.{word}
 use Rattle.desk_text.specs.Desk.{behind, parted, edits_fields}
 use Rattle.desk_text.proofs.put_ended.Goals as goal

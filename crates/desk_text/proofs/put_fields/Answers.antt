@@ -1,6 +1,4 @@
 -- `desk_text::put_fields` meets its contract: the words, and behind them the numbers. Assumes nothing.
-use native.Mathlib.Omega.{arith}
-use borrow.Author.Rules.{rules}
 use Rattle.listing_lines.proofs.Text.{appended_more}
 use Rattle.desk_text.proofs.put_fields.Goals as goal
 

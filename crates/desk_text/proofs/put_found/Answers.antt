@@ -1,6 +1,4 @@
 -- `desk_text::put_found` meets its contract: each arm writes the words and the numbers of its case. Assumes nothing.
-use native.Mathlib.Omega.{arith}
-use borrow.Author.Rules.{rules}
 use Rattle.rules.specs.Listing.{word}
 use Rattle.desk_text.specs.Desk.{behind, parted, found_fields}
 use Rattle.desk_text.proofs.put_found.Goals as goal

@@ -1,5 +1,4 @@
 -- `desk_text::put_half` meets its contract: behind the name a word, or the node and the set. Assumes nothing.
-use borrow.Author.Rules.{rules}
 use Rattle.rules.specs.Listing.{word}
 use Rattle.listing_lines.proofs.Text.{appended_more}
 use Rattle.desk_text.specs.Desk.{behind, parted, half_text}

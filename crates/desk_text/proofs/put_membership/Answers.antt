@@ -1,6 +1,4 @@
 -- `desk_text::put_membership` meets its contract: each arm writes its word. Assumes nothing.
-use native.Mathlib.Omega.{arith}
-use borrow.Author.Rules.{rules}
 use Rattle.rules.specs.Listing.{word}
 use Rattle.desk_text.specs.Desk.{yes_no}
 use Rattle.desk_text.proofs.put_membership.Goals as goal

@@ -1,16 +1,10 @@
 -- `desk_text::put_numbers` meets its contract. The loop's invariant: the first k numbers are behind the front,
 -- in at most 21 bytes each. The measure is how many are left. Assumes nothing.
-use Prim.Native.Nat.{ℕ, ◌+◌, ◌*◌, ◌-◌, ◌≤◌}
-use mathlib.Core.Path.{ap}
-use mathlib.Core.List.{List, map}
 use native.Mathlib.Numerals.{add-one}
 use native.Mathlib.Omega.{arith}
-use borrow.Author.Rules.{rules}
-use lib.ListN.{length, take, get_or}
-use lib.Seq.{take-suc, take_all}
-use Rattle.rules.specs.Listing.{decimal}
+use lib.ListN.{take, get_or}
+use lib.Seq.{take-suc}
 use Rattle.rule_laws.proofs.Decimal.{decimal_short}
-use Rattle.listing_lines.specs.Text.{Appended}
 use Rattle.listing_lines.proofs.Text.{appended_none, appended_more, appended_as}
 use Rattle.desk_text.specs.Desk.{behind}
 use Rattle.desk_text.proofs.Desk.{numbers_more}

@@ -1,5 +1,4 @@
 -- `desk_text::refusal_fields` meets its contract: the word, the number and the place. Assumes nothing.
-use borrow.Author.Rules.{rules}
 use Rattle.rules.specs.Listing.{word}
 use Rattle.desk_text.specs.Desk.{parted, refusal_text}
 use Rattle.desk_text.proofs.refusal_fields.Goals as goal

@@ -1,5 +1,4 @@
 -- `desk_text::search_fields` meets its contract: what was found, and behind it the count. Assumes nothing.
-use borrow.Author.Rules.{rules}
 use Rattle.listing_lines.proofs.Text.{appended_more, appended_as}
 use Rattle.desk_text.specs.Desk.{pairs_text}
 use Rattle.desk_text.proofs.Desk.{parted_more}

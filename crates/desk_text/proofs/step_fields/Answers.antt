@@ -1,7 +1,6 @@
 -- `desk_text::step_fields` meets its contract: a byte has at most three digits, and the others are behind it.
 -- Assumes nothing.
 use native.Mathlib.Omega.{arith}
-use borrow.Author.Rules.{rules}
 use Rattle.rule_laws.proofs.Decimal.{decimal_short}
 use Rattle.listing_lines.proofs.Text.{appended_more}
 use Rattle.desk_text.specs.Desk.{parted, step_text}

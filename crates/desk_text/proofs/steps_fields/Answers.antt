@@ -1,5 +1,4 @@
 -- `desk_text::steps_fields` meets its contract: the word and the count. Assumes nothing.
-use borrow.Author.Rules.{rules}
 use Rattle.rules.specs.Listing.{word}
 use Rattle.desk_text.specs.Desk.{parted, steps_text}
 use Rattle.desk_text.proofs.steps_fields.Goals as goal

@@ -1,5 +1,4 @@
 -- `desk_text::value_fields` meets its contract: each arm writes its digit. Assumes nothing.
-use borrow.Author.Rules.{rules}
 use Rattle.rules.specs.Listing.{word, digits, decimal}
 use Rattle.desk_text.specs.Desk.{behind, parted, value_text}
 use Rattle.desk_text.proofs.value_fields.Goals as goal
