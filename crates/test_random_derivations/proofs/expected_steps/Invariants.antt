@@ -1,5 +1,5 @@
 -- `test_random_derivations::expected_steps` is safe and ends: each turn leaves room for fewer steps. Assumes nothing.
-use Rattle.std.proofs.Common.{◌-◌, ◌≤◌, rules}
+use Rattle.std.proofs.Common.{◌-◌, ◌≤◌}
 use Rattle.test_random_derivations.proofs.expected_steps.Given as goal
 
 abbrev pub invariant-loop-many : goal.invariant-loop-many

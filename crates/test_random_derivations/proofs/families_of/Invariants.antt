@@ -1,5 +1,5 @@
 -- `test_random_derivations::families_of` is safe and ends: each turn leaves fewer claims. Assumes nothing.
-use Rattle.std.proofs.Common.{◌-◌, ◌≤◌, rules}
+use Rattle.std.proofs.Common.{◌-◌, ◌≤◌}
 use Rattle.test_random_derivations.proofs.families_of.Given as goal
 
 abbrev pub invariant-loop-k : goal.invariant-loop-k

@@ -1,5 +1,5 @@
 -- `test_random_derivations::holds_other` is safe and ends: each turn leaves fewer bytes. Assumes nothing.
-use Rattle.std.proofs.Common.{◌-◌, ◌≤◌, rules}
+use Rattle.std.proofs.Common.{◌-◌, ◌≤◌}
 use Rattle.test_random_derivations.proofs.holds_other.Given as goal
 
 abbrev pub invariant-loop-k : goal.invariant-loop-k

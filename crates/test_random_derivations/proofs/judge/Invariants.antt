@@ -1,5 +1,4 @@
 -- `test_random_derivations::judge` is safe and ends: each turn leaves fewer steps. Assumes nothing.
-use Rattle.std.proofs.Common.{rules}
 use Rattle.test_random_derivations.proofs.judge.Given as goal
 
 abbrev pub invariant-loop-at : goal.invariant-loop-at

@@ -1,5 +1,5 @@
 -- `test_random_derivations::main` is safe and ends: each turn leaves fewer blocks. Assumes nothing.
-use Rattle.std.proofs.Common.{◌-◌, ◌≤◌, rules}
+use Rattle.std.proofs.Common.{◌-◌, ◌≤◌}
 use Rattle.test_random_derivations.proofs.main.Given as goal
 
 abbrev pub invariant-loop-turn : goal.invariant-loop-turn

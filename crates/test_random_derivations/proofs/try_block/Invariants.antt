@@ -1,5 +1,5 @@
 -- `test_random_derivations::try_block` is safe and ends: each turn leaves fewer claims. Assumes nothing.
-use Rattle.std.proofs.Common.{◌-◌, ◌≤◌, rules}
+use Rattle.std.proofs.Common.{◌-◌, ◌≤◌}
 use Rattle.test_random_derivations.proofs.try_block.Given as goal
 
 abbrev pub invariant-loop-claim : goal.invariant-loop-claim

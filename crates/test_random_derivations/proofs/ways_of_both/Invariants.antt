@@ -1,5 +1,4 @@
 -- `test_random_derivations::ways_of_both` is safe and ends: each turn leaves fewer sets. Assumes nothing.
-use Rattle.std.proofs.Common.{rules}
 use Rattle.test_random_derivations.proofs.ways_of_both.Given as goal
 
 abbrev pub invariant-loop-left : goal.invariant-loop-left

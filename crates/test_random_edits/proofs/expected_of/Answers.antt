@@ -1,6 +1,5 @@
 -- `test_random_edits::expected_of` is safe: no more bytes are lent than there are. Assumes nothing.
 use native.Mathlib.Omega.{arith}
-use borrow.Author.Rules.{rules}
 use mathlib.Core.Path.{sym}
 use lib.Seq.{length-take-le}
 use Rattle.test_random_edits.proofs.expected_of.Goals as goal

@@ -1,5 +1,4 @@
 -- `test_random_edits::main` is safe and ends: each turn leaves fewer blocks. Assumes nothing.
-use borrow.Author.Rules.{rules}
 use Prim.Native.Nat.{◌-◌}
 use Rattle.test_random_edits.proofs.main.Given as goal
 

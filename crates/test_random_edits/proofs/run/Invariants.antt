@@ -1,5 +1,4 @@
 -- `test_random_edits::run` is safe and ends: each turn leaves fewer edits. Assumes nothing.
-use borrow.Author.Rules.{rules}
 use Prim.Native.Nat.{◌-◌}
 use Rattle.test_random_edits.proofs.run.Given as goal
 

@@ -1,6 +1,5 @@
 -- `test_random_edits::try_second` is safe: no more bytes are read than there are. Assumes nothing.
 use native.Mathlib.Omega.{arith}
-use borrow.Author.Rules.{rules}
 use mathlib.Core.Path.{sym}
 use lib.Seq.{length-take-le}
 use Rattle.test_random_edits.proofs.try_second.Goals as goal

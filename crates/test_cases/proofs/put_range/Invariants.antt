@@ -1,0 +1,9 @@
+-- `test_cases::put_range` is safe and ends: each turn leaves fewer sets. Assumes nothing.
+use Rattle.std.proofs.Common.{◌-◌}
+use Rattle.test_cases.proofs.put_range.Given as goal
+
+abbrev pub invariant-loop-set : goal.invariant-loop-set
+invariant-loop-set l = Unit {0}
+
+abbrev pub decreases-loop-set : goal.decreases-loop-set
+decreases-loop-set l = 1024 - l.set
