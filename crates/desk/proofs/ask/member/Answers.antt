@@ -1,5 +1,5 @@
 -- `desk::ask::member` meets its contract: the outcome is that of the query. Assumes nothing.
-use Rattle.std.proofs.Common.{ap, rules}
+use Rattle.std.proofs.Common.{ap}
 use Rattle.desk.proofs.ask.member.Goals as goal
 
 pub returns : goal.returns

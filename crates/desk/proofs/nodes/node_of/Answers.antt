@@ -1,5 +1,5 @@
 -- `desk::nodes::node_of` meets its contract. Assumes nothing.
-use Rattle.std.proofs.Common.{refl, arith, rules}
+use Rattle.std.proofs.Common.{refl, arith}
 use Rattle.desk.proofs.nodes.node_of.Goals as goal
 
 pub returns-then-i-lt-MOST_NODES : goal.returns-then-i-lt-MOST_NODES

@@ -1,5 +1,5 @@
 -- `desk::nodes::say_kind` meets its contract: a name has no more letters than there are. Assumes nothing.
-use Rattle.std.proofs.Common.{sym, arith, length-take-le, rules}
+use Rattle.std.proofs.Common.{sym, arith, length-take-le}
 use Rattle.desk.proofs.nodes.say_kind.Goals as goal
 
 pub slice_bounds-letters-end : goal.slice_bounds-letters-end

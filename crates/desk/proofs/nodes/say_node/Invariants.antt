@@ -1,5 +1,5 @@
 -- `desk::nodes::say_node` is safe and ends. Assumes nothing.
-use Rattle.std.proofs.Common.{◌-◌, ◌≤◌, rules}
+use Rattle.std.proofs.Common.{◌-◌, ◌≤◌}
 use Rattle.rules.specs.Records.{most_body}
 use Rattle.desk.proofs.nodes.say_node.Given as goal
 

@@ -1,5 +1,5 @@
 -- `desk::picture::path_of` is safe and ends. Assumes nothing.
-use Rattle.std.proofs.Common.{◌-◌, ◌≤◌, rules}
+use Rattle.std.proofs.Common.{◌-◌, ◌≤◌}
 use Rattle.desk.proofs.picture.path_of.Given as goal
 
 abbrev pub invariant-loop-k : goal.invariant-loop-k

@@ -1,5 +1,5 @@
 -- `desk::picture::say_operands` is safe and ends. Assumes nothing.
-use Rattle.std.proofs.Common.{◌-◌, ◌≤◌, rules}
+use Rattle.std.proofs.Common.{◌-◌, ◌≤◌}
 use Rattle.rules.specs.Records.{most_body}
 use Rattle.desk.proofs.picture.say_operands.Given as goal
 

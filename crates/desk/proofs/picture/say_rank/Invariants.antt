@@ -1,5 +1,5 @@
 -- `desk::picture::say_rank` is safe and ends. Assumes nothing.
-use Rattle.std.proofs.Common.{◌-◌, ◌≤◌, rules}
+use Rattle.std.proofs.Common.{◌-◌, ◌≤◌}
 use Rattle.desk.proofs.picture.say_rank.Given as goal
 
 abbrev pub invariant-loop-i : goal.invariant-loop-i

@@ -1,5 +1,5 @@
 -- `desk::picture::say_register_ranks` is safe and ends. Assumes nothing.
-use Rattle.std.proofs.Common.{◌-◌, ◌≤◌, rules}
+use Rattle.std.proofs.Common.{◌-◌, ◌≤◌}
 use Rattle.desk.proofs.picture.say_register_ranks.Given as goal
 
 abbrev pub invariant-loop-stage : goal.invariant-loop-stage

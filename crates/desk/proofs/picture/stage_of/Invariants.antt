@@ -1,5 +1,5 @@
 -- `desk::picture::stage_of` is safe and ends. Assumes nothing.
-use Rattle.std.proofs.Common.{◌-◌, ◌≤◌, rules}
+use Rattle.std.proofs.Common.{◌-◌, ◌≤◌}
 use Rattle.rules.specs.Records.{most_body}
 use Rattle.desk.proofs.picture.stage_of.Given as goal
 

@@ -1,5 +1,5 @@
 -- `desk::picture::stages_of` is safe and ends. Assumes nothing.
-use Rattle.std.proofs.Common.{◌-◌, ◌≤◌, rules}
+use Rattle.std.proofs.Common.{◌-◌, ◌≤◌}
 use Rattle.desk.proofs.picture.stages_of.Given as goal
 
 abbrev pub invariant-loop-i : goal.invariant-loop-i

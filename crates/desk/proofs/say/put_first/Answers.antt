@@ -1,5 +1,5 @@
 -- `desk::say::put_first` is safe and ends. Assumes nothing.
-use Rattle.std.proofs.Common.{sym, arith, length-take-le, rules}
+use Rattle.std.proofs.Common.{sym, arith, length-take-le}
 use Rattle.desk.proofs.say.put_first.Goals as goal
 
 pub slice_bounds-write_all-end : goal.slice_bounds-write_all-end

@@ -1,5 +1,5 @@
 -- `desk::say::say_found` is safe and ends. Assumes nothing.
-use Rattle.std.proofs.Common.{◌-◌, length, rules}
+use Rattle.std.proofs.Common.{◌-◌, length}
 use Rattle.desk.proofs.say.say_found.Given as goal
 
 abbrev pub invariant-loop-k : goal.invariant-loop-k

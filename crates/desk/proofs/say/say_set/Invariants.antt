@@ -1,5 +1,5 @@
 -- `desk::say::say_set` is safe and ends. Assumes nothing.
-use Rattle.std.proofs.Common.{◌-◌, ◌≤◌, rules}
+use Rattle.std.proofs.Common.{◌-◌, ◌≤◌}
 use Rattle.desk.proofs.say.say_set.Given as goal
 
 abbrev pub invariant-loop-v : goal.invariant-loop-v

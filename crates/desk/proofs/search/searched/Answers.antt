@@ -1,7 +1,6 @@
 -- `desk::search::searched` meets its contract: the loop of `pairs::examine_pairs`. Its invariant: of all netlist bytes
 -- what was under way where it began still is. The measure is how many nodes are left. Assumes nothing.
-use Rattle.std.proofs.Common.{ℕ, ◌-◌, List, sym, ◌∙◌, arith, rules}
-use borrow.Author.Tests.{not-true, not-false}
+use Rattle.std.proofs.Common.{ℕ, List, sym, ◌∙◌, arith}
 use Rattle.rules.specs.Records.{most_nodes}
 use Rattle.pairs.specs.Underway.{Underway}
 use Rattle.desk.specs.Examined.{Leaves}

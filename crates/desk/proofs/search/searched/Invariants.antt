@@ -1,10 +1,8 @@
 -- `desk::search::searched` meets its contract: the loop of `pairs::examine_pairs`. Its invariant: of all netlist bytes
 -- what was under way where it began still is. The measure is how many nodes are left. Assumes nothing.
-use Rattle.std.proofs.Common.{ℕ, ◌-◌, List, sym, ◌∙◌, arith, rules}
-use borrow.Author.Tests.{not-true, not-false}
+use Rattle.std.proofs.Common.{ℕ, ◌-◌, List}
 use Rattle.rules.specs.Records.{most_nodes}
 use Rattle.pairs.specs.Underway.{Underway}
-use Rattle.desk.specs.Examined.{Leaves}
 use Rattle.desk.proofs.search.searched.Given as goal
 
 abbrev pub invariant-loop-netlist : goal.invariant-loop-netlist

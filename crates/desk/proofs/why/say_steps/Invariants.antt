@@ -1,6 +1,6 @@
 -- `desk::why::say_steps` is safe and ends. The loop's invariant: after k steps no more wait than k and one.
 -- The measure is how many are left. Assumes nothing.
-use Rattle.std.proofs.Common.{◌+◌, ◌-◌, ◌≤◌, rules}
+use Rattle.std.proofs.Common.{◌+◌, ◌-◌, ◌≤◌}
 use Rattle.derivation_rules.specs.Derivations.{most_steps}
 use Rattle.desk.proofs.why.say_steps.Given as goal
 

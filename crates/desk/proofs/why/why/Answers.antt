@@ -1,5 +1,5 @@
 -- `desk::why::why` is safe and ends: there are no more steps than there may be. Assumes nothing.
-use Rattle.std.proofs.Common.{ap, rules}
+use Rattle.std.proofs.Common.{ap}
 use Rattle.derivations.specs.Meaning.{derived_of}
 use Rattle.desk.proofs.why.why.Goals as goal
 
