@@ -23,10 +23,6 @@ use Rattle.edit_turns.specs.Meaning.{Stands, Answers, turned_by, turned_of, unch
 
 -- ---- an opening
 
--- an answer is no refusal
-pub answered_not_refused : (a : Answer) (k p : ℕ) → reply_of (Answered a) ≡ refused k p → ⊥
-answered_not_refused a k p says = let z : ◌≡◌ {A = ℕ} 0 1 = cc in omega arith
-
 -- an answer at hand is the netlist's
 pub opened_answer : (n : Netlist) (a : Answer) → reply_of (Answered a) ≡ answered (findings n) → findings_of a ≡ findings n
 opened_answer n a says = cc

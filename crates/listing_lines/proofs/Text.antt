@@ -1,13 +1,13 @@
 -- A text behind the front of a slice: a byte that is stored there is such a text, and two of them,
 -- one behind the other, are one. Each function that writes a text is a composition of those that it calls,
 -- and an equation between texts. Assumes nothing.
-use Prim.Native.Nat.{ℕ, ◌+◌, ◌-◌, ◌≤◌, ◌<◌}
+use Prim.Native.Nat.{ℕ, ◌+◌, ◌-◌, ◌<◌}
 use mathlib.Core.Path.{◌≡◌, refl, sym, ap, ◌∙◌}
 use mathlib.Core.List.{List, [], ◌∷◌, ◌++◌, append-nil, append_assoc}
 use native.Mathlib.Numerals.{add-one}
 use native.Mathlib.Omega.{arith}
-use lib.ListN.{length, take, drop, set, length-append, length-take, length-set, take-append-drop}
-use lib.Seq.{take-suc-set, length-take-le, drop-set-lt, drop-drop}
+use lib.ListN.{length, take, drop, set, length-append, length-set, take-append-drop}
+use lib.Seq.{take-suc-set, drop-set-lt, drop-drop}
 use Rattle.listing_lines.specs.Text.{Appended}
 
 -- the empty text is written by doing nothing
@@ -54,10 +54,3 @@ appended_size a = omega (arith, a.place)
 pub appended_whole : {before after : List ℕ} {next : ℕ} {text : List ℕ} → Appended before after 0 next text → after ≡ text ++ drop next before
 appended_whole {before} {after} {next} {text} a =
     sym (take-append-drop next after) ∙ ap (λ (front : List ℕ). front ++ drop next after) a.bytes ∙ ap (λ (rest : List ℕ). text ++ rest) a.beyond
-
--- a text that starts in a slice ends in it
-pub appended_within : {before after : List ℕ} {at next : ℕ} {text : List ℕ} → Appended before after at next text → at ≤ length before
-    → next ≤ length before
-appended_within {before} {after} {at} {next} {text} a h =
-    let same = ap length a.bytes in
-    omega (arith, length-take next after, length-take-le at before h, length-append (take at before) text)

@@ -1,13 +1,13 @@
 -- Runs of stores to a list, of which those past its end do nothing. Assumes nothing.
-use Prim.Native.Nat.{ℕ, suc, ◌+◌, ◌≤◌, ◌<◌, min}
+use Prim.Native.Nat.{ℕ, suc, ◌+◌, ◌≤◌, min}
 use mathlib.Core.Path.{◌≡◌, refl, sym, ap, ◌∙◌}
 use mathlib.Core.List.{List, [], ◌∷◌, ◌++◌}
 use native.Mathlib.Decide.{dec_le}
 use native.Mathlib.Nat.{add-zero, zero-add}
-use native.Mathlib.Numerals.{add-one, unary_clauses}
+use native.Mathlib.Numerals.{unary_clauses}
 use native.Mathlib.Omega.{arith}
-use lib.ListN.{length, get_or, take, drop, set, length-set}
-use lib.Seq.{sets, set_out, take-suc, length-take-le, length-sets}
+use lib.ListN.{length, take, drop, set, length-set}
+use lib.Seq.{sets, set_out, length-sets}
 
 -- two runs, one behind the other, are one
 sets_append : (l : List ℕ) (i : ℕ) (xs ys : List ℕ) → sets (sets l i xs) (i + length xs) ys ≡ sets l i (xs ++ ys)
@@ -15,13 +15,6 @@ sets_append l i [] ys = rw add-zero
 sets_append l i (x ∷ xs) ys =
     let next : i + length (x ∷ xs) ≡ suc i + length xs = omega arith in
     rw next (sets_append (set l i x) (suc i) xs ys)
-
--- a run that is one store longer
-pub sets_more : (l : List ℕ) (i : ℕ) (xs : List ℕ) (k : ℕ) (now : List ℕ) → k < length xs → now ≡ sets l i (take k xs)
-    → set now (i + k) (get_or xs k 0) ≡ sets l i (take (k + 1) xs)
-sets_more l i xs k now h e =
-    let long : length (take k xs) ≡ k = length-take-le k xs (omega arith) in
-    rw (e, add-one, take-suc xs k 0) (rw long at (sets_append l i (take k xs) (get_or xs k 0 ∷ [])))
 
 -- a run that starts past the end does nothing, so it may start at the end as well
 sets_out : (l : List ℕ) (i : ℕ) (xs : List ℕ) → length l ≤ i → sets l i xs ≡ l

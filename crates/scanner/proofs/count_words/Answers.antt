@@ -8,7 +8,7 @@ use Rattle.scanner.proofs.Words.{none_left, one_more}
 use Rattle.scanner.proofs.count_words.Goals as goal
 
 pub returns-then-word : goal.returns-then-word
-returns-then-word c = omega (arith, ap length (none_left c.before.before.next_word-word.ensures c.if-word.true))
+returns-then-word c = omega (arith, ap length (none_left c.next_word-word.ensures c.if-word.true))
 
 pub loop-word-preserved : goal.loop-word-preserved
-loop-word-preserved c = (search rules, search rules, omega (arith, ap length (one_more c.before.before.next_word-word.ensures c.if-word.false)))
+loop-word-preserved c = (search rules, search rules, omega (arith, ap length (one_more c.next_word-word.ensures c.if-word.false)))

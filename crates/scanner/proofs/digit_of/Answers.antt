@@ -8,7 +8,7 @@ pub returns-then-letter-lt48 : goal.returns-then-letter-lt48
 returns-then-letter-lt48 c = (λ h. absurd (omega arith), λ h. simp (lt-leb _ _ c.if-letter-lt48.true))
 
 pub returns-then-letter-gt57 : goal.returns-then-letter-gt57
-returns-then-letter-gt57 c = (λ h. absurd (omega arith), λ h. simp (le-leb _ _ c.before.if-letter-lt48.false, lt-leb _ _ c.if-letter-gt57.true))
+returns-then-letter-gt57 c = (λ h. absurd (omega arith), λ h. simp (le-leb _ _ c.if-letter-lt48.false, lt-leb _ _ c.if-letter-gt57.true))
 
 pub returns : goal.returns
-returns c = (λ h. ((simp (le-leb _ _ c.before.if-letter-lt48.false, le-leb _ _ c.if-letter-gt57.false)), search rules), λ h. absurd (omega arith))
+returns c = (λ h. ((simp (le-leb _ _ c.if-letter-lt48.false, le-leb _ _ c.if-letter-gt57.false)), search rules), λ h. absurd (omega arith))

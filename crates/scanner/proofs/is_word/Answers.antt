@@ -18,10 +18,10 @@ pub loop-k-init : goal.loop-k-init
 loop-k-init c = (search rules, λ i h. absurd (omega arith))
 
 pub returns-then-word-k : goal.returns-then-word-k
-returns-then-word-k c = differ _ _ (λ e. c.if-word-k.true (ap (λ (l : List ℕ). get_or l c.before.before.before.before.loop-k.k 0) e))
+returns-then-word-k c = differ _ _ (λ e. c.if-word-k.true (ap (λ (l : List ℕ). get_or l c.loop-k.k 0) e))
 
 pub loop-k-preserved : goal.loop-k-preserved
-loop-k-preserved c = (search rules, below_more _ _ c.before.before.before.before.loop-k.invariant.1 c.if-word-k.false)
+loop-k-preserved c = (search rules, below_more _ _ c.loop-k.invariant.1 c.if-word-k.false)
 
 pub returns : goal.returns
-returns c = agree _ _ (ext_get_or 0 _ _ c.before.before.if-word-other.false (λ i h. c.before.loop-k.invariant.1 i (omega arith)))
+returns c = agree _ _ (ext_get_or 0 _ _ c.if-word-other.false (λ i h. c.loop-k.invariant.1 i (omega arith)))

@@ -8,10 +8,10 @@ use Rattle.scanner.proofs.Lines.{line_found}
 use Rattle.scanner.proofs.next_line.Goals as goal
 
 pub returns-then-to-text : goal.returns-then-to-text
-returns-then-to-text c = line_found _ _ _ _ c.before.past-to.ensures (omega arith) (omega arith) refl
+returns-then-to-text c = line_found _ _ _ _ c.past-to.ensures (omega arith) (omega arith) refl
 
 pub returns : goal.returns
 returns c =
-    let to = c.before.past-to.result in
-    line_found _ _ _ _ c.before.past-to.ensures (omega arith) (omega arith)
+    let to = c.past-to.result in
+    line_found _ _ _ _ c.past-to.ensures (omega arith) (omega arith)
     (drop_of_length-le _ c.if-to-text.false ∙ sym (drop_of_length-le _ {i = to + 1} (omega arith)))

@@ -9,5 +9,5 @@ returns c =
       forward = search rules;
       ordered = search rules;
       within = search rules;
-      next = word_found _ _ _ _ c.before.past-from.ensures.1 c.past-to.ensures.1;
+      next = word_found _ _ _ _ c.past-from.ensures.1 c.past-to.ensures.1;
     }

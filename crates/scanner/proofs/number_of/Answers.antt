@@ -18,24 +18,21 @@ loop-k-init c = (search rules, search rules, simp (ne_eqb _ _ c.if-word-eq0.fals
 
 pub returns-then-digit-gt9 : goal.returns-then-digit-gt9
 returns-then-digit-gt9 c =
-    let turn = c.before.before.before in
-    sym (turn.before.loop-k.invariant.2 ∙ from_place _ _ _ turn.loop-k-test.true ∙ no_digit _ _ _ (c.before.digit_of-digit.ensures.1 c.if-digit-gt9.true))
+    sym (c.loop-k.invariant.2 ∙ from_place _ _ _ c.loop-k-test.true ∙ no_digit _ _ _ (c.digit_of-digit.ensures.1 c.if-digit-gt9.true))
 
 pub returns-then-value-digit : goal.returns-then-value-digit
 returns-then-value-digit c =
-    let turn = c.before.before.before.before in
-    let loop = turn.before.loop-k in
-    let digit = c.before.before.digit_of-digit.ensures.0 (omega arith) in
-    sym (loop.invariant.2 ∙ from_place _ _ _ turn.loop-k-test.true ∙ one_digit _ _ _ digit.0
-    ∙ too_high loop.value _ c.before.before.digit_of-digit.result _ digit.1 (omega arith))
+    let loop = c.loop-k in
+    let digit = c.digit_of-digit.ensures.0 (omega arith) in
+    sym (loop.invariant.2 ∙ from_place _ _ _ c.loop-k-test.true ∙ one_digit _ _ _ digit.0
+    ∙ too_high loop.value _ c.digit_of-digit.result _ digit.1 (omega arith))
 
 pub loop-k-preserved : goal.loop-k-preserved
 loop-k-preserved c =
-    let turn = c.before.before.before.before in
-    let digit = c.before.before.digit_of-digit.ensures.0 (omega arith) in
-    (search rules, search rules, turn.before.loop-k.invariant.2 ∙ from_place _ _ _ turn.loop-k-test.true ∙ one_digit _ _ _ digit.0 ∙ rw digit.1)
+    let digit = c.digit_of-digit.ensures.0 (omega arith) in
+    (search rules, search rules, c.loop-k.invariant.2 ∙ from_place _ _ _ c.loop-k-test.true ∙ one_digit _ _ _ digit.0 ∙ rw digit.1)
 
 pub returns : goal.returns
 returns c =
-    let loop = c.before.loop-k in
-    sym (loop.invariant.2 ∙ at_end _ c.before.before.before.before.args.word.now loop.k (omega arith) loop.invariant.1)
+    let loop = c.loop-k in
+    sym (loop.invariant.2 ∙ at_end _ c.args.word.now loop.k (omega arith) loop.invariant.1)

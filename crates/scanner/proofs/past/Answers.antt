@@ -7,13 +7,11 @@ use Rattle.scanner.proofs.past.Goals as goal
 
 pub returns-then-stops : goal.returns-then-stops
 returns-then-stops c =
-    let turn = c.before.before.before in
-    (search rules, stops_here _ _ _ turn.loop-at-test.true (sym c.before.stops.ensures ∙ c.if-stops.true) ∙ turn.before.loop-at.invariant.1)
+    (search rules, stops_here _ _ _ c.loop-at-test.true (sym c.stops.ensures ∙ c.if-stops.true) ∙ c.loop-at.invariant.1)
 
 pub loop-at-preserved : goal.loop-at-preserved
 loop-at-preserved c =
-    let turn = c.before.before.before in
-    (search rules, goes_on _ _ _ turn.loop-at-test.true (sym c.before.stops.ensures ∙ c.if-stops.false) ∙ turn.before.loop-at.invariant.1)
+    (search rules, goes_on _ _ _ c.loop-at-test.true (sym c.stops.ensures ∙ c.if-stops.false) ∙ c.loop-at.invariant.1)
 
 pub returns : goal.returns
-returns c = (search rules, stops_at_end _ _ _ c.loop-at-test.false ∙ c.before.loop-at.invariant.1)
+returns c = (search rules, stops_at_end _ _ _ c.loop-at-test.false ∙ c.loop-at.invariant.1)

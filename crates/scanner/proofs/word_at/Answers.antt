@@ -11,19 +11,19 @@ loop-i-init c = (search rules, search rules, refl)
 
 pub returns-then-word : goal.returns-then-word
 returns-then-word c =
-    let loop = c.before.before.before.before.loop-i in
-    let next = c.before.before.next_word-word.ensures in
+    let loop = c.loop-i in
+    let next = c.next_word-word.ensures in
     (next.ordered, next.within, word_missing next loop.i _ loop.invariant.2 loop.invariant.1 c.if-word.true)
 
 pub loop-i-preserved : goal.loop-i-preserved
 loop-i-preserved c =
-    let loop = c.before.before.before.before.loop-i in
-    let next = c.before.before.next_word-word.ensures in
+    let loop = c.loop-i in
+    let next = c.next_word-word.ensures in
     (next.within, search rules, word_passed next loop.i loop.invariant.2 c.if-word.false)
 
 pub returns : goal.returns
 returns c =
-    let loop = c.before.before.loop-i in
-    let all : loop.i ≡ c.before.before.before.before.args.k = omega arith in
+    let loop = c.loop-i in
+    let all : loop.i ≡ c.args.k = omega arith in
     let next = c.next_word.ensures in
     (next.ordered, next.within, rw (← all) (word_here next loop.i loop.invariant.2))
