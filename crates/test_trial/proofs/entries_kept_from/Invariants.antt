@@ -1,17 +1,9 @@
 -- `test_trial::entries_kept_from` meets its contract. The invariant: `from` is the lowest number from which on,
 -- up to k, all entries are as they were. The measure is what is left of 200. Assumes nothing.
-use Prim.Native.Nat.{ℕ, ◌-◌, ◌≤◌, ◌<◌}
-use mathlib.Core.Path.{◌≡◌, refl, sym, ap, ◌∙◌}
-use mathlib.Core.Logic.{⊎_elim}
-use mathlib.Core.List.{List}
-use native.Mathlib.Omega.{arith}
-use lib.ListN.{length, get_or}
-use lib.Seq.{drop-cons}
-use borrow.Author.Rules.{rules}
-use borrow.Author.Tests.{not-true, not-false}
-use Rattle.rules.specs.declared.NodeRecord.{NodeRecord}
+use Prim.Native.Nat.{◌-◌, ◌≤◌}
+use mathlib.Core.Path.{◌≡◌}
+use lib.ListN.{get_or}
 use Rattle.test_trial.specs.Before.{entry_before, is_before, kept_from}
-use Rattle.test_trial.proofs.Kept.{kept_on, kept_next}
 use Rattle.test_trial.proofs.entries_kept_from.Given as goal
 
 abbrev pub invariant-loop-k : goal.invariant-loop-k

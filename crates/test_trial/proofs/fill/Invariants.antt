@@ -1,13 +1,8 @@
 -- `test_trial::fill` meets its contract. The invariant: the first k bytes are those that stand there before a check,
 -- and the slice keeps its length. The measure is what is left of it. Assumes nothing.
-use Prim.Native.Nat.{ℕ, ◌+◌, ◌-◌, ◌≤◌, ◌<◌}
-use mathlib.Core.Path.{◌≡◌, refl, sym, ap, ◌∙◌}
-use mathlib.Core.List.{List}
-use native.Mathlib.Numerals.{add-one}
-use native.Mathlib.Omega.{arith}
-use lib.ListN.{length, take, set}
-use lib.Seq.{take_all, take-suc-set}
-use borrow.Author.Rules.{rules}
+use Prim.Native.Nat.{◌-◌, ◌≤◌}
+use mathlib.Core.Path.{◌≡◌}
+use lib.ListN.{length, take}
 use Rattle.rules.specs.Lists.{tabulate}
 use Rattle.test_trial.specs.Before.{byte_before}
 use Rattle.test_trial.proofs.fill.Given as goal

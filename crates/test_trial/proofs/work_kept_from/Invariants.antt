@@ -1,15 +1,10 @@
 -- `test_trial::work_kept_from` meets its contract. The invariant: `from` is the lowest number from which on, up to k,
 -- all bytes are as they were. The measure is what is left of the slice. Assumes nothing.
 use Prim.Native.Nat.{◌-◌, ◌≤◌}
-use mathlib.Core.Path.{◌≡◌, refl, sym, ap, ◌∙◌}
-use mathlib.Core.Logic.{⊎_elim}
-use native.Mathlib.Omega.{arith}
+use mathlib.Core.Path.{◌≡◌}
 use lib.Dec.{eqb}
 use lib.ListN.{length, get_or}
-use borrow.Author.Rules.{rules}
-use borrow.Author.Tests.{eq-eqb, ne_eqb}
 use Rattle.test_trial.specs.Before.{byte_before, kept_from}
-use Rattle.test_trial.proofs.Kept.{kept_on, kept_next}
 use Rattle.test_trial.proofs.work_kept_from.Given as goal
 
 abbrev pub invariant-loop-k : goal.invariant-loop-k

@@ -1,0 +1,14 @@
+-- `bench_edits::telgouin_edits` meets its contract. The invariant: at most two answers a turn, at most 65,536 turns,
+-- and the work bytes keep their number. The measure is the number of turns left. Assumes nothing.
+use borrow.Author.Rules.{rules}
+use Prim.Native.Nat.{◌-◌, ◌*◌, ◌≤◌}
+use mathlib.Core.Path.{◌≡◌, sym}
+use lib.ListN.{length}
+use Rattle.bench_edits.proofs.telgouin_edits.Given as goal
+
+abbrev pub invariant-loop-turn : goal.invariant-loop-turn
+invariant-loop-turn l =
+    (l.turns ≤ 65536) × (l.turn ≤ l.turns) × (l.answered ≤ 2 * l.turn) × (length l.work ≡ 51200)
+
+abbrev pub decreases-loop-turn : goal.decreases-loop-turn
+decreases-loop-turn l = l.turns - l.turn
