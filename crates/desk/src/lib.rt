@@ -7,7 +7,7 @@
 
 pub mod ask;
 pub mod help;
-mod nodes;
+mod node_words;
 pub mod picture;
 pub mod say;
 pub mod search;

@@ -3,7 +3,7 @@ ghost use Rattle.std.specs.Prelude.{◌≤◌};
 ghost use Rattle.derivation_rules.specs.Derivations.{most_steps};
 ghost use Rattle.derivations.specs.Written.{Known};
 
-use crate::nodes::say_kind;
+use crate::node_words::say_kind;
 use crate::say::{say, say_number, say_set};
 use crate::steps::step_at;
 use derivations::{Derived, MOST_BYTES};

@@ -3,7 +3,7 @@ ghost use Rattle.std.specs.Prelude.{◌≡◌, ◌+◌, ◌-◌, ◌<◌, ◌≤
 ghost use Rattle.derivation_rules.specs.Derivations.{most_steps};
 ghost use Rattle.derivations.specs.Written.{Known};
 
-use crate::nodes::{node_of, say_node};
+use crate::node_words::{node_of, say_node};
 use crate::say::{say, say_first, say_refused, say_set};
 use crate::steps::{Step, step_at};
 use derivations::{Derived, MOST_BYTES, MOST_STEPS};

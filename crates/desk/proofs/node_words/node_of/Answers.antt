@@ -1,6 +1,6 @@
--- `desk::nodes::node_of` meets its contract. Assumes nothing.
+-- `desk::node_words::node_of` meets its contract. Assumes nothing.
 use Rattle.std.proofs.Common.{refl, arith}
-use Rattle.desk.proofs.nodes.node_of.Goals as goal
+use Rattle.desk.proofs.node_words.node_of.Goals as goal
 
 pub returns-then-i-lt-MOST_NODES : goal.returns-then-i-lt-MOST_NODES
 returns-then-i-lt-MOST_NODES c = (λ h. refl, λ h. absurd (omega arith))

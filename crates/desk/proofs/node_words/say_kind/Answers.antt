@@ -1,6 +1,6 @@
--- `desk::nodes::say_kind` meets its contract: a name has no more letters than there are. Assumes nothing.
+-- `desk::node_words::say_kind` meets its contract: a name has no more letters than there are. Assumes nothing.
 use Rattle.std.proofs.Common.{sym, arith, length-take-le}
-use Rattle.desk.proofs.nodes.say_kind.Goals as goal
+use Rattle.desk.proofs.node_words.say_kind.Goals as goal
 
 pub slice_bounds-letters-end : goal.slice_bounds-letters-end
 slice_bounds-letters-end c = omega (arith, c.name_of-name.ensures.short)

@@ -1,7 +1,7 @@
--- `desk::nodes::say_node` is safe and ends. Assumes nothing.
+-- `desk::node_words::say_node` is safe and ends. Assumes nothing.
 use Rattle.std.proofs.Common.{◌-◌, ◌≤◌}
 use Rattle.rules.specs.Records.{most_body}
-use Rattle.desk.proofs.nodes.say_node.Given as goal
+use Rattle.desk.proofs.node_words.say_node.Given as goal
 
 abbrev pub invariant-loop-j : goal.invariant-loop-j
 invariant-loop-j l = (l.j ≤ l.operands.count) × (l.operands.count ≤ most_body)
