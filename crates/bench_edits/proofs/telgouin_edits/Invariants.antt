@@ -1,8 +1,7 @@
 -- `bench_edits::telgouin_edits` meets its contract. The invariant: at most two answers a turn, at most 65,536 turns,
 -- and the work bytes keep their number. The measure is the number of turns left. Assumes nothing.
-use borrow.Author.Rules.{rules}
 use Prim.Native.Nat.{◌-◌, ◌*◌, ◌≤◌}
-use mathlib.Core.Path.{◌≡◌, sym}
+use mathlib.Core.Path.{◌≡◌}
 use lib.ListN.{length}
 use Rattle.bench_edits.proofs.telgouin_edits.Given as goal
 

@@ -2,8 +2,5 @@
 use Prim.Native.Nat.{◌-◌}
 use Rattle.test_generator.proofs.variables.Given as goal
 
-abbrev pub invariant-loop-v : goal.invariant-loop-v
-invariant-loop-v l = Unit
-
 abbrev pub decreases-loop-v : goal.decreases-loop-v
 decreases-loop-v l = l.shape.variables - l.v

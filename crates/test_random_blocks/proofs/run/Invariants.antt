@@ -2,8 +2,5 @@
 use Rattle.std.proofs.Common.{◌-◌}
 use Rattle.test_random_blocks.proofs.run.Given as goal
 
-abbrev pub invariant-loop-turn : goal.invariant-loop-turn
-invariant-loop-turn l = Unit
-
 abbrev pub decreases-loop-turn : goal.decreases-loop-turn
 decreases-loop-turn l = l.blocks - l.turn

@@ -2,8 +2,5 @@
 use Prim.Native.Nat.{◌-◌}
 use Rattle.test_random_edits.proofs.main.Given as goal
 
-abbrev pub invariant-loop-turn : goal.invariant-loop-turn
-invariant-loop-turn l = Unit
-
 abbrev pub decreases-loop-turn : goal.decreases-loop-turn
 decreases-loop-turn l = 400 - l.turn

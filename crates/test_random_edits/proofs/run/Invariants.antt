@@ -2,8 +2,5 @@
 use Prim.Native.Nat.{◌-◌}
 use Rattle.test_random_edits.proofs.run.Given as goal
 
-abbrev pub invariant-loop-edits : goal.invariant-loop-edits
-invariant-loop-edits l = Unit
-
 abbrev pub decreases-loop-edits : goal.decreases-loop-edits
 decreases-loop-edits l = 24 - l.edits

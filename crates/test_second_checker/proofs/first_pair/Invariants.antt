@@ -1,8 +1,5 @@
 -- `test_second_checker::first_pair` is safe and ends: each turn leaves fewer pairs. Assumes nothing.
 use Rattle.test_second_checker.proofs.first_pair.Given as goal
 
-abbrev pub invariant-loop-k : goal.invariant-loop-k
-invariant-loop-k l = Unit
-
 abbrev pub decreases-loop-k : goal.decreases-loop-k
 decreases-loop-k l = l.k

@@ -2,8 +2,5 @@
 use Prim.Native.Nat.{◌-◌}
 use Rattle.test_second_checker.proofs.pair_sets.Given as goal
 
-abbrev pub invariant-loop-k : goal.invariant-loop-k
-invariant-loop-k l = Unit
-
 abbrev pub decreases-loop-k : goal.decreases-loop-k
 decreases-loop-k l = l.many - l.k

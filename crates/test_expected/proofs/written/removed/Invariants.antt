@@ -2,8 +2,5 @@
 use Rattle.std.proofs.Common.{◌-◌}
 use Rattle.test_expected.proofs.written.removed.Given as goal
 
-abbrev pub invariant-loop-records : goal.invariant-loop-records
-invariant-loop-records l = Unit
-
 abbrev pub decreases-loop-records : goal.decreases-loop-records
 decreases-loop-records l = 211 - l.records

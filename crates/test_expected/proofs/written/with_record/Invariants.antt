@@ -2,8 +2,5 @@
 use Rattle.std.proofs.Common.{◌-◌}
 use Rattle.test_expected.proofs.written.with_record.Given as goal
 
-abbrev pub invariant-loop-k : goal.invariant-loop-k
-invariant-loop-k l = Unit
-
 abbrev pub decreases-loop-k : goal.decreases-loop-k
 decreases-loop-k l = l.put - l.k
