@@ -3,8 +3,5 @@
 use Rattle.std.proofs.Common.{◌-◌, length}
 use Rattle.test_cases.proofs.decimal.Given as goal
 
-abbrev pub invariant-loop-k : goal.invariant-loop-k
-invariant-loop-k l = Unit {0}
-
 abbrev pub decreases-loop-k : goal.decreases-loop-k
 decreases-loop-k l = length l.word - l.k

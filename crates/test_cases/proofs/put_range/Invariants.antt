@@ -2,8 +2,5 @@
 use Rattle.std.proofs.Common.{◌-◌}
 use Rattle.test_cases.proofs.put_range.Given as goal
 
-abbrev pub invariant-loop-set : goal.invariant-loop-set
-invariant-loop-set l = Unit {0}
-
 abbrev pub decreases-loop-set : goal.decreases-loop-set
 decreases-loop-set l = 1024 - l.set
