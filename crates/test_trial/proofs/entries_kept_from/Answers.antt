@@ -1,5 +1,5 @@
--- `test_trial::entries_kept_from` meets its contract. The invariant: `from` is the lowest number from which on,
--- up to k, all entries are as they were. The measure is what is left of 200. Assumes nothing.
+-- `test_trial::entries_kept_from` meets its contract: the lowest number stays where the entry is as it was, and else is the next one.
+-- Assumes nothing.
 use Prim.Native.Nat.{ℕ, ◌<◌}
 use mathlib.Core.Path.{◌≡◌, refl, sym, ap, ◌∙◌}
 use Rattle.test_trial.proofs.entries_kept_from.Goals.{then-not-is_before, else-not-is_before}

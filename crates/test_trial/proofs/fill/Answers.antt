@@ -1,5 +1,5 @@
--- `test_trial::fill` meets its contract. The invariant: the first k bytes are those that stand there before a check,
--- and the slice keeps its length. The measure is what is left of it. Assumes nothing.
+-- `test_trial::fill` meets its contract: one more byte each turn, and all at the end.
+-- Assumes nothing.
 use Prim.Native.Nat.{ℕ, ◌+◌, ◌≤◌, ◌<◌}
 use mathlib.Core.Path.{◌≡◌, refl, sym, ap, ◌∙◌}
 use mathlib.Core.List.{List}

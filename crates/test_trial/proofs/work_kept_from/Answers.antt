@@ -1,5 +1,5 @@
--- `test_trial::work_kept_from` meets its contract. The invariant: `from` is the lowest number from which on, up to k,
--- all bytes are as they were. The measure is what is left of the slice. Assumes nothing.
+-- `test_trial::work_kept_from` meets its contract: the lowest number stays where the byte is as it was, and else is the next one.
+-- Assumes nothing.
 use mathlib.Core.Path.{refl, sym, ap, ◌∙◌}
 use Rattle.test_trial.proofs.work_kept_from.Goals.{then-work-k, else-work-k}
 use native.Mathlib.Omega.{arith}
