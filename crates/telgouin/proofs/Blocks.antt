@@ -3,7 +3,6 @@ use Prim.Native.Nat.{ℕ}
 use native.Mathlib.Omega.{arith}
 use mathlib.Core.List.{List}
 use Rattle.telgouin.specs.declared.files.ReadBlock.{ReadBlock}
-use Rattle.telgouin.specs.declared.files.ReadBlock.TheVariants as ReadBlock
 use Rattle.telgouin.specs.Files.{FromFile, AsBytes}
 
 -- a block that is given as bytes comes from a file, with no text to it

@@ -7,7 +7,6 @@ use Rattle.edit_turns.specs.declared.Turn.{Turn}
 use Rattle.edit_turns.specs.Turns.{Standing, Event, line, failed, begun, after_event, after_events}
 use Rattle.edit_turns.specs.Meaning.{Stands}
 use Rattle.telgouin.specs.declared.editing.Line.{Line}
-use Rattle.telgouin.specs.declared.editing.Line.TheVariants as Line
 
 -- a line that was read is within its bytes
 abbrev pub Fits : Line → Type 0

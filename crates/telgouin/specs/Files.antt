@@ -6,9 +6,7 @@ use Rattle.scanner.specs.Words.{same}
 use Rattle.read_words.specs.Meaning.{TellsBlock}
 use Rattle.read_words.specs.declared.BlockWords.TheVariants as BlockWords
 use Rattle.telgouin.specs.declared.files.Read.{Read}
-use Rattle.telgouin.specs.declared.files.Read.TheVariants as Read
 use Rattle.telgouin.specs.declared.files.ReadBlock.{ReadBlock}
-use Rattle.telgouin.specs.declared.files.ReadBlock.TheVariants as ReadBlock
 
 -- from so many entries on, two lists are the same
 abbrev pub SameBehind : (count : ℕ) (before after : List ℕ) → Type 0
