@@ -1,4 +1,4 @@
-// `pairs`: the search over pairs of nodes, which tells how far it is where standard error is a terminal.
+// `pairs`: the search over pairs of nodes, which tells on standard error how far it is, if that is to be shown.
 ghost use Rattle.std.specs.Prelude.{◌≡◌, ℕ, List, length};
 ghost use Rattle.rules.specs.Records.{most_nodes};
 ghost use Rattle.pair_search.specs.Pairs.{pairs_reply};

@@ -275,6 +275,7 @@ fn main(rt: HostRuntime) {
         _ => {
             if behind > 0 {
                 let mut input = rt.stdin();
+                // How far a search is is shown where standard error is a terminal.
                 let shown = rt.stderr().is_terminal();
                 run(&rt, &mut input, shown, command, behind - 1);
             }
