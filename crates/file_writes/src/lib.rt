@@ -310,7 +310,7 @@ fn write_named<R: Files<File = File> + RandomSource + Alloc>(
 
 // Writes a file. Returns whether all of it is there now; if not, a regular file has what it had before. A file
 // that is there is written only where it may be, and a link stays as it is: one that leads to no file is refused.
-// So is a path that is no text, under which the system opens none. Which bytes then are in the file no contract
+// So is a path that is no UTF-8, since std opens files by text alone. Which bytes then are in the file no contract
 // can say.
 pub fn write_file<R: Files<File = File> + RandomSource + Alloc>(
     rt: &R,

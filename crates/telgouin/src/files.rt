@@ -222,7 +222,7 @@ fn read_open<F: std::io::Read>(
     read_bytes(file, name, bytes)
 }
 
-// The block of the file that is named. A name that is no text leads to no file that the system opens.
+// The block of the file that is named. One whose name is no UTF-8 is not read, since std opens files by text alone.
 fn read_named<R: Files>(
     rt: &R,
     name: &[u8],
