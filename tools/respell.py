@@ -1,6 +1,6 @@
 #!/usr/bin/env python3
 """Spells the repository's own definitions and lemmas as today's Rattle does: words in snake case, as 'two_extensions'
-and 'operand_count'. Run once, behind /opt/rattle/port/port.py.
+and 'operand_count'. Run once, behind the kit's port.py.
 
 usage: respell.py [FOLDER]        turns the names of respelled.tsv (old, new, and 'pages' where port.py has turned the
                                   code) in crates/, README.md and docs/
