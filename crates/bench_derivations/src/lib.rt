@@ -8,7 +8,6 @@ ghost use Rattle.rules.specs.Checks.{refused};
 ghost use Rattle.derivation_rules.specs.Derivations.{steps_reply, steps_after};
 ghost use Rattle.bench_derivations.specs.Packed.{packed_steps};
 
-use derivations::Derived;
 use rules::Refusal;
 
 // A refusal in one number: 4,096 times its number, and its place.
@@ -34,7 +33,7 @@ pub extern "C" fn telgouin_derive(
 {
     let reply = derivations::derive(bytes, node, layer, set, steps);
     match reply {
-        Derived::Refused(refusal) => packed(refusal),
-        Derived::Steps(count) => count,
+        Err(refusal) => packed(refusal),
+        Ok(count) => count,
     }
 }

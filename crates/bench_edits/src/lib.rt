@@ -5,7 +5,7 @@
 ghost use Rattle.std.specs.Prelude.{◌≤◌};
 
 use edit_rules::Edit;
-use rules::{MOST_NODES, MOST_WORK, Reply};
+use rules::{MOST_NODES, MOST_WORK, Answer, Refusal};
 
 // The most times that one call makes its edits.
 const MOST_TURNS: usize = 65536;
@@ -18,12 +18,12 @@ fn least(a: usize, b: usize) -> usize
 }
 
 // 1 for an answer and 0 for a refusal.
-fn one_if_answered(reply: Reply) -> usize
+fn one_if_answered(reply: Result<Answer, Refusal>) -> usize
     ensures { result ≤ 1 }
 {
     match reply {
-        Reply::Refused(_) => 0,
-        Reply::Answered(_) => 1,
+        Err(_) => 0,
+        Ok(_) => 1,
     }
 }
 

@@ -9,7 +9,7 @@ ghost use Rattle.pair_search.specs.Pairs.{pairs_reply};
 ghost use Rattle.bench_pairs.specs.Packed.{packed, packed_reply};
 
 use pair_search::Found;
-use pairs::PairsReply;
+use pairs::PairsAnswer;
 use rules::{MOST_NODES, MOST_WORK};
 
 // The count of pairs, the case and three numbers of it in one number: 16, 4 and thrice 12 bits, the count highest.
@@ -30,10 +30,10 @@ pub extern "C" fn telgouin_pairs(bytes: &[u8], limit: usize) -> usize
     let examined = pairs::examine_pairs(bytes, MOST_NODES, &mut work, limit);
     let reply = examined.reply;
     match reply {
-        PairsReply::Refused(refusal) => {
+        Err(refusal) => {
             packed(0, 0, refusals::number_of(refusal), refusal.place, 0)
         }
-        PairsReply::Answered(answer) => {
+        Ok(answer) => {
             let search = answer.search;
             let found = search.found;
             match found {

@@ -1,5 +1,6 @@
 -- What the core's functions cite: each way through reading and the slices examines the outcome that the rules give,
 -- and from that follow the promises of `examine`. Assumes nothing.
+use Rattle.std.specs.Prelude.{Result, Ok, Err}
 use mathlib.Core.Path.{◌≡◌, refl, sym, subst, ◌∙◌}
 use mathlib.Core.Logic.{◌↔◌}
 use mathlib.Core.List.{List, ◌++◌, map}
@@ -14,9 +15,6 @@ use Rattle.rules.specs.Demands.{GlitchClear, NothingSuspect, OneProbe}
 use Rattle.rules.specs.Paper.{number_of, place_of, finding_of, reply_of}
 use Rattle.rules.specs.declared.Half.{Half}
 use Rattle.rules.specs.declared.Refusal.{Refusal}
-use Rattle.rules.specs.declared.QueryOutcome.{QueryOutcome}
-use Rattle.rules.specs.declared.QueryOutcome.TheVariants as Query
-use Rattle.rules.specs.declared.Reply.TheVariants.{Refused, Answered}
 use Rattle.rule_laws.proofs.Halves.{exactly_when}
 use Rattle.rule_laws.proofs.Probe.{one_probe}
 use Rattle.rule_laws.proofs.Room.{fits}
@@ -32,7 +30,7 @@ use Rattle.checker.specs.Work.{NothingKept, Examines, ReadsMarks, JudgesSlices}
 
 -- a refusal, with nothing kept and nothing written
 pub refusal : (r : Refusal) (k p : ℕ) (examined : Examined) (work : List ℕ) → number_of r ≡ k → place_of r ≡ p
-    → examined.reply ≡ Refused r → NothingKept examined → Examines (refused k p) examined work work
+    → examined.reply ≡ Err r → NothingKept examined → Examines (refused k p) examined work work
 unfolding and_then kept filled
 refusal r k p examined work n w e (t, m) =
     record { reply = subst (λ x. reply_of x ≡ refused k p) (sym e) (rw (n, w)); netlist = t; marks = m; work = refl }
@@ -42,7 +40,7 @@ pub looks : (value : Value.Netlist) (marks : Marks) (settled glitch : Half)
     → finding_of settled ≡ lowest 0 (map mark_of (take value.count marks.settled))
     → finding_of glitch ≡ lowest 0 (map mark_of (take value.count marks.glitch))
     → ReadsMarks value marks (record {
-      reply = Answered (record { variables = value.variables; nodes = value.count; settled = settled; glitch = glitch });
+      reply = Ok (record { variables = value.variables; nodes = value.count; settled = settled; glitch = glitch });
       netlist = value;
       marks = marks;
     })
@@ -68,11 +66,11 @@ answers value n e marks m examined before w l =
     record { reply = l.finds n e m; netlist = l.netlist ∙ e; marks = l.its_marks ∙ m; work = w }
 
 -- what is told of slices for so many nodes: they are too short for a netlist of these, or hold it
-module _ {count entries work : ℕ} {told : QueryOutcome} (fit : JudgesSlices count entries work told) (n : Netlist) (same : count ≡ length n.nodes) where
-  pub too_short : {r : Refusal} → told ≡ Query.Refused r → slices_fit entries work n ≡ refused (number_of r) (place_of r)
+module _ {count entries work : ℕ} {told : Result (Unit {0}) Refusal} (fit : JudgesSlices count entries work told) (n : Netlist) (same : count ≡ length n.nodes) where
+  pub too_short : {r : Refusal} → told ≡ Err r → slices_fit entries work n ≡ refused (number_of r) (place_of r)
   too_short {r} is = query_refused (slices_fit entries work n) r (fit.says n same) is
 
-  pub both_hold : told ≡ Query.Answered → slices_fit entries work n ≡ answered n
+  pub both_hold : told ≡ Ok tt → slices_fit entries work n ≡ answered n
   both_hold is =
       let (few, enough) = fit.room is in
       fits entries work n (record { enough_entries = rw (← same) few; enough_work = rw (← same) enough })
@@ -85,7 +83,7 @@ module _ (bytes : List ℕ) (entries : ℕ) where
   of_read n examined before after e x = rw e x
 
   pub of_refused : (r : Refusal) (examined : Examined) (before : List ℕ) → read bytes ≡ refused (number_of r) (place_of r)
-      → examined.reply ≡ Refused r → NothingKept examined → Examines (admitted bytes entries (length before)) examined before before
+      → examined.reply ≡ Err r → NothingKept examined → Examines (admitted bytes entries (length before)) examined before before
   unfolding admitted and_then
   of_refused r examined before e q t = rw e (refusal r _ _ examined before refl refl q t)
 

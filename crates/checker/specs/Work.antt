@@ -1,8 +1,8 @@
 -- What the core examines, and the node records that are stored. Cited by the contracts of this crate. Assumes nothing.
+use Rattle.std.specs.Prelude.{Result, Ok}
+use Rattle.rules.specs.declared.Refusal.{Refusal}
 use Rattle.std.specs.Prelude.{ℕ, zero, suc, ◌*◌, ◌≤◌, ◌≡◌, List, length, get_or, set, replicate}
 use Rattle.rules.specs.declared.NodeRecord.{NodeRecord}
-use Rattle.rules.specs.declared.QueryOutcome.{QueryOutcome}
-use Rattle.rules.specs.declared.QueryOutcome.TheVariants as Query
 use Rattle.rules.specs.Records.{Netlist, empty, most_nodes}
 use Rattle.rules.specs.Families.{families, findings}
 use Rattle.rules.specs.Slices.{work_bytes, filled}
@@ -36,9 +36,9 @@ pub record ReadsMarks (value : Value.Netlist) (marks : Marks) (examined : Examin
 
 -- what is told of slices of so many entries and so many work bytes, of every netlist with so many nodes:
 -- they are refused as the rules refuse them, or hold the nodes
-pub record JudgesSlices (count entries work : ℕ) (told : QueryOutcome) : Type 0 where
+pub record JudgesSlices (count entries work : ℕ) (told : Result (Unit {0}) Refusal) : Type 0 where
   pub says : (n : Netlist) → count ≡ length n.nodes → query_of told ≡ and_then (slices_fit entries work n) (λ m. answered tt)
-  pub room : told ≡ Query.Answered → (count ≤ entries) × (256 * count ≤ work)
+  pub room : told ≡ Ok tt → (count ≤ entries) × (256 * count ≤ work)
 
 -- the record of node i of a netlist by value with its marks, that of what was examined, and that of no node
 abbrev pub record_of : Value.Netlist → Marks → (i : ℕ) → NodeRecord

@@ -18,23 +18,23 @@ ghost use Rattle.checker.specs.Work.{JudgesSlices, record_in, stored, unwritten,
 
 use marks::Marks;
 use netlists::Netlist;
-use rules::{Answer, MOST_NODES, NodeRecord, QueryOutcome, Reason, Refusal, Reply};
+use rules::{Answer, MOST_NODES, NodeRecord, Refusal, Reason};
 
 // What an examination gives: the reply, and the netlist and its marks by value.
 // On a refusal these are empty, of no node.
 #[derive(Clone, Copy)]
 pub struct Examined {
-    pub reply: Reply,
+    pub reply: Result<Answer, Refusal>,
     pub netlist: Netlist,
     pub marks: Marks,
 }
 
 // What an examination gives that refuses: the empty netlist and no mark.
 pub fn refused(refusal: Refusal) -> Examined
-    ensures { (result.reply ≡ Reply.Refused refusal) × NothingKept result }
+    ensures { (result.reply ≡ Err refusal) × NothingKept result }
 {
     Examined {
-        reply: Reply::Refused(refusal),
+        reply: Err(refusal),
         netlist: netlists::no_records(),
         marks: marks::no_marks(),
     }
@@ -57,7 +57,7 @@ pub fn read_marks(netlist: Netlist, marks: Marks) -> Examined
         glitch,
     };
     Examined {
-        reply: Reply::Answered(answer),
+        reply: Ok(answer),
         netlist,
         marks,
     }
@@ -75,24 +75,18 @@ fn answer(netlist: Netlist, work: &mut [u8]) -> Examined
 }
 
 // Whether slices of so many entries and so many work bytes hold so many nodes: refusals 10 and 11, in this order.
-pub fn slices_fit(count: usize, entries: usize, work: usize) -> QueryOutcome
+pub fn slices_fit(count: usize, entries: usize, work: usize) -> Result<(), Refusal>
     requires { count ≤ most_nodes }
     ensures { JudgesSlices count entries work result }
 {
     let bytes = 256 * count;
     if entries < count {
-        return QueryOutcome::Refused(Refusal {
-            reason: Reason::FewEntries,
-            place: count,
-        });
+        return Err(Reason::FewEntries.at(count));
     }
     if work < bytes {
-        return QueryOutcome::Refused(Refusal {
-            reason: Reason::ShortWork,
-            place: bytes,
-        });
+        return Err(Reason::ShortWork.at(bytes));
     }
-    QueryOutcome::Answered
+    Ok(())
 }
 
 // The answer for a netlist that was read, or refusal 10 for too few entries or 11 for too few work bytes,
@@ -103,8 +97,8 @@ fn admit(netlist: Netlist, entries: usize, work: &mut [u8]) -> Examined
         Examines (slices_fit entries (length work.old) n) result work.old work.new }
 {
     match slices_fit(netlist.count, entries, work.len()) {
-        QueryOutcome::Refused(refusal) => refused(refusal),
-        QueryOutcome::Answered => answer(netlist, work),
+        Err(refusal) => refused(refusal),
+        Ok(()) => answer(netlist, work),
     }
 }
 
@@ -125,8 +119,8 @@ pub fn examine(bytes: &[u8], entries: usize, work: &mut [u8]) -> Examined
     let outcome = file.outcome;
     let netlist = file.netlist;
     match outcome {
-        QueryOutcome::Refused(refusal) => refused(refusal),
-        QueryOutcome::Answered => admit(netlist, entries, work),
+        Err(refusal) => refused(refusal),
+        Ok(()) => admit(netlist, entries, work),
     }
 }
 
@@ -141,7 +135,7 @@ fn count_of(examined: Examined) -> usize
 }
 
 // The reply of an examination.
-fn reply_of(examined: Examined) -> Reply
+fn reply_of(examined: Examined) -> Result<Answer, Refusal>
     ensures { result ≡ examined.reply }
 {
     examined.reply
@@ -206,7 +200,7 @@ pub fn node_at(nodes: &[NodeRecord], i: usize) -> NodeRecord
 // front of `work`. A refusal leaves both slices as they were. The glitch half is clear exactly when nothing is refused
 // and no tested node's glitch family holds a suspect set; and then one probe on any gate or register sees each pattern
 // of settled values as often for one setting of the secrets as for another.
-pub fn check(bytes: &[u8], nodes: &mut [NodeRecord], work: &mut [u8]) -> Reply
+pub fn check(bytes: &[u8], nodes: &mut [NodeRecord], work: &mut [u8]) -> Result<Answer, Refusal>
     ensures reply { reply_of result ≡
         reply bytes.now (length nodes.old) (length work.old) }
     ensures nodes { nodes.new ≡

@@ -1,6 +1,9 @@
 -- Many probes round one gate: where the gate's glitch family holds no suspect set, the counts agree on its feeding
 -- points; so on those of a cluster round it, which are all among them, and on the cluster's nodes, which no other point
 -- feeds. And so round every gate of a block that the checker answers clear for glitching signals. Assumes nothing.
+use Rattle.std.specs.Prelude.{Result}
+use Rattle.rules.specs.declared.Refusal.{Refusal}
+use Rattle.rules.specs.declared.Answer.{Answer}
 use Prim.Native.Nat.{ℕ}
 use mathlib.Core.Path.{◌≡◌, subst}
 use mathlib.Core.List.{List, [], ◌∷◌}
@@ -10,7 +13,6 @@ use Rattle.rules.specs.Records.{Netlist, most_nodes}
 use Rattle.rules.specs.Values.{feeding}
 use Rattle.rules.specs.Checks.{answered, read, most_work}
 use Rattle.rules.specs.Slices.{reply}
-use Rattle.rules.specs.declared.Reply.{Reply}
 use Rattle.rules.specs.Paper.{reply_of}
 use Rattle.rules.specs.Demands.{GlitchClear, NoSuspect, TestedNode, OneProbe, EndsClear}
 use Rattle.rule_laws.proofs.Lists.{member_head}
@@ -71,7 +73,7 @@ module _ (bytes : List ℕ) (entries work : ℕ) (answers-clear : GlitchClear (r
 
 -- So of a reply that is the rules' reply, as clause `reply` of the contract of `check` has it:
 -- where its glitch half is clear, both hold.
-pub checked_clear : (bytes : List ℕ) (entries work : ℕ) (r : Reply) → reply_of r ≡ reply bytes entries work → GlitchClear (reply_of r)
+pub checked_clear : (bytes : List ℕ) (entries work : ℕ) (r : Result Answer Refusal) → reply_of r ≡ reply bytes entries work → GlitchClear (reply_of r)
     → ManyProbesEverywhere bytes × ManyWiresEverywhere bytes
 checked_clear bytes entries work r replied answers-clear = clear_both bytes entries work (subst GlitchClear replied answers-clear)
 

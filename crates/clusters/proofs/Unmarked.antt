@@ -1,6 +1,7 @@
 -- A gate that has no mark: where the glitch mark of a gate or register is none, its own glitch family
 -- holds no suspect set, whatever other nodes hold; so what is said of many probes holds round it.
 -- Of the node records that a check leaves, and of those of an open block. Assumes nothing.
+use Rattle.std.specs.Prelude.{Ok}
 use Prim.Native.Nat.{ℕ, ◌<◌}
 use mathlib.Core.Path.{◌≡◌, refl, sym, ap, subst, ◌∙◌}
 use mathlib.Core.Bool.{true, not}
@@ -13,7 +14,6 @@ use lib.Seq.{get_or-take}
 use Rattle.rules.specs.declared.Node.{Node}
 use Rattle.rules.specs.declared.NodeRecord.{NodeRecord}
 use Rattle.rules.specs.declared.Answer.{Answer}
-use Rattle.rules.specs.declared.Reply.TheVariants.{Answered}
 use Rattle.rules.specs.Records.{Cell, input, Netlist, WellFormed, kind_of, written_out}
 use Rattle.rules.specs.Families.{Family, families_at, tested, reported, mark, layer_marks, findings}
 use Rattle.rules.specs.Checks.{Outcome, answered, refused, and_then, read, admitted}
@@ -84,12 +84,12 @@ both_round bytes n nodes holds is_read m reads-m gate unmarked =
 
 -- Of the node records that a check leaves, as clauses `reply` and `nodes` of the contract of `check`
 -- have it, where it answers.
-pub checked_unmarked : (bytes : List ℕ) (before after : List NodeRecord) (work : ℕ) (a : Answer) → reply_of (Answered a) ≡ reply bytes (length before) work
+pub checked_unmarked : (bytes : List ℕ) (before after : List NodeRecord) (work : ℕ) (a : Answer) → reply_of (Ok a) ≡ reply bytes (length before) work
     → after ≡ nodes_after bytes before work → RoundUnmarked bytes after
 unfolding reply and_then
 checked_unmarked bytes before after work a replied left = rw left (go (admitted bytes (length before) work) refl replied)
   where
-    go : (o : Outcome Netlist) → admitted bytes (length before) work ≡ o → reply_of (Answered a) ≡ and_then o (λ n. answered (findings n))
+    go : (o : Outcome Netlist) → admitted bytes (length before) work ≡ o → reply_of (Ok a) ≡ and_then o (λ n. answered (findings n))
         → RoundUnmarked bytes (nodes_after bytes before work)
     go (answered n) is says =
         both_round bytes n (nodes_after bytes before work) (checked_records bytes before work n is) (admitted_says bytes (length before) work n is).is_read

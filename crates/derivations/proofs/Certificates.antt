@@ -1,5 +1,6 @@
 -- What an answer of `derive` is: the netlist was read, the set is in the family, its derivation fits; so the slice that
 -- it is copied to is a certificate, and beyond it as it was. A refusal leaves the slice as it was. Assumes nothing.
+use Rattle.std.specs.Prelude.{Result, Ok, Err}
 use Prim.Native.Nat.{ℕ, ◌*◌, ◌/◌, ◌≤◌, ◌<◌}
 use mathlib.Core.Path.{◌≡◌, refl, sym, ap, ◌∙◌}
 use mathlib.Core.Bool.{Bool, true, false, not, cond}
@@ -19,8 +20,6 @@ use Rattle.rule_laws.proofs.Records.{passes, answer}
 use Rattle.rule_laws.proofs.Reading.{read_well_formed}
 use Rattle.derivation_rules.specs.Derivations.{step_size, steps_out, layer_of, in_family, derived, set_check, most_steps, fitting, explainable, derivable, steps_reply, steps_after, Certificate}
 use Rattle.derivation_rules.proofs.Follows.{derivation_follows, out_length}
-use Rattle.derivations.specs.declared.Derived.{Derived}
-use Rattle.derivations.specs.declared.Derived.TheVariants.{Refused, Steps}
 use Rattle.derivations.specs.Meaning.{derived_of}
 use Rattle.derivations.specs.Written.{derivable_in, Told}
 use Rattle.derivations.proofs.Told.{derivable_in_lem}
@@ -78,10 +77,10 @@ fitting_few bytes = go (ltb most_steps (bytes / step_size)) refl
     go true e = (omega arith, omega (arith, ltb-true most_steps (bytes / step_size) e))
     go false e = (ltb-false _ _ e, omega arith)
 
-module _ (outcome : Outcome Netlist) (i k A : ℕ) (before found : List ℕ) (r : Derived)
+module _ (outcome : Outcome Netlist) (i k A : ℕ) (before found : List ℕ) (r : Result ℕ Refusal)
     (told : Told outcome (record { node = i; layer = k; set = A }) (fitting (length before)) r found) where
   -- a refusal leaves it as it was
-  pub slice_kept : (refusal : Refusal) → r ≡ Refused refusal → before ≡ filled (λ n. steps_out (derived n i k A)) outcome before
+  pub slice_kept : (refusal : Refusal) → r ≡ Err refusal → before ≡ filled (λ n. steps_out (derived n i k A)) outcome before
   unfolding filled and_then
   slice_kept refusal is = go outcome (ap derived_of (sym is) ∙ told.reply)
     where
@@ -91,7 +90,7 @@ module _ (outcome : Outcome Netlist) (i k A : ℕ) (before found : List ℕ) (r 
       go (refused number place) e = refl
 
   -- an answer: the steps, and beyond them what stood there
-  module _ (count : ℕ) (is : r ≡ Steps count) where
+  module _ (count : ℕ) (is : r ≡ Ok count) where
     answer_of : (n : Netlist) × (outcome ≡ answered n) × (length (derived n i k A) ≡ count)
     answer_of =
         let (n, from, e) = leads outcome _ count (sym told.reply ∙ ap derived_of is) in

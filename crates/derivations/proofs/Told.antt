@@ -1,5 +1,7 @@
 -- What comes of a claim: the rows of refusals 12, 13, 16 and 15 passed or not, and the steps that a slice then
 -- holds at its front. Assumes nothing.
+use Rattle.std.specs.Prelude.{Result, Ok}
+use Rattle.rules.specs.declared.Refusal.{Refusal}
 use Prim.Native.Nat.{ℕ, ◌*◌, ◌≤◌, ◌<◌}
 use mathlib.Core.Path.{◌≡◌, sym, ◌∙◌}
 use mathlib.Core.Logic.{◌⊎◌, inl, inr}
@@ -15,8 +17,6 @@ use Rattle.rule_laws.proofs.Tests.{lt_or_le}
 use Rattle.query_netlists.proofs.Asking.{rows_refuse, rows_pass}
 use Rattle.derivation_steps.specs.declared.Claim.{Claim}
 use Rattle.derivation_rules.specs.Derivations.{Step, step_size, steps_out, in_family, derived, set_check, steps_check, explainable, derivable}
-use Rattle.derivations.specs.declared.Derived.{Derived}
-use Rattle.derivations.specs.declared.Derived.TheVariants.{Steps}
 use Rattle.derivations.specs.Meaning.{derived_of}
 use Rattle.derivations.specs.Written.{Written, derivable_in, Told}
 
@@ -60,7 +60,7 @@ module _ (n : Netlist) (i k A room : ℕ) where
 
 module _ (outcome : Outcome Netlist) (c : Claim) (room : ℕ) (slice : List ℕ) where
   -- a refusal, which says nothing of the slice
-  pub told_refused : (r : Derived) (number place : ℕ) → outcome ≡ refused number place → derived_of r ≡ refused number place → Told outcome c room r slice
+  pub told_refused : (r : Result ℕ Refusal) (number place : ℕ) → outcome ≡ refused number place → derived_of r ≡ refused number place → Told outcome c room r slice
   unfolding and_then
   told_refused r number place is reply = record {
     reply = rw is reply;
@@ -75,7 +75,7 @@ module _ (outcome : Outcome Netlist) (c : Claim) (room : ℕ) (slice : List ℕ)
   pub told_steps : (n : Netlist) → outcome ≡ answered n
       → length (derived n c.node c.layer c.set) ≤ room
       → take (step_size * length (derived n c.node c.layer c.set)) slice ≡ steps_out (derived n c.node c.layer c.set)
-      → Told outcome c room (Steps (length (derived n c.node c.layer c.set))) slice
+      → Told outcome c room (Ok (length (derived n c.node c.layer c.set))) slice
   unfolding and_then
   told_steps n is fits written = record {
     reply = rw is;

@@ -1,5 +1,7 @@
 -- A derivation that is being written: what the functions are handed, and how far the steps have come.
 -- Cited by the contracts of this crate. Assumes nothing.
+use Rattle.std.specs.Prelude.{Result}
+use Rattle.rules.specs.declared.Refusal.{Refusal}
 use Rattle.std.specs.Prelude.{ℕ, ◌+◌, ◌*◌, ◌≤◌, ◌<◌, ◌≡◌, List, [], ◌∷◌, ◌++◌, T, length, get_or, take}
 use Rattle.rules.specs.Records as R
 use Rattle.rules.specs.Families.{families}
@@ -12,7 +14,6 @@ use Rattle.derivation_steps.specs.declared.Claim.{Claim}
 use Rattle.derivation_steps.specs.declared.Way.{Way}
 use Rattle.derivation_rules.specs.Derivations.{Step, step_size, steps_out, claimed, derived, explainable}
 use Rattle.derivation_steps.specs.Meaning.{claim_of}
-use Rattle.derivations.specs.declared.Derived.{Derived}
 use Rattle.derivations.specs.Meaning.{derived_of}
 
 -- work bytes that hold the families of a netlist by value, and have room for those of every netlist
@@ -53,7 +54,7 @@ pub record ReadAs (value : Netlist) (bytes : List ℕ) : Type 0 where
 
 -- What comes of a claim, where an outcome says whether there is a derivation of at most `room` steps: the reply,
 -- and the steps at the front of a slice.
-pub record Told (outcome : Outcome R.Netlist) (c : Claim) (room : ℕ) (r : Derived) (slice : List ℕ) : Type 0 where
+pub record Told (outcome : Outcome R.Netlist) (c : Claim) (room : ℕ) (r : Result ℕ Refusal) (slice : List ℕ) : Type 0 where
   pub reply : derived_of r ≡ and_then outcome (λ n. answered (length (derived n c.node c.layer c.set)))
   pub few : (n : R.Netlist) → outcome ≡ answered n → length (derived n c.node c.layer c.set) ≤ room
   pub bytes : (n : R.Netlist) → outcome ≡ answered n

@@ -18,20 +18,13 @@ ghost use Rattle.derivations.specs.Written.{Known, Held, HeldEach, Written, deri
 
 use derivation_steps::{Claim, STEP, Way};
 use netlists::Netlist;
-use rules::{MOST_WORK, QueryOutcome, Reason, Refusal};
+use rules::{MOST_WORK, Refusal, Reason};
 
 // The most steps that a derivation has.
 pub const MOST_STEPS: usize = 512;
 
 // How many bytes have room for every derivation.
 pub const MOST_BYTES: usize = STEP * MOST_STEPS;
-
-// What `derive` replies: a refusal, or the number of steps.
-#[derive(Clone, Copy)]
-pub enum Derived {
-    Refused(Refusal),
-    Steps(usize),
-}
 
 // Explains a claim: the first rule that works is its step, and then its operands are explained. There are `at` steps so
 // far, and room for `room`; the reply is how many there are then, or more than `room` once they do not fit.
@@ -106,28 +99,22 @@ fn in_family(netlist: Netlist, work: &[u8], claim: Claim) -> bool
 
 // Explains a claim in a slice that has room for so many steps: refusals 12 and 13 of its node and its set, then 16,
 // and last 15. The steps of a refusal may stand there, as many as fit.
-fn explain(netlist: Netlist, work: &[u8], claim: Claim, steps: &mut [u8], room: usize) -> Derived
+fn explain(netlist: Netlist, work: &[u8], claim: Claim, steps: &mut [u8], room: usize) -> Result<usize, Refusal>
     requires { Known netlist work.now × (step_size * room ≤ length steps.old) × (room ≤ most_steps) }
     ensures { (n : Records.Netlist) → netlist ≡ flat_of n →
         Told (derivable_in n claim.node claim.layer claim.set room) claim room result steps.new }
 {
-    if let QueryOutcome::Refused(refusal) = query_netlists::judge(netlist, claim.node, claim.set) {
-        return Derived::Refused(refusal);
+    if let Err(refusal) = query_netlists::judge(netlist, claim.node, claim.set) {
+        return Err(refusal);
     }
     if !in_family(netlist, work, claim) {
-        return Derived::Refused(Refusal {
-            reason: Reason::NotInFamily,
-            place: claim.set,
-        });
+        return Err(Reason::NotInFamily.at(claim.set));
     }
     let count = explain_cell(netlist, work, claim, steps, 0, room);
     if room < count {
-        return Derived::Refused(Refusal {
-            reason: Reason::TooManySteps,
-            place: room,
-        });
+        return Err(Reason::TooManySteps.at(room));
     }
-    Derived::Steps(count)
+    Ok(count)
 }
 
 // What `derive` does, for whoever holds the netlist with its families: `work` has room for every netlist
@@ -140,7 +127,7 @@ pub fn derive_held(
     layer: usize,
     set: usize,
     steps: &mut [u8],
-) -> Derived
+) -> Result<usize, Refusal>
     requires { Known netlist work.now }
     ensures reply { (bytes : List ℕ) → ReadAs netlist bytes →
         derived_of result ≡ steps_reply bytes node layer set (length steps.old) }
@@ -154,7 +141,7 @@ pub fn derive_held(
     let claim = Claim { node, layer, set };
     let room = fitting(steps.len());
     let reply = explain(netlist, work, claim, &mut found, room);
-    if let Derived::Steps(count) = reply {
+    if let Ok(count) = reply {
         let end = STEP * count;
         steps[..end].copy_from_slice(&found[..end]);
     }
@@ -165,7 +152,7 @@ pub fn derive_held(
 // to the front of `steps`, five bytes a step. Replies with the number of steps; a refusal leaves the slice as it was.
 // `MOST_BYTES` bytes are enough for every derivation that is not refused. No family is worked out
 // for a query that is refused.
-pub fn derive(bytes: &[u8], node: usize, layer: usize, set: usize, steps: &mut [u8]) -> Derived
+pub fn derive(bytes: &[u8], node: usize, layer: usize, set: usize, steps: &mut [u8]) -> Result<usize, Refusal>
     ensures reply { derived_of result ≡
         steps_reply bytes.now node layer set (length steps.old) }
     ensures steps { steps.new ≡ steps_after bytes.now node layer set steps.old }
@@ -177,8 +164,8 @@ pub fn derive(bytes: &[u8], node: usize, layer: usize, set: usize, steps: &mut [
     let outcome = file.outcome;
     let netlist = file.netlist;
     match outcome {
-        QueryOutcome::Refused(refusal) => Derived::Refused(refusal),
-        QueryOutcome::Answered => {
+        Err(refusal) => Err(refusal),
+        Ok(()) => {
             let mut work = [0u8; MOST_WORK];
             nodes::all_families(netlist, &mut work);
             derive_held(netlist, &work, node, layer, set, steps)

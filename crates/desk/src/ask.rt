@@ -7,7 +7,7 @@ ghost use Rattle.rules.specs.Paper.{query_of};
 use crate::say::{say, say_first};
 use desk_text::ROOM;
 use netlists::Netlist;
-use rules::{Answer, MOST_WORK, QueryOutcome};
+use rules::{Answer, MOST_WORK, Refusal};
 
 // Prints document 01's listing of a block whose answer is at hand, and whose families are in the work bytes.
 pub fn list_held(answer: Answer, netlist: Netlist, work: &[u8; MOST_WORK]) {
@@ -17,10 +17,10 @@ pub fn list_held(answer: Answer, netlist: Netlist, work: &[u8; MOST_WORK]) {
 }
 
 // Prints the line of a query that is answered with this text; of one that is refused nothing.
-fn say_answered(outcome: QueryOutcome, text: &[u8; ROOM], count: usize)
+fn say_answered(outcome: Result<(), Refusal>, text: &[u8; ROOM], count: usize)
     requires { count ≤ most_text }
 {
-    if let QueryOutcome::Answered = outcome {
+    if let Ok(()) = outcome {
         say_first(text, count);
         say(b"\n");
     }
@@ -28,7 +28,7 @@ fn say_answered(outcome: QueryOutcome, text: &[u8; ROOM], count: usize)
 
 // Prints the settled value of a node under an assignment. A refusal is left to the caller to print, who knows the lines
 // of the block's text; so it is by the two below.
-pub fn value(bytes: &[u8], node: usize, assignment: usize) -> QueryOutcome
+pub fn value(bytes: &[u8], node: usize, assignment: usize) -> Result<(), Refusal>
     ensures { query_of result ≡ (value_query bytes.now node assignment).outcome }
 {
     let reply = queries::settled_value(bytes, node, assignment);
@@ -40,7 +40,7 @@ pub fn value(bytes: &[u8], node: usize, assignment: usize) -> QueryOutcome
 }
 
 // Prints the inputs and registers that feed a node through gates alone.
-pub fn feeding(bytes: &[u8], node: usize) -> QueryOutcome
+pub fn feeding(bytes: &[u8], node: usize) -> Result<(), Refusal>
     ensures { query_of result ≡ (feeding_query bytes.now node).outcome }
 {
     let reply = queries::feeding_points(bytes, node);
@@ -53,7 +53,7 @@ pub fn feeding(bytes: &[u8], node: usize) -> QueryOutcome
 }
 
 // Prints whether a set is in each of a node's two families.
-pub fn member(bytes: &[u8], node: usize, set: usize) -> QueryOutcome
+pub fn member(bytes: &[u8], node: usize, set: usize) -> Result<(), Refusal>
     ensures { query_of result ≡ (membership_query bytes.now node set).outcome }
 {
     let reply = queries::memberships(bytes, node, set);

@@ -6,7 +6,7 @@ ghost use Rattle.derivations.specs.Written.{Known};
 use crate::node_words::say_kind;
 use crate::say::{say, say_number, say_set};
 use crate::steps::step_at;
-use derivations::{Derived, MOST_BYTES};
+use derivations::MOST_BYTES;
 use marks::Marks;
 use netlists::Netlist;
 use rules::{Answer, Half, MOST_NODES, MOST_WORK, Node};
@@ -75,8 +75,8 @@ fn suspect_path(netlist: Netlist, work: &[u8; MOST_WORK], glitch: Half) -> Path
     };
     let mut steps = [0u8; MOST_BYTES];
     match derivations::derive_held(netlist, work, node, 1, set, &mut steps) {
-        Derived::Steps(count) => path_of(&steps, count),
-        Derived::Refused(refusal) => no_path(refusals::number_of(refusal), refusal.place),
+        Ok(count) => path_of(&steps, count),
+        Err(refusal) => no_path(refusals::number_of(refusal), refusal.place),
     }
 }
 

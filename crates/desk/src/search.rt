@@ -9,7 +9,7 @@ use crate::say::{put_first, say, say_answer, say_first, say_refused, say_set};
 use checker::Examined;
 use desk_text::ROOM;
 use pair_search::{Found, Search};
-use pairs::{PairsReply, Progress};
+use pairs::{PairsAnswer, Progress};
 use rules::{MOST_VARIABLES, MOST_WORK};
 
 // Standard error.
@@ -46,7 +46,7 @@ fn wipe_progress(shown: bool) {
 
 // What `pairs::check_pairs` replies to the netlist bytes that were examined, with slices that hold every netlist.
 // After each node it tells how far it is, if that is to be shown.
-fn searched(examined: Examined, work: &[u8; MOST_WORK], limit: usize, shown: bool) -> PairsReply
+fn searched(examined: Examined, work: &[u8; MOST_WORK], limit: usize, shown: bool) -> Result<PairsAnswer, Refusal>
     requires { Seen examined work.now }
     ensures { (bytes before : List ℕ) → Leaves bytes before examined work.now →
         pairs_reply_of result ≡ pairs_reply bytes most_nodes (length before) limit }
@@ -85,8 +85,8 @@ pub fn pairs(examined: Examined, work: &[u8; MOST_WORK], limit: usize, shown: bo
     let reply = searched(examined, work, limit, shown);
     wipe_progress(shown);
     match reply {
-        PairsReply::Refused(refusal) => say_refused(refusal, 0),
-        PairsReply::Answered(both) => {
+        Err(refusal) => say_refused(refusal, 0),
+        Ok(both) => {
             let answer = both.answer;
             let search = both.search;
             say_answer(answer, classes);

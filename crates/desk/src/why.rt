@@ -6,7 +6,7 @@ ghost use Rattle.derivations.specs.Written.{Known};
 use crate::node_words::{node_of, say_node};
 use crate::say::{say, say_first, say_refused, say_set};
 use crate::steps::{Step, step_at};
-use derivations::{Derived, MOST_BYTES, MOST_STEPS};
+use derivations::{MOST_BYTES, MOST_STEPS};
 use desk_text::ROOM;
 use netlists::Netlist;
 use rules::{Answer, Half, MOST_WORK};
@@ -138,8 +138,8 @@ pub fn why(netlist: Netlist, work: &[u8; MOST_WORK], node: usize, layer: usize, 
 {
     let mut steps = [0u8; MOST_BYTES];
     match derivations::derive_held(netlist, work, node, layer, set, &mut steps) {
-        Derived::Refused(refusal) => say_refused(refusal, 0),
-        Derived::Steps(count) => {
+        Err(refusal) => say_refused(refusal, 0),
+        Ok(count) => {
             say_steps(netlist, &steps, count);
             say_step_count(count);
         }

@@ -1,5 +1,6 @@
 -- The record of a new node is judged as the next of a file in which it stands at the offset of its number, and then by
 -- whether bytes are left over, row by row. Assumes nothing.
+use Rattle.std.specs.Prelude.{Result, Ok, Err}
 use Prim.Native.Nat.{ℕ, ◌+◌, ◌<◌, ◌≤◌}
 use mathlib.Core.Path.{◌≡◌, refl, ap, ◌∙◌}
 use mathlib.Core.Logic.{◌⊎◌, inl, inr}
@@ -12,8 +13,6 @@ use lib.Dec.{ltb, lt→ltb, ltb→lt}
 use lib.ListN.{get_or}
 use Rattle.rules.specs.declared.Node.{Node}
 use Rattle.rules.specs.declared.Refusal.{Refusal}
-use Rattle.rules.specs.declared.QueryOutcome.{QueryOutcome}
-use Rattle.rules.specs.declared.QueryOutcome.TheVariants as Query
 use Rattle.rules.specs.Records.{Cell, Record, node, said, size, last_kind, most_body}
 use Rattle.rules.specs.Slices.{entry}
 use Rattle.rules.specs.Checks.{Outcome, answered, refused, and_then, Check, check, judged, judged_record, over_limit, undeclared, undeclared_set, bad_operand}
@@ -94,8 +93,8 @@ module _ (total v n k : ℕ) (body : List ℕ) where
         go (inr above) (inl some) (inr known) = let (cell, says) = says_node k body above known in node_next some above known cell says
 
     -- a refusal that is told is the offer's
-    pub refused_next : {A : Type 0} (f : Cell → Outcome A) {told : QueryOutcome} (refusal : Refusal) → query_of told ≡ accepted_if judged_next
-        → told ≡ Query.Refused refusal → refused (number_of refusal) (place_of refusal) ≡ and_then (judged_node total v n k body) f
+    pub refused_next : {A : Type 0} (f : Cell → Outcome A) {told : Result (Unit {0}) Refusal} (refusal : Refusal) → query_of told ≡ accepted_if judged_next
+        → told ≡ Err refusal → refused (number_of refusal) (place_of refusal) ≡ and_then (judged_node total v n k body) f
     unfolding accepted_if and_then
     refused_next f refusal tells is = rw (judged_next_lem, query_refused judged_next refusal tells is)
 
@@ -104,7 +103,7 @@ module _ (total v n k : ℕ) (body : List ℕ) where
     accepted_next cell is = judged_next_lem ∙ rw is
 
     -- where it is told that the record is accepted, it is that of a node
-    pub found_next : {told : QueryOutcome} → query_of told ≡ accepted_if judged_next → told ≡ Query.Answered → FoundNext
+    pub found_next : {told : Result (Unit {0}) Refusal} → query_of told ≡ accepted_if judged_next → told ≡ Ok tt → FoundNext
     unfolding judged_record
     found_next tells is =
         let accepted = (found_record (n + total) v n n k body own own _ is (ap (λ (o : Outcome (Unit {0})). and_then o (λ _. answered own)) tells)).0 in

@@ -1,16 +1,17 @@
 -- What is offered to a block, and what moves where a node is removed. Cited by the contracts of this crate, below the
 -- entry points. Assumes nothing.
+use Rattle.std.specs.Prelude.{Result, Ok, Err}
+use Rattle.rules.specs.declared.Refusal.{Refusal}
 use Rattle.std.specs.Prelude.{ℕ, ◌+◌, ◌*◌, ◌-◌, List, drop}
 use Rattle.std.proofs.Math.Seq.{paste}
 use Rattle.rules.specs.declared.Node.{Node}
 use Rattle.rules.specs.Checks.{Outcome, answered, refused}
 use Rattle.rules.specs.Paper.{number_of, place_of}
-use Rattle.edit_parts.specs.declared.Offer.{Offer}
 
 -- what is offered: a node record, or a refusal
-abbrev pub offered_of : Offer → Outcome Node
-offered_of (Offer.Node e) = answered e
-offered_of (Offer.Refused r) = refused (number_of r) (place_of r)
+abbrev pub offered_of : Result Node Refusal → Outcome Node
+offered_of (Ok e) = answered e
+offered_of (Err r) = refused (number_of r) (place_of r)
 
 -- the work bytes once the families of node `removed`, of so many nodes, are removed: those behind it move down,
 -- and the last 256 bytes stay

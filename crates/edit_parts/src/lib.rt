@@ -14,20 +14,13 @@ ghost use Rattle.edit_rules.specs.Edits.{judged_node, without_node};
 ghost use Rattle.edit_parts.specs.Parts.{offered_of, moved_down};
 
 use netlists::Netlist;
-use rules::{MOST_BODY, Node, QueryOutcome, Reason, Refusal};
+use rules::{MOST_BODY, Node, Refusal, Reason};
 
 // ---- a new node
 
-// A node that is offered as a record's bytes, or their refusal.
-#[derive(Clone, Copy)]
-pub enum Offer {
-    Node(Node),
-    Refused(Refusal),
-}
-
 // The node that a record's bytes offer after so many variables and nodes. They are judged as the next record of a file
 // in which it stands at the offset of its node number, so that number is the place of each refusal.
-pub fn offered(bytes: &[u8], variables: usize, nodes: usize) -> Offer
+pub fn offered(bytes: &[u8], variables: usize, nodes: usize) -> Result<Node, Refusal>
     requires { nodes ≤ most_nodes }
     ensures { offered_of result ≡ and_then
         (judged_node (length bytes.now) variables nodes
@@ -38,22 +31,16 @@ pub fn offered(bytes: &[u8], variables: usize, nodes: usize) -> Offer
     let kind = own.kind;
     if 0 < bytes.len() {
         if kind < 2 {
-            return Offer::Refused(Refusal {
-                reason: Reason::UnknownKind,
-                place: nodes,
-            });
+            return Err(Reason::UnknownKind.at(nodes));
         }
     }
     match records::judge(nodes + bytes.len(), variables, nodes, nodes, own) {
-        QueryOutcome::Refused(refusal) => Offer::Refused(refusal),
-        QueryOutcome::Answered => {
+        Err(refusal) => Err(refusal),
+        Ok(()) => {
             if read_bytes::size_of(kind) < bytes.len() {
-                return Offer::Refused(Refusal {
-                    reason: Reason::BytesAfterEnd,
-                    place: nodes,
-                });
+                return Err(Reason::BytesAfterEnd.at(nodes));
             }
-            Offer::Node(read_bytes::entry_of(own))
+            Ok(read_bytes::entry_of(own))
         }
     }
 }

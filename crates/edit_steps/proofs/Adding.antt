@@ -1,6 +1,7 @@
 -- What the functions that take a node share: its families, worked out from work bytes that hold those of the
 -- other nodes, make them hold all; with its marks, found over these, the marks of the others are those of all;
 -- and an addition is what the offer and the slices make of it. Assumes nothing.
+use Rattle.std.specs.Prelude.{Result, Ok, Err}
 use Prim.Native.Nat.{ℕ, ◌+◌, ◌*◌, ◌-◌, ◌<◌, ◌≤◌}
 use mathlib.Core.Path.{◌≡◌, refl, sym, ap, ap₂, ◌∙◌}
 use mathlib.Core.List.{List, [], ◌∷◌, ◌++◌}
@@ -9,10 +10,7 @@ use native.Mathlib.Omega.{arith}
 use lib.ListN.{length, get_or, drop, set, length-append, take-append-drop}
 use lib.Seq.{take_at, get_or_at}
 use Rattle.rules.specs.declared.Node.{Node}
-use Rattle.rules.specs.declared.QueryOutcome.{QueryOutcome}
-use Rattle.rules.specs.declared.QueryOutcome.TheVariants as Query
 use Rattle.rules.specs.declared.Refusal.{Refusal}
-use Rattle.rules.specs.declared.Reply.TheVariants.{Refused}
 use Rattle.rules.specs.Records.{Cell, input, Netlist, WellFormed, with_node, most_variables, most_nodes}
 use Rattle.rules.specs.Families.{Family, Families, families_rule, families, layer_marks}
 use Rattle.rules.specs.Slices.{entry, mark_number, work_bytes}
@@ -89,10 +87,10 @@ marked n cell rest e formed =
         ∙ ap flat_marks (sym (marks_added layer n cell))
 
 -- what is told of the slices for one node more
-module _ (block : Value.Netlist) (marks : Marks) (e : Node) (entries : ℕ) (examined : Examined) (before : List ℕ) {told : QueryOutcome}
+module _ (block : Value.Netlist) (marks : Marks) (e : Node) (entries : ℕ) (examined : Examined) (before : List ℕ) {told : Result (Unit {0}) Refusal}
     (fit : JudgesSlices (block.count + 1) entries (length before) told) where
   -- they are too short
-  pub no_room : {r : Refusal} → told ≡ Query.Refused r → examined.reply ≡ Refused r → NothingKept examined → Adds block marks e entries examined before before
+  pub no_room : {r : Refusal} → told ≡ Err r → examined.reply ≡ Err r → NothingKept examined → Adds block marks e entries examined before before
   unfolding and_then
   no_room {r} is reply nothing = record {
     contained = contained_refused entries examined before nothing;
@@ -105,7 +103,7 @@ module _ (block : Value.Netlist) (marks : Marks) (e : Node) (entries : ℕ) (exa
           rw (too_short fit (with_node n cell) (one_more n cell same) is) (refusal r (number_of r) (place_of r) examined before refl refl reply nothing)
 
   -- they hold it: what is read from the marks with its own, which are found over the work bytes with its families
-  pub looked : (value : Value.Netlist) (longer : Marks) (after : List ℕ) → told ≡ Query.Answered → block.count < most_nodes → value.count ≡ block.count + 1
+  pub looked : (value : Value.Netlist) (longer : Marks) (after : List ℕ) → told ≡ Ok tt → block.count < most_nodes → value.count ≡ block.count + 1
       → ((n : Netlist) (cell : Cell) → block ≡ flat_of n → e ≡ entry cell → value ≡ flat_of (with_node n cell))
       → ((cell : Cell) → e ≡ entry cell → after ≡ with_families before block.count (families_rule (so_far before block.count) cell))
       → ((n : Netlist) → value ≡ flat_of n
@@ -140,7 +138,7 @@ module _ (block : Value.Netlist) (marks : Marks) (bytes : List ℕ) where
 
   module _ (entries : ℕ) (examined : Examined) (before : List ℕ) where
     pub refuses : (r : Refusal) → refused (number_of r) (place_of r) ≡ and_then (offered_to block bytes) (λ cell. answered (entry cell))
-        → examined.reply ≡ Refused r → NothingKept examined → Changes block marks (add bytes) entries examined before before
+        → examined.reply ≡ Err r → NothingKept examined → Changes block marks (add bytes) entries examined before before
     unfolding fits and_then
     refuses r offer q t =
         refused_early block marks (add bytes) entries r examined before

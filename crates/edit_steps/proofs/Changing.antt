@@ -1,13 +1,13 @@
 -- What any edit of a block by value shares: the state of a netlist by value is the netlist's; a refusal keeps nothing
 -- and changes nothing, whatever the block is, and one that goes by the state and the lengths is that of every
 -- netlist with this state. Assumes nothing.
+use Rattle.std.specs.Prelude.{Err}
 use Prim.Native.Nat.{ℕ, ◌≤◌}
 use mathlib.Core.Path.{◌≡◌, refl, ap, ◌∙◌}
 use mathlib.Core.List.{List}
 use native.Mathlib.Omega.{arith}
 use lib.ListN.{length}
 use Rattle.rules.specs.declared.Refusal.{Refusal}
-use Rattle.rules.specs.declared.Reply.TheVariants.{Refused}
 use Rattle.rules.specs.Records.{Netlist, empty, WellFormed, most_nodes}
 use Rattle.rules.specs.Checks.{refused, and_then}
 use Rattle.rules.specs.Paper.{number_of, place_of, reply_of}
@@ -57,7 +57,7 @@ edited_refused n (remove i) entries work k p f = rw f
 -- a refusal that goes by the state and the lengths alone
 pub refused_early : (block : Value.Netlist) (marks : Marks) (e : Edit) (entries : ℕ) (r : Refusal) (examined : Examined) (before : List ℕ)
     → ((n : Netlist) → WellFormed n → state_in block ≡ state_of n → fits n e entries (length before) ≡ refused (number_of r) (place_of r))
-    → examined.reply ≡ Refused r → NothingKept examined → Changes block marks e entries examined before before
+    → examined.reply ≡ Err r → NothingKept examined → Changes block marks e entries examined before before
 refused_early block marks e entries r examined before says reply none = record {
   contained = contained_refused entries examined before none;
   early = λ n formed s k p f.

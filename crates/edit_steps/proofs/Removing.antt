@@ -1,5 +1,7 @@
 -- A node removed: what is examined where another node still uses the node and where it is removed, and what a removal
 -- comes to before that. Assumes nothing.
+use Rattle.std.specs.Prelude.{Result, Ok, Err}
+use Rattle.rules.specs.declared.Refusal.{Refusal}
 use Prim.Native.Nat.{ℕ, ◌+◌, ◌*◌, ◌≤◌, ◌<◌}
 use mathlib.Core.Path.{◌≡◌, refl, sym, ap, ap₂, ◌∙◌}
 use mathlib.Core.List.{List}
@@ -7,10 +9,7 @@ use mathlib.Core.Option.{Option}
 use native.Mathlib.Omega.{arith}
 use lib.ListN.{length}
 use borrow.Author.Tests.{lt-ltb, le-ltb, le-leb, lt-leb}
-use Rattle.rules.specs.declared.QueryOutcome.{QueryOutcome}
-use Rattle.rules.specs.declared.QueryOutcome.TheVariants as Query
 use Rattle.rules.specs.declared.Reason.TheVariants.{StillNamed}
-use Rattle.rules.specs.declared.Reply.TheVariants.{Refused}
 use Rattle.rules.specs.Lists.{without}
 use Rattle.rules.specs.Records.{Netlist, WellFormed, most_nodes}
 use Rattle.rules.specs.Checks.{answered, refused, and_then, judged, slices_fit, node_check}
@@ -33,7 +32,7 @@ use Rattle.edit_rules.proofs.Removal.{Unused, marks_removed}
 
 -- a node is removed, where `by` is the lowest node that uses it
 module _ (block : Value.Netlist) (marks : Marks) (removed by : ℕ) (lowest : (n : Netlist) → WellFormed n → block ≡ flat_of n → by ≡ lowest_user removed n.nodes) where
-  pub still_used : (examined : Examined) (before : List ℕ) → by < block.count → examined.reply ≡ Refused (record { reason = StillNamed; place = by })
+  pub still_used : (examined : Examined) (before : List ℕ) → by < block.count → examined.reply ≡ Err (record { reason = StillNamed; place = by })
       → NothingKept examined → RemovesUnused block marks removed examined before before
   unfolding removed_if_unused judged
   still_used examined before named r none = record {
@@ -81,8 +80,8 @@ module _ (count removed entries work : ℕ) (n : Netlist) (same : count ≡ leng
   by_slices there = rw (← same, lt-leb _ _ there)
 
 -- both slices hold the nodes, and the node is removed or still used
-pub removes : (block : Value.Netlist) (marks : Marks) (removed entries : ℕ) (examined : Examined) (before after : List ℕ) {told : QueryOutcome} → removed < block.count
-    → JudgesSlices block.count entries (length before) told → told ≡ Query.Answered → RemovesUnused block marks removed examined before after
+pub removes : (block : Value.Netlist) (marks : Marks) (removed entries : ℕ) (examined : Examined) (before after : List ℕ) {told : Result (Unit {0}) Refusal} → removed < block.count
+    → JudgesSlices block.count entries (length before) told → told ≡ Ok tt → RemovesUnused block marks removed examined before after
     → Changes block marks (remove removed) entries examined before after
 unfolding edited and_then
 removes block marks removed entries examined before after there slices holds-them given = record {

@@ -14,11 +14,10 @@ ghost use Rattle.edit_rules.specs.Meaning.{edit_of};
 ghost use Rattle.edit_steps.specs.Changes.{state_in, Limited, Adds, RemovesUnused, Changes};
 
 use checker::Examined;
-use edit_parts::Offer;
 use edit_rules::{Edit, State};
 use marks::Marks;
 use netlists::Netlist;
-use rules::{MOST_NODES, MOST_VARIABLES, Node, QueryOutcome, Reason, Refusal};
+use rules::{MOST_NODES, MOST_VARIABLES, Node, Refusal, Reason};
 
 // A block by value, and its marks.
 #[derive(Clone, Copy)]
@@ -55,8 +54,8 @@ fn add_offered(
 {
     let count = block.count;
     match checker::slices_fit(count + 1, entries, work.len()) {
-        QueryOutcome::Refused(refusal) => checker::refused(refusal),
-        QueryOutcome::Answered => {
+        Err(refusal) => checker::refused(refusal),
+        Ok(()) => {
             nodes::node_families(work, count, node);
             let longer = netlists::with_node(block, node);
             checker::read_marks(longer, marks::with_last(longer, marks, work))
@@ -70,8 +69,8 @@ fn add_node(block: Netlist, marks: Marks, bytes: &[u8], entries: usize, work: &m
     ensures { Changes block marks (Edits.add bytes.now) entries result work.old work.new }
 {
     match edit_parts::offered(bytes, block.variables, block.count) {
-        Offer::Refused(refusal) => checker::refused(refusal),
-        Offer::Node(node) => add_offered(block, marks, node, entries, work),
+        Err(refusal) => checker::refused(refusal),
+        Ok(node) => add_offered(block, marks, node, entries, work),
     }
 }
 
@@ -93,10 +92,7 @@ fn remove_if_unused(
 {
     let count = block.count;
     if by < count {
-        return checker::refused(Refusal {
-            reason: Reason::StillNamed,
-            place: by,
-        });
+        return checker::refused(Reason::StillNamed.at(by));
     }
     edit_parts::move_down(work, removed, count);
     let fewer = marks::without_marks(marks, removed, count);
@@ -116,15 +112,12 @@ fn remove_node(
 {
     let count = block.count;
     if count <= removed {
-        return checker::refused(Refusal {
-            reason: Reason::NoSuchNode,
-            place: removed,
-        });
+        return checker::refused(Reason::NoSuchNode.at(removed));
     }
     let by = edit_parts::lowest_user(block, removed);
     match checker::slices_fit(count, entries, work.len()) {
-        QueryOutcome::Refused(refusal) => checker::refused(refusal),
-        QueryOutcome::Answered => remove_if_unused(block, marks, removed, by, work),
+        Err(refusal) => checker::refused(refusal),
+        Ok(()) => remove_if_unused(block, marks, removed, by, work),
     }
 }
 
@@ -140,16 +133,10 @@ pub fn change(loaded: Loaded, edit: Edit, bytes: &[u8], entries: usize, work: &m
     let block = loaded.block;
     let marks = loaded.marks;
     if MOST_VARIABLES < block.variables {
-        return checker::refused(Refusal {
-            reason: Reason::OverLimit,
-            place: block.count,
-        });
+        return checker::refused(Reason::OverLimit.at(block.count));
     }
     if MOST_NODES < block.count {
-        return checker::refused(Refusal {
-            reason: Reason::OverLimit,
-            place: block.count,
-        });
+        return checker::refused(Reason::OverLimit.at(block.count));
     }
     match edit {
         Edit::Add => add_node(block, marks, bytes, entries, work),

@@ -1,4 +1,5 @@
 -- What a turn is once a block was opened or edited, by the reply. Assumes nothing.
+use Rattle.std.specs.Prelude.{Result, Ok, Err}
 use Prim.Native.Nat.{ℕ}
 use mathlib.Core.Path.{◌≡◌, sym, ap, ◌∙◌}
 use mathlib.Core.Bool.{cond, ◌||◌, or-true, or-false}
@@ -6,8 +7,6 @@ use mathlib.Core.List.{List}
 use native.Mathlib.Omega.{arith}
 use Rattle.rules.specs.declared.Answer.{Answer}
 use Rattle.rules.specs.declared.Refusal.{Refusal}
-use Rattle.rules.specs.declared.Reply.{Reply}
-use Rattle.rules.specs.declared.Reply.TheVariants.{Refused, Answered}
 use Rattle.rules.specs.Records.{Netlist, most_nodes}
 use Rattle.rules.specs.Families.{findings}
 use Rattle.rules.specs.Checks.{Outcome, answered, refused, and_then, admitted, most_work}
@@ -24,7 +23,7 @@ use Rattle.edit_turns.specs.Meaning.{Stands, Answers, turned_by, turned_of, unch
 -- ---- an opening
 
 -- an answer at hand is the netlist's
-pub opened_answer : (n : Netlist) (a : Answer) → reply_of (Answered a) ≡ answered (findings n) → findings_of a ≡ findings n
+pub opened_answer : (n : Netlist) (a : Answer) → reply_of (Ok a) ≡ answered (findings n) → findings_of a ≡ findings n
 opened_answer n a says = cc
 
 -- a block that is admitted is answered
@@ -33,24 +32,24 @@ unfolding reply and_then
 admitted_reply bytes entries work n admits = rw admits
 
 -- and not refused
-pub not_opened : (n : Netlist) (r : Refusal) → reply_of (Refused r) ≡ answered (findings n) → ⊥
+pub not_opened : (n : Netlist) (r : Refusal) → reply_of (Err r) ≡ answered (findings n) → ⊥
 not_opened n r says = let z : ◌≡◌ {A = ℕ} 0 1 = cc in omega arith
 
 -- ---- an edit
 
 module _ (s : Standing) (turn : Turn) (changed : Examined) (before after : List ℕ) (stands : Stands s turn before) where
   -- by what the edit comes to
-  stands_after : (o : Outcome Netlist) (r : Reply) → reply_of r ≡ and_then o (λ m. answered (findings m))
+  stands_after : (o : Outcome Netlist) (r : Result Answer Refusal) → reply_of r ≡ and_then o (λ m. answered (findings m))
       → IsHeld (otherwise s.netlist o) changed.netlist changed.marks after
       → Stands (record { netlist = otherwise s.netlist o; faulty = s.faulty || turned_away o; made = cond (turned_away o) s.made (one_more s.made) })
       (turned_by r turn changed) after
   unfolding and_then otherwise turned_away
-  stands_after (answered m) (Answered a) says is =
+  stands_after (answered m) (Ok a) says is =
       record { is = is; answers = cc; faults = stands.faults ∙ sym (or-false s.faulty); counts = ap one_more stands.counts }
-  stands_after (refused k p) (Refused r) says is =
+  stands_after (refused k p) (Err r) says is =
       record { is = is; answers = stands.answers; faults = sym (or-true s.faulty); counts = stands.counts }
-  stands_after (answered m) (Refused r) says is = let z : ◌≡◌ {A = ℕ} 0 1 = cc in absurd (omega arith)
-  stands_after (refused k p) (Answered a) says is = let z : ◌≡◌ {A = ℕ} 0 1 = cc in absurd (omega arith)
+  stands_after (answered m) (Err r) says is = let z : ◌≡◌ {A = ℕ} 0 1 = cc in absurd (omega arith)
+  stands_after (refused k p) (Ok a) says is = let z : ◌≡◌ {A = ℕ} 0 1 = cc in absurd (omega arith)
 
   pub turned_answers : (e : Edit) → reply_of changed.reply ≡ reply_after s.netlist e most_nodes most_work
       → IsHeld (netlist_after s.netlist e most_nodes most_work) changed.netlist changed.marks after

@@ -1,8 +1,9 @@
 -- What the code's turn means: a block that is held by value, with where the run of its edits stands. Promises use this.
 -- Assumes nothing.
+use Rattle.std.specs.Prelude.{Result, Ok, Err}
+use Rattle.rules.specs.declared.Refusal.{Refusal}
+use Rattle.rules.specs.declared.Answer.{Answer}
 use Rattle.std.specs.Prelude.{ℕ, ◌≡◌, true, false, List}
-use Rattle.rules.specs.declared.Reply.{Reply}
-use Rattle.rules.specs.declared.Reply.TheVariants.{Refused, Answered}
 use Rattle.rules.specs.Records.{WellFormed, written_out}
 use Rattle.rules.specs.Families.{findings}
 use Rattle.rules.specs.Demands.{NoSuspect, OneProbe}
@@ -38,9 +39,9 @@ pub record Earned (s : Standing) : Type 0 where
 -- ---- below the entry points
 
 -- the turn once an edit gave this: its reply, and the netlist and its marks as they then are
-abbrev pub turned_by : Reply → Turn → Examined → Turn
-turned_by (Refused r) turn changed = record { netlist = changed.netlist; marks = changed.marks; answer = turn.answer; faulty = true; made = turn.made }
-turned_by (Answered a) turn changed = record {
+abbrev pub turned_by : Result Answer Refusal → Turn → Examined → Turn
+turned_by (Err r) turn changed = record { netlist = changed.netlist; marks = changed.marks; answer = turn.answer; faulty = true; made = turn.made }
+turned_by (Ok a) turn changed = record {
   netlist = changed.netlist;
   marks = changed.marks;
   answer = a;
@@ -53,4 +54,4 @@ turned_of turn changed = turned_by changed.reply turn changed
 
 -- a turn with its own answer for the reply
 abbrev pub unchanged_of : Turn → Told
-unchanged_of turn = record { turn = turn; reply = Answered turn.answer }
+unchanged_of turn = record { turn = turn; reply = Ok turn.answer }

@@ -22,7 +22,7 @@ use edit_rules::Edit;
 use marks::Marks;
 use netlists::Netlist;
 use read_words::MOST_RECORD;
-use rules::{Answer, Half, MOST_WORK, Reply};
+use rules::{Answer, Half, MOST_WORK, Refusal};
 
 // Between two lines: the netlist and its marks, its answer, whether something was at fault so far, and how many edits
 // were made.
@@ -40,7 +40,7 @@ pub struct Turn {
 #[derive(Clone, Copy)]
 pub struct Told {
     pub turn: Turn,
-    pub reply: Reply,
+    pub reply: Result<Answer, Refusal>,
 }
 
 // What a line asks for, and what became of it.
@@ -75,7 +75,7 @@ pub fn begin_with(opened: Examined) -> Told
     let marks = opened.marks;
     let mut answer = no_answer();
     let mut faulty = true;
-    if let Reply::Answered(its) = reply {
+    if let Ok(its) = reply {
         answer = its;
         faulty = false;
     }
@@ -129,14 +129,14 @@ fn turned(turn: Turn, changed: Examined) -> Turn
     let reply = changed.reply;
     let before = turn.answer;
     match reply {
-        Reply::Refused(_) => Turn {
+        Err(_) => Turn {
             netlist,
             marks,
             answer: before,
             faulty: true,
             made: turn.made,
         },
-        Reply::Answered(answer) => Turn {
+        Ok(answer) => Turn {
             netlist,
             marks,
             answer,
@@ -172,7 +172,7 @@ fn unchanged(turn: Turn) -> Told
     ensures { result ≡ unchanged_of turn }
 {
     let answer = turn.answer;
-    let reply = Reply::Answered(answer);
+    let reply = Ok(answer);
     Told { turn, reply }
 }
 

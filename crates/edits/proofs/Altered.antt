@@ -1,5 +1,6 @@
 -- Calls of which `Kept` is false, so that what it says of each part is not empty: a refusal that alters the work bytes,
 -- a node record or the state, and slices whose length a call alters, whatever it replies. Assumes nothing.
+use Rattle.std.specs.Prelude.{Err}
 use Prim.Native.Nat.{ℕ}
 use mathlib.Core.Path.{◌≡◌, refl, ap}
 use mathlib.Core.List.{List, ◌∷◌}
@@ -7,7 +8,6 @@ use native.Mathlib.Omega.{arith}
 use lib.ListN.{get_or}
 use Rattle.rules.specs.declared.NodeRecord.{NodeRecord}
 use Rattle.rules.specs.declared.Refusal.{Refusal}
-use Rattle.rules.specs.declared.Reply.TheVariants.{Refused}
 use Rattle.rules.specs.Paper.{number_of, place_of}
 use Rattle.rules.proofs.BlockOutputs.{fields}
 use Rattle.edit_rules.specs.declared.State.{State}
@@ -16,7 +16,7 @@ use Rattle.edits.specs.Edited.{Kept}
 
 -- what a refused edit gives
 abbrev refusing : Refusal → State → Edited
-refusing r state = record { reply = Refused r; state = state }
+refusing r state = record { reply = Err r; state = state }
 
 two_is_not_one : ¬ (◌≡◌ {A = ℕ} 2 1)
 two_is_not_one e = omega arith

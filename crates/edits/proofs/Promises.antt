@@ -1,5 +1,8 @@
 -- What an edit promises, clause by clause, from what its parts promise: the block is loaded, an edit of it by value is
 -- made over the work bytes, the node records are stored, and reply and state are given. Assumes nothing.
+use Rattle.std.specs.Prelude.{Result, Ok, Err}
+use Rattle.rules.specs.declared.Refusal.{Refusal}
+use Rattle.rules.specs.declared.Answer.{Answer}
 use Prim.Native.Nat.{ℕ, ◌≤◌, zero-le}
 use mathlib.Core.Path.{◌≡◌, refl, sym, ap, subst, ◌∙◌}
 use mathlib.Core.Logic.{◌↔◌}
@@ -7,8 +10,6 @@ use mathlib.Core.List.{List}
 use native.Mathlib.Omega.{arith}
 use lib.ListN.{length}
 use Rattle.rules.specs.declared.NodeRecord.{NodeRecord}
-use Rattle.rules.specs.declared.Reply.{Reply}
-use Rattle.rules.specs.declared.Reply.TheVariants.{Refused, Answered}
 use Rattle.rules.specs.Records.{Netlist, WellFormed, empty, written_out}
 use Rattle.rules.specs.Families.{findings}
 use Rattle.rules.specs.Checks.{Outcome, answered, refused, and_then}
@@ -61,13 +62,13 @@ kept_records (answered m) examined ys enough f g = netlist_stored examined m f g
 kept_records (refused k p) examined ys enough f g = netlist_stored examined empty f g ys zero-le
 
 -- the state that is given
-kept_state : (n : Netlist) (o : Outcome Netlist) (r : Reply) (state after : State) → reply_of r ≡ and_then o (λ m. answered (findings m))
+kept_state : (n : Netlist) (o : Outcome Netlist) (r : Result Answer Refusal) (state after : State) → reply_of r ≡ and_then o (λ m. answered (findings m))
     → state ≡ state_of n → after ≡ state_in (flat_of (kept o)) → next_state r state after ≡ state_of (otherwise n o)
 unfolding and_then kept otherwise
-kept_state n (answered m) (Answered a) state after says is-n is_m = is_m ∙ value_state m refl
-kept_state n (answered m) (Refused r) state after says is-n is_m = let z : ◌≡◌ {A = ℕ} 0 1 = cc in absurd (omega arith)
-kept_state n (refused k p) (Answered a) state after says is-n is_m = let z : ◌≡◌ {A = ℕ} 0 1 = cc in absurd (omega arith)
-kept_state n (refused k p) (Refused r) state after says is-n is_m = is-n
+kept_state n (answered m) (Ok a) state after says is-n is_m = is_m ∙ value_state m refl
+kept_state n (answered m) (Err r) state after says is-n is_m = let z : ◌≡◌ {A = ℕ} 0 1 = cc in absurd (omega arith)
+kept_state n (refused k p) (Ok a) state after says is-n is_m = let z : ◌≡◌ {A = ℕ} 0 1 = cc in absurd (omega arith)
+kept_state n (refused k p) (Err r) state after says is-n is_m = is-n
 
 -- where the glitch half is clear, and what it means
 clear_when : (n : Netlist) (e : Edit) (entries work : ℕ) → GlitchClear (reply_after n e entries work) ↔ NothingSuspectAfter n e entries work
@@ -93,9 +94,9 @@ probe_after n e entries work formed = go (edited n e entries work) refl
 -- ---- all clauses
 
 -- the state of a refused edit
-refused_state : (r : Reply) (state after : State) (k p : ℕ) → reply_of r ≡ refused k p → next_state r state after ≡ state
-refused_state (Refused r) state after k p e = refl
-refused_state (Answered a) state after k p e = let z : ◌≡◌ {A = ℕ} 0 1 = cc in absurd (omega arith)
+refused_state : (r : Result Answer Refusal) (state after : State) (k p : ℕ) → reply_of r ≡ refused k p → next_state r state after ≡ state
+refused_state (Err r) state after k p e = refl
+refused_state (Ok a) state after k p e = let z : ◌≡◌ {A = ℕ} 0 1 = cc in absurd (omega arith)
 
 -- what an edit promises, from what `load`, `change`, `store` and `edited_of` promise
 pub promises : (state : State) (e : Edit) (ys ns : List NodeRecord) (zs ws : List ℕ) (examined : Examined)

@@ -1,9 +1,10 @@
 -- A block as it is loaded from a lent slice of node records; what a call gives beside both slices; and what holds of a
 -- call whatever it was handed. Cited by the contracts of this crate. Assumes nothing.
+use Rattle.std.specs.Prelude.{Result, Ok, Err}
+use Rattle.rules.specs.declared.Refusal.{Refusal}
+use Rattle.rules.specs.declared.Answer.{Answer}
 use Rattle.std.specs.Prelude.{ℕ, min, ◌≡◌, List, map, length, take}
 use Rattle.rules.specs.declared.NodeRecord.{NodeRecord}
-use Rattle.rules.specs.declared.Reply.{Reply}
-use Rattle.rules.specs.declared.Reply.TheVariants.{Refused, Answered}
 use Rattle.rules.specs.Records.{most_nodes}
 use Rattle.rules.specs.Checks as Checks
 use Rattle.rules.specs.Paper.{reply_of}
@@ -35,9 +36,9 @@ abbrev pub loaded_of : State → List NodeRecord → Loaded
 loaded_of state nodes = loaded_from state (min state.count most_nodes) nodes
 
 -- the state to hand in next: a refused edit gives the state that it got
-abbrev pub next_state : Reply → (state after : State) → State
-next_state (Refused r) state after = state
-next_state (Answered a) state after = after
+abbrev pub next_state : Result Answer Refusal → (state after : State) → State
+next_state (Err r) state after = state
+next_state (Ok a) state after = after
 
 -- what an edit gives of what was examined, and what opening does
 abbrev pub edited_of : State → Examined → Edited

@@ -21,12 +21,12 @@ use edit_rules::{Edit, State};
 use edit_steps::Loaded;
 use marks::Marks;
 use netlists::Netlist;
-use rules::{MOST_NODES, NodeRecord, Reply};
+use rules::{MOST_NODES, NodeRecord, Answer, Refusal};
 
 // What a call gives: the reply, and the state to hand in next.
 #[derive(Clone, Copy)]
 pub struct Edited {
-    pub reply: Reply,
+    pub reply: Result<Answer, Refusal>,
     pub state: State,
 }
 
@@ -105,8 +105,8 @@ fn edited_of(state: State, examined: Examined) -> Edited
 {
     let reply = examined.reply;
     match reply {
-        Reply::Refused(_) => Edited { reply, state },
-        Reply::Answered(_) => opened_of(examined),
+        Err(_) => Edited { reply, state },
+        Ok(_) => opened_of(examined),
     }
 }
 

@@ -1,5 +1,6 @@
 -- What opening or an edit gives is held: the netlist that it comes to obeys the record rules, and the work bytes hold
 -- its families; and a refused edit changes nothing. Assumes nothing.
+use Rattle.std.specs.Prelude.{Ok, Err}
 use Prim.Native.Nat.{ℕ}
 use mathlib.Core.Path.{◌≡◌, refl, ap}
 use mathlib.Core.List.{List}
@@ -7,7 +8,6 @@ use native.Mathlib.Omega.{arith}
 use lib.ListN.{length}
 use Rattle.rules.specs.declared.Answer.{Answer}
 use Rattle.rules.specs.declared.Refusal.{Refusal}
-use Rattle.rules.specs.declared.Reply.TheVariants.{Refused, Answered}
 use Rattle.rules.specs.Records.{Netlist}
 use Rattle.rules.specs.Slices.{filled, work_after}
 use Rattle.rules.specs.Checks.{Outcome, answered, refused, and_then, admitted}
@@ -49,7 +49,7 @@ module _ {n : Netlist} {value : Value.Netlist} {marks : Marks} {before after : L
   edit_reply = comes_to.reply
 
   -- it is answered, and the block is the one that was made
-  pub made_held : {a : Answer} → examined.reply ≡ Answered a
+  pub made_held : {a : Answer} → examined.reply ≡ Ok a
       → IsHeld (netlist_after n e entries (length before)) examined.netlist examined.marks after
   unfolding and_then kept filled netlist_after otherwise
   made_held {a} answers = go (edited n e entries (length before)) refl comes_to
@@ -66,7 +66,7 @@ module _ {n : Netlist} {value : Value.Netlist} {marks : Marks} {before after : L
       go (refused k p) is x = let z : ◌≡◌ {A = ℕ} 0 1 = cc (ap reply_of answers, x.reply) in absurd (omega arith)
 
   -- it is refused, and the block is the one of before
-  pub kept_held : {r : Refusal} → examined.reply ≡ Refused r → IsHeld (netlist_after n e entries (length before)) value marks after
+  pub kept_held : {r : Refusal} → examined.reply ≡ Err r → IsHeld (netlist_after n e entries (length before)) value marks after
   unfolding and_then filled netlist_after otherwise
   kept_held {r} refuses = go (edited n e entries (length before)) comes_to
     where

@@ -18,7 +18,7 @@ use edit_rules::Edit;
 use edit_steps::Loaded;
 use marks::Marks;
 use netlists::Netlist;
-use rules::{MOST_NODES, Reply};
+use rules::{MOST_NODES, Answer, Refusal};
 
 // Opens a block: the reply, and the netlist and its marks, which are those of no nodes where the block is refused.
 pub fn open_held(bytes: &[u8], work: &mut [u8]) -> Examined
@@ -53,11 +53,11 @@ pub fn edit_held(
     let changed = edit_steps::change(loaded, edit, bytes, MOST_NODES, work);
     let reply = changed.reply;
     match reply {
-        Reply::Refused(_) => Examined {
+        Err(_) => Examined {
             reply,
             netlist,
             marks,
         },
-        Reply::Answered(_) => changed,
+        Ok(_) => changed,
     }
 }

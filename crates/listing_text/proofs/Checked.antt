@@ -1,5 +1,6 @@
 -- What `checker::examine` leaves of netlist bytes where the slices have room for every netlist: their refusal,
 -- or the netlist that was read, its answer and its families. Assumes nothing.
+use Rattle.std.specs.Prelude.{Result, Ok, Err}
 use Prim.Native.Nat.{ℕ}
 use mathlib.Core.Path.{◌≡◌, refl}
 use mathlib.Core.List.{List, ◌++◌}
@@ -7,8 +8,6 @@ use native.Mathlib.Omega.{arith}
 use lib.ListN.{length, drop}
 use Rattle.rules.specs.declared.Answer.{Answer}
 use Rattle.rules.specs.declared.Refusal.{Refusal}
-use Rattle.rules.specs.declared.Reply.{Reply}
-use Rattle.rules.specs.declared.Reply.TheVariants.{Refused, Answered}
 use Rattle.rules.specs.Records.{Netlist, WellFormed, most_nodes}
 use Rattle.rules.specs.Families.{families, findings}
 use Rattle.rules.specs.Checks.{Outcome, answered, refused, and_then, read, admitted, most_work}
@@ -24,7 +23,7 @@ module _ (bytes : List ℕ) (work : ℕ) (enough : work ≡ most_work) where
   all_admitted : admitted bytes most_nodes work ≡ read bytes
   all_admitted = admitted_all bytes most_nodes work (omega arith) (omega arith)
 
-  pub refused_read : {said : Reply} {r : Refusal} → said ≡ Refused r → reply_of said ≡ reply bytes most_nodes work → read bytes ≡ refused (number_of r) (place_of r)
+  pub refused_read : {said : Result Answer Refusal} {r : Refusal} → said ≡ Err r → reply_of said ≡ reply bytes most_nodes work → read bytes ≡ refused (number_of r) (place_of r)
   unfolding reply and_then
   refused_read {said} {r} is e = go (read bytes) (rw (is, all_admitted) at e)
     where
@@ -40,8 +39,8 @@ pub record Checked (bytes : List ℕ) (answer : Answer) (value : Value.Netlist) 
   pub found : findings_of answer ≡ findings netlist
   pub is_work : after ≡ work_bytes (families netlist) ++ drop (length (work_bytes (families netlist))) before
 
-pub checked : (bytes before : List ℕ) → length before ≡ most_work → {said : Reply} {answer : Answer} {value : Value.Netlist} {after : List ℕ}
-    → said ≡ Answered answer → reply_of said ≡ reply bytes most_nodes (length before) → value ≡ flat_of (kept (admitted bytes most_nodes (length before)))
+pub checked : (bytes before : List ℕ) → length before ≡ most_work → {said : Result Answer Refusal} {answer : Answer} {value : Value.Netlist} {after : List ℕ}
+    → said ≡ Ok answer → reply_of said ≡ reply bytes most_nodes (length before) → value ≡ flat_of (kept (admitted bytes most_nodes (length before)))
     → after ≡ work_after bytes most_nodes before → Checked bytes answer value before after
 unfolding reply work_after and_then kept filled
 checked bytes before enough {said} {answer} {value} {after} is r t w =

@@ -17,7 +17,7 @@ ghost use Rattle.listing_text.specs.Fits.{is_short, fits};
 
 use listing_lines::{put_counts, put_halves, put_node, put_refusal};
 use netlists::Netlist;
-use rules::{Answer, Half, MOST_NODES, MOST_VARIABLES, MOST_WORK, Reply};
+use rules::{Answer, Half, MOST_NODES, MOST_VARIABLES, MOST_WORK, Refusal};
 
 // How many bytes have room for every listing: 203 lines of at most 18 bytes, or one refusal.
 pub const MOST_TEXT: usize = 18 * (MOST_NODES + 3);
@@ -117,8 +117,8 @@ fn put_listing(text: &mut [u8; MOST_TEXT], bytes: &[u8]) -> usize
     let reply = examined.reply;
     let netlist = examined.netlist;
     match reply {
-        Reply::Refused(refusal) => put_refusal(text, refusal),
-        Reply::Answered(answer) => listing_of(answer, netlist, &work, text),
+        Err(refusal) => put_refusal(text, refusal),
+        Ok(answer) => listing_of(answer, netlist, &work, text),
     }
 }
 

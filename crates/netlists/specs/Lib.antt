@@ -1,2 +1,3 @@
 -- What this crate's contracts cite.
 pub mod Netlists
+pub mod Kinds

@@ -8,8 +8,83 @@ ghost use Rattle.rules.specs.Records.{Cell, kind_of, operands, empty, with_node,
 ghost use Rattle.rules.specs.Records as Records;
 ghost use Rattle.rules.specs.Slices.{node_of, entry};
 ghost use Rattle.netlists.specs.Netlists.{padded, blank, flat_of};
+ghost use Rattle.netlists.specs.Kinds.{byte_of, Numbers, Classes};
 
 use rules::{LAST_KIND, MOST_BODY, MOST_NODES, MOST_VARIABLES, Node};
+
+// The kinds of record, each with its number: the end, a variable, and the kinds of node.
+#[derive(Clone, Copy, PartialEq, Eq)]
+pub enum Kind {
+    End = 0,
+    Variable = 1,
+    Input = 2,
+    Not = 3,
+    Xor = 4,
+    And = 5,
+    Or = 6,
+    Register = 7,
+}
+
+// A number that is no kind's.
+#[derive(Clone, Copy, PartialEq, Eq)]
+pub struct UnknownKind(pub u8);
+
+impl TryFrom<u8> for Kind {
+    type Error = UnknownKind;
+
+    ghost try_from_gives = { Numbers };
+
+    fn try_from(number: u8) -> Result<Self, UnknownKind> {
+        match number {
+            0 => Ok(Kind::End),
+            1 => Ok(Kind::Variable),
+            2 => Ok(Kind::Input),
+            3 => Ok(Kind::Not),
+            4 => Ok(Kind::Xor),
+            5 => Ok(Kind::And),
+            6 => Ok(Kind::Or),
+            7 => Ok(Kind::Register),
+            _ => Err(UnknownKind(number)),
+        }
+    }
+}
+
+impl Kind {
+    // The number of a kind.
+    pub fn byte(self) -> u8
+        ensures { result ≡ byte_of self }
+    {
+        self as u8
+    }
+}
+
+// The classes of variables, each with its number.
+#[derive(Clone, Copy, PartialEq, Eq)]
+pub enum Class {
+    Secret = 0,
+    Mask = 1,
+    Public = 2,
+}
+
+// A number that is no class's.
+#[derive(Clone, Copy, PartialEq, Eq)]
+pub struct UnknownClass(pub u8);
+
+impl TryFrom<u8> for Class {
+    type Error = UnknownClass;
+
+    ghost try_from_gives = { Classes };
+
+    #[tactic(auto, unfolding(rules::specs::Records::class_byte))]
+    fn try_from(number: u8) -> Result<Self, UnknownClass> {
+        match number {
+            0 => Ok(Class::Secret),
+            1 => Ok(Class::Mask),
+            2 => Ok(Class::Public),
+            _ => Err(UnknownClass(number)),
+        }
+    }
+}
 
 // A netlist by value: the counts, the class bytes and the node records, each in file order. Beyond the counts all is 0.
 #[derive(Clone, Copy)]

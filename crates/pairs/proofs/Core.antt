@@ -1,5 +1,8 @@
 -- The ways through the core: where `examine` refuses so does `examine_pairs`, and else the search over the work bytes
 -- is that over the pairs of the netlist; from that follow the promises of `examine_pairs`. Assumes nothing.
+use Rattle.std.specs.Prelude.{Result, Ok}
+use Rattle.rules.specs.declared.Refusal.{Refusal}
+use Rattle.pairs.specs.declared.PairsAnswer.{PairsAnswer}
 use Prim.Native.Nat.{ℕ}
 use mathlib.Core.Path.{◌≡◌, refl, sym, ap, ap₂, subst, ◌∙◌}
 use mathlib.Core.Logic.{◌↔◌}
@@ -28,8 +31,6 @@ use Rattle.pair_search.specs.Pairs.{pairs, search_from, unless_single, searched,
 use Rattle.pair_search.specs.Meaning.{searched_of}
 use Rattle.pair_search.specs.Work.{report_in}
 use Rattle.pairs.proofs.Findings.{search_there}
-use Rattle.pairs.specs.declared.PairsReply.{PairsReply}
-use Rattle.pairs.specs.declared.PairsReply.TheVariants.{Answered}
 use Rattle.pairs.specs.Meaning.{pairs_reply_of}
 use Rattle.pairs.proofs.TwoProbes.{one_probe_reply_lem, no_pair_exactly, two_probes}
 
@@ -94,7 +95,7 @@ module _ (bytes : List ℕ) (entries limit : ℕ) where
   pub searches : (answer : Answer) (looked : Search) (before : List ℕ) {after : List ℕ} (a : Answers bytes entries (length before) (findings_of answer))
       → after ≡ work_after bytes entries before
       → searched_of looked ≡ unless_single (half (λ F. F.glitch) a.netlist) (search_from (report_in a.netlist.variables after) limit 0 (pairs a.netlist))
-      → pairs_reply_of (Answered (record { answer = answer; search = looked })) ≡ pairs_reply bytes entries (length before) limit
+      → pairs_reply_of (Ok (record { answer = answer; search = looked })) ≡ pairs_reply bytes entries (length before) limit
   unfolding pairs_reply and_then pair_findings searched findings work_after filled
   searches answer looked before a w found =
       let n = a.netlist in
@@ -105,7 +106,7 @@ module _ (bytes : List ℕ) (entries limit : ℕ) where
       (ap₂ {C = Outcome PairFindings} (λ f s. answered (record { answer = f; searched = s })) a.says (found ∙ ap (unless_single (half (λ F. F.glitch) n)) held))
 
   -- the promises of `examine_pairs`, in their order
-  pub promises : (r : PairsReply) (examined : Examined) (before after : List ℕ) → pairs_reply_of r ≡ pairs_reply bytes entries (length before) limit
+  pub promises : (r : Result PairsAnswer Refusal) (examined : Examined) (before after : List ℕ) → pairs_reply_of r ≡ pairs_reply bytes entries (length before) limit
       → examined.netlist ≡ flat_of (kept (admitted bytes entries (length before))) → examined.marks ≡ marks_of (kept (admitted bytes entries (length before)))
       → after ≡ work_after bytes entries before
       → (pairs_reply_of r ≡ pairs_reply bytes entries (length before) limit)

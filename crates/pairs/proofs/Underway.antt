@@ -1,5 +1,8 @@
 -- A search that goes on node by node: it begins, goes a node further, and once it is done it is the search
 -- over all pairs. Assumes nothing.
+use Rattle.std.specs.Prelude.{Result}
+use Rattle.rules.specs.declared.Refusal.{Refusal}
+use Rattle.rules.specs.declared.Answer.{Answer}
 use Prim.Native.Nat.{ℕ, ◌+◌, ◌-◌, ◌≤◌}
 use mathlib.Core.Path.{◌≡◌, refl, sym, ap, ◌∙◌}
 use mathlib.Core.Bool.{Bool, true, false, ◌||◌}
@@ -14,7 +17,6 @@ use Rattle.rules.specs.Families.{half, Finding, clear, suspect_at, Findings, fin
 use Rattle.rules.specs.Slices.{work_after, reply}
 use Rattle.rules.specs.Checks.{answered, and_then, admitted}
 use Rattle.rules.specs.Paper.{reply_of}
-use Rattle.rules.specs.declared.Reply.{Reply}
 use Rattle.netlists.specs.declared.Netlist as Value
 use Rattle.netlists.specs.Netlists.{flat_of, kept}
 use Rattle.netlists.proofs.Netlists.{value_count}
@@ -44,7 +46,7 @@ not_done progress e =
 
 module _ (bytes : List ℕ) (entries limit : ℕ) (before : List ℕ) (netlist : Value.Netlist) (work : List ℕ) where
   -- no pair was looked at
-  pub begins : (first : Reply) (looked : Search) → reply_of first ≡ reply bytes entries (length before)
+  pub begins : (first : Result Answer Refusal) (looked : Search) → reply_of first ≡ reply bytes entries (length before)
       → netlist ≡ flat_of (kept (admitted bytes entries (length before))) → work ≡ work_after bytes entries before
       → ((f : Findings) → reply_of first ≡ answered f → searched_of looked ≡ unless_single f.glitch (record { found = no_pair; looked = 0 }))
       → Underway bytes entries limit before netlist work (record { reply = first; search = looked; next = 0; nodes = netlist.count })

@@ -21,7 +21,7 @@ ghost use Rattle.pairs.specs.Underway.{is_done, Underway};
 use checker::Examined;
 use netlists::Netlist;
 use pair_search::{Found, Search};
-use rules::{Answer, Half, NodeRecord, Refusal, Reply};
+use rules::{Answer, Half, NodeRecord, Refusal};
 
 // The answer of `check`, beside what the search over pairs found and how many pairs it looked at.
 #[derive(Clone, Copy)]
@@ -30,18 +30,11 @@ pub struct PairsAnswer {
     pub search: Search,
 }
 
-// What the checker with two probes replies: a refusal, which leaves both lent slices as they were, or the answer.
-#[derive(Clone, Copy)]
-pub enum PairsReply {
-    Refused(Refusal),
-    Answered(PairsAnswer),
-}
-
 // What an examination with two probes gives: the reply, and what `checker::examine` gives,
 // whose netlist is empty on a refusal.
 #[derive(Clone, Copy)]
 pub struct ExaminedPairs {
-    pub reply: PairsReply,
+    pub reply: Result<PairsAnswer, Refusal>,
     pub examined: Examined,
 }
 
@@ -51,20 +44,20 @@ pub struct ExaminedPairs {
 // and how many nodes there are.
 #[derive(Clone, Copy)]
 pub struct Progress {
-    pub reply: Reply,
+    pub reply: Result<Answer, Refusal>,
     pub search: Search,
     pub next: usize,
     pub nodes: usize,
 }
 
 // The search before any pair is looked at: a node that is suspect by itself, with its set, or no pair so far.
-fn single_or_none(reply: Reply) -> Search
+fn single_or_none(reply: Result<Answer, Refusal>) -> Search
     ensures { (f : Findings) → reply_of reply ≡ answered f →
         searched_of result ≡ unless_single f.glitch (record { found = no_pair; looked = 0 }) }
 {
     match reply {
-        Reply::Refused(_) => pair_search::no_pair(0),
-        Reply::Answered(answer) => {
+        Err(_) => pair_search::no_pair(0),
+        Ok(answer) => {
             let glitch = answer.glitch;
             match glitch {
                 Half::Clear => pair_search::no_pair(0),
@@ -126,7 +119,7 @@ pub fn further(netlist: Netlist, work: &[u8], limit: usize, progress: Progress) 
 }
 
 // The reply of one probe beside what was found so far. Once the search is done it is the reply of `check_pairs`.
-pub fn reply_after(progress: Progress) -> PairsReply
+pub fn reply_after(progress: Progress) -> Result<PairsAnswer, Refusal>
     ensures beside { pairs_reply_of result ≡
         and_then (reply_of progress.reply)
         (λ f. answered (record { answer = f; searched = searched_of progress.search })) }
@@ -136,11 +129,11 @@ pub fn reply_after(progress: Progress) -> PairsReply
 {
     let reply = progress.reply;
     match reply {
-        Reply::Refused(refusal) => PairsReply::Refused(refusal),
-        Reply::Answered(answer) => {
+        Err(refusal) => Err(refusal),
+        Ok(answer) => {
             let search = progress.search;
             let both = PairsAnswer { answer, search };
-            PairsReply::Answered(both)
+            Ok(both)
         }
     }
 }
@@ -182,7 +175,7 @@ fn examined_of(examined: ExaminedPairs) -> Examined
 }
 
 // The reply of an examination with two probes.
-fn reply_of(examined: ExaminedPairs) -> PairsReply
+fn reply_of(examined: ExaminedPairs) -> Result<PairsAnswer, Refusal>
     ensures { result ≡ examined.reply }
 {
     examined.reply
@@ -197,7 +190,7 @@ pub fn check_pairs(
     nodes: &mut [NodeRecord],
     work: &mut [u8],
     limit: usize,
-) -> PairsReply
+) -> Result<PairsAnswer, Refusal>
     ensures reply { pairs_reply_of result ≡
         pairs_reply bytes.now (length nodes.old) (length work.old) limit }
     ensures nodes { nodes.new ≡

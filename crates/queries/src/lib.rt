@@ -14,7 +14,7 @@ ghost use Rattle.rules.specs.Paper.{value_of, feeding_of, membership_of};
 ghost use Rattle.netlists.specs.Netlists.{flat_of, Formed};
 
 use netlists::Netlist;
-use rules::{FeedingReply, MOST_NODES, MOST_WORK, MembershipReply, QueryOutcome, ValueReply};
+use rules::{FeedingReply, MOST_NODES, MOST_WORK, MembershipReply, Refusal, ValueReply};
 
 // ---- the settled value
 
@@ -25,7 +25,7 @@ pub fn settled_value(bytes: &[u8], node: usize, assignment: usize) -> ValueReply
     let file = query_netlists::ask_with(bytes, node, assignment);
     let outcome = file.outcome;
     let netlist = file.netlist;
-    let QueryOutcome::Answered = outcome else {
+    let Ok(()) = outcome else {
         return ValueReply {
             outcome,
             value: false,
@@ -47,7 +47,7 @@ pub fn feeding_points(bytes: &[u8], node: usize) -> FeedingReply
     let file = query_netlists::ask(bytes, node);
     let outcome = file.outcome;
     let netlist = file.netlist;
-    let QueryOutcome::Answered = outcome else {
+    let Ok(()) = outcome else {
         return FeedingReply {
             outcome,
             marks: [false; MOST_NODES],
@@ -64,7 +64,7 @@ pub fn feeding_points(bytes: &[u8], node: usize) -> FeedingReply
 // Whether a set is in each family of a node, worked out in work bytes of its own from a netlist that was read.
 fn in_families(netlist: Netlist, node: usize, set: usize) -> MembershipReply
     requires { Formed netlist × (node < netlist.count) × (set < most_sets) }
-    ensures { (n : Records.Netlist) → netlist ≡ flat_of n → (result.outcome ≡ QueryOutcome.Answered)
+    ensures { (n : Records.Netlist) → netlist ≡ flat_of n → (result.outcome ≡ Ok tt)
         × (result.settled ≡ member set (families_at n node).settled)
         × (result.glitch ≡ member set (families_at n node).glitch) }
 {
@@ -73,7 +73,7 @@ fn in_families(netlist: Netlist, node: usize, set: usize) -> MembershipReply
     let settled = families::holds(&work, 2 * node, set);
     let glitch = families::holds(&work, 2 * node + 1, set);
     MembershipReply {
-        outcome: QueryOutcome::Answered,
+        outcome: Ok(()),
         settled,
         glitch,
     }
@@ -86,7 +86,7 @@ pub fn memberships(bytes: &[u8], node: usize, set: usize) -> MembershipReply
     let file = query_netlists::ask_with(bytes, node, set);
     let outcome = file.outcome;
     let netlist = file.netlist;
-    let QueryOutcome::Answered = outcome else {
+    let Ok(()) = outcome else {
         return MembershipReply {
             outcome,
             settled: false,

@@ -1,5 +1,6 @@
 -- The way to a query's reply: rows of checks behind a file that was read, what is given where a query is refused and
 -- where it stands, and what is known of the netlist, the node and the number of a query that stands. Assumes nothing.
+use Rattle.std.specs.Prelude.{Result, Ok, Err}
 use Prim.Native.Nat.{ℕ, ◌^◌, ◌≤◌, ◌<◌}
 use mathlib.Core.Path.{◌≡◌, refl, ap}
 use mathlib.Core.Bool.{true, false}
@@ -13,8 +14,6 @@ use Rattle.rules.specs.Checks.{Outcome, answered, refused, and_then, Check, chec
 use Rattle.rules.specs.Queries.{given}
 use Rattle.rules.specs.Paper.{query_of}
 use Rattle.rules.specs.declared.Refusal.{Refusal}
-use Rattle.rules.specs.declared.QueryOutcome.{QueryOutcome}
-use Rattle.rules.specs.declared.QueryOutcome.TheVariants as Query
 use Rattle.rule_laws.proofs.Records.{condition, passes, answer}
 use Rattle.netlists.specs.declared.Netlist as Value
 use Rattle.netlists.specs.Netlists.{flat_of, Formed}
@@ -45,7 +44,7 @@ checked o rows = and_then o (λ n. judged (rows n) n)
 
 module _ (file : ReadFile) (o : Outcome Netlist) (rows : Netlist → List Check) where
   -- what is refused stays refused
-  pub stays_refused : Reads file o → (r : Refusal) → file.outcome ≡ Query.Refused r → Reads file (checked o rows)
+  pub stays_refused : Reads file o → (r : Refusal) → file.outcome ≡ Err r → Reads file (checked o rows)
   unfolding and_then
   stays_refused reads r is = let e = read_refused o r reads is in rw e (rw e at reads)
 
@@ -66,12 +65,12 @@ module _ (file : ReadFile) (o : Outcome Netlist) (rows : Netlist → List Check)
 -- ---- what is given
 
 module _ {file : ReadFile} {A : Type 0} (instead : A) (f : Netlist → A) (end : Outcome Netlist) where
-  pub given_refused : (r : Refusal) → Reads file end → file.outcome ≡ Query.Refused r
+  pub given_refused : (r : Refusal) → Reads file end → file.outcome ≡ Err r
       → record { outcome = query_of file.outcome; gives = instead } ≡ given instead f end
   unfolding given
   given_refused r reads is = rw (is, read_refused end r reads is)
 
-  pub given_answered : (s : Stands file end) (outcome : QueryOutcome) (v : A) → outcome ≡ Query.Answered → v ≡ f s.netlist
+  pub given_answered : (s : Stands file end) (outcome : Result (Unit {0}) Refusal) (v : A) → outcome ≡ Ok tt → v ≡ f s.netlist
       → record { outcome = query_of outcome; gives = v } ≡ given instead f end
   unfolding given
   given_answered s outcome v is e = rw (is, s.is, e)

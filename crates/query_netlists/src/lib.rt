@@ -12,53 +12,47 @@ ghost use Rattle.read_bytes.specs.Reading.{Reads};
 
 use netlists::Netlist;
 use read_bytes::ReadFile;
-use rules::{QueryOutcome, Reason, Refusal};
+use rules::{Refusal, Reason};
 
 // Whether a netlist has a node: answered, or refusal 12.
-pub fn judge_node(netlist: Netlist, node: usize) -> QueryOutcome
+pub fn judge_node(netlist: Netlist, node: usize) -> Result<(), Refusal>
     ensures { (n : Records.Netlist) → netlist ≡ flat_of n → query_of result ≡ judged (node_check node n ∷ []) tt }
 {
     if netlist.count <= node {
-        return QueryOutcome::Refused(Refusal {
-            reason: Reason::NoSuchNode,
-            place: node,
-        });
+        return Err(Reason::NoSuchNode.at(node));
     }
-    QueryOutcome::Answered
+    Ok(())
 }
 
 // Whether a netlist has a node, and all variables of an assignment or a set: answered, or refusal 12, and then 13.
-pub fn judge(netlist: Netlist, node: usize, number: usize) -> QueryOutcome
+pub fn judge(netlist: Netlist, node: usize, number: usize) -> Result<(), Refusal>
     ensures { (n : Records.Netlist) → netlist ≡ flat_of n →
         query_of result ≡ judged (node_check node n ∷ number_check number n ∷ []) tt }
 {
     let outcome = judge_node(netlist, node);
-    let QueryOutcome::Answered = outcome else {
+    let Ok(()) = outcome else {
         return outcome;
     };
     if records::undeclared_bit(netlist.variables, number) {
-        return QueryOutcome::Refused(Refusal {
-            reason: Reason::UndeclaredBit,
-            place: number,
-        });
+        return Err(Reason::UndeclaredBit.at(number));
     }
     outcome
 }
 
 // A file that was read, once its netlist is judged: what reading refuses stays refused, and of a netlist
 // that was read the judgement counts.
-fn with_judgement(file: ReadFile, judgement: QueryOutcome) -> ReadFile
+fn with_judgement(file: ReadFile, judgement: Result<(), Refusal>) -> ReadFile
     ensures { (end : Outcome Records.Netlist) (rows : Records.Netlist → List Check) → Reads file end →
         ((n : Records.Netlist) → file.netlist ≡ flat_of n → query_of judgement ≡ judged (rows n) tt) →
         Reads result (and_then end (λ n. judged (rows n) n)) }
 {
     let outcome = file.outcome;
-    let QueryOutcome::Answered = outcome else {
+    let Ok(()) = outcome else {
         return file;
     };
     match judgement {
-        QueryOutcome::Refused(refusal) => read_bytes::refused(refusal),
-        QueryOutcome::Answered => file,
+        Err(refusal) => read_bytes::refused(refusal),
+        Ok(()) => file,
     }
 }
 

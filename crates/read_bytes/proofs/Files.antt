@@ -1,36 +1,44 @@
 -- What follows of a file that was read, where it is answered and where it is refused. Assumes nothing.
+use Rattle.std.specs.Prelude.{Ok, Err}
 use Prim.Native.Nat.{ℕ}
-use mathlib.Core.Path.{◌≡◌, refl, ap}
+use mathlib.Core.Path.{◌≡◌, refl}
 use mathlib.Core.List.{List}
-use native.Mathlib.Omega.{arith}
 use Rattle.rules.specs.declared.Refusal.{Refusal}
-use Rattle.rules.specs.declared.QueryOutcome.TheVariants as Query
 use Rattle.rules.specs.Records.{Netlist}
 use Rattle.rules.specs.Checks.{Outcome, answered, refused, and_then, read}
-use Rattle.rules.specs.Paper.{number_of, place_of, query_of}
+use Rattle.rules.specs.Paper.{number_of, place_of}
 use Rattle.rule_laws.proofs.Reading.{read_well_formed}
-use Rattle.rule_laws.proofs.Paper.{query_refused}
-use Rattle.netlists.specs.Netlists.{flat_of, Formed, kept}
-use Rattle.read_bytes.specs.declared.ReadFile.{ReadFile}
+use Rattle.netlists.specs.declared.Netlist.{Netlist as Flat}
+use Rattle.netlists.specs.Netlists.{flat_of, Formed}
 use Rattle.read_bytes.specs.Reading.{Reads}
 
 -- it stands, with this netlist
-pub record Stands (file : ReadFile) (end : Outcome Netlist) : Type 0 where
+pub record Stands (read_as : Flat) (end : Outcome Netlist) : Type 0 where
   pub netlist : Netlist
   pub is : end ≡ answered netlist
-  pub value : file.netlist ≡ flat_of netlist
+  pub value : read_as ≡ flat_of netlist
 
-module _ {file : ReadFile} where
-  -- it is answered, and so stands; or it is refused
-  pub read_stands : (end : Outcome Netlist) → Reads file end → file.outcome ≡ Query.Answered → Stands file end
-  unfolding and_then kept
-  read_stands (answered n) r o = record { netlist = n; is = refl; value = r.netlist }
-  read_stands (refused k p) r o = let no : ◌≡◌ {A = ℕ} 0 1 = cc (ap query_of o) in absurd (omega arith)
+-- what is read as a netlist by value stands
+pub read_stands : {value : Flat} (end : Outcome Netlist) → Reads (Ok value) end → Stands value end
+unfolding and_then
+read_stands (answered n) r = record { netlist = n; is = refl; value = let e = r.comes_to in cc }
+read_stands (refused k p) r = let e = r.comes_to in cc
 
-  pub read_refused : (end : Outcome Netlist) (refusal : Refusal) → Reads file end → file.outcome ≡ Query.Refused refusal
-      → end ≡ refused (number_of refusal) (place_of refusal)
-  read_refused whole refusal r o = query_refused whole refusal r.outcome o
+-- and what is refused is refused by the rules
+pub read_refused : {refusal : Refusal} (end : Outcome Netlist) → Reads (Err refusal) end → end ≡ refused (number_of refusal) (place_of refusal)
+unfolding and_then
+read_refused (answered n) r = let e = r.comes_to in cc
+read_refused (refused k p) r = let e = r.comes_to in cc
 
-  -- the netlist of a file that is read obeys the record rules
-  pub read_formed : (bytes : List ℕ) → Stands file (read bytes) → Formed file.netlist
-  read_formed bytes s = record { netlist = s.netlist; is = s.value; obeys = read_well_formed bytes s.netlist s.is }
+-- the other way round
+pub stands_read : {value : Flat} {end : Outcome Netlist} → Stands value end → Reads (Ok value) end
+unfolding and_then
+stands_read s = record { comes_to = rw (s.is, s.value) }
+
+pub refused_read : {refusal : Refusal} {end : Outcome Netlist} → end ≡ refused (number_of refusal) (place_of refusal) → Reads (Err refusal) end
+unfolding and_then
+refused_read e = record { comes_to = rw e }
+
+-- the netlist of a file that is read obeys the record rules
+pub read_formed : {value : Flat} (bytes : List ℕ) → Stands value (read bytes) → Formed value
+read_formed bytes s = record { netlist = s.netlist; is = s.value; obeys = read_well_formed bytes s.netlist s.is }

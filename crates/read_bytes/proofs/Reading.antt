@@ -1,6 +1,7 @@
 -- The reading of a file, as a loop takes it: before each record the rules are still reading, with this netlist and at
 -- this offset. A refusal and the end record end the reading with the rules' own outcome (`ends`); a variable or a node
 -- that is stored behind the others is what the rules take next. Assumes nothing.
+use Rattle.std.specs.Prelude.{Err}
 use Prim.Native.Nat.{ℕ, ◌+◌, ◌≤◌, ◌<◌}
 use mathlib.Core.Path.{◌≡◌, refl, sym, ap, ◌∙◌}
 use mathlib.Core.List.{List}
@@ -10,22 +11,19 @@ use lib.ListN.{length, get_or, drop}
 use borrow.Author.Tests.{leb-false, ltb-false}
 use Rattle.rules.specs.declared.Node.{Node}
 use Rattle.rules.specs.declared.Refusal.{Refusal}
-use Rattle.rules.specs.Records.{Cell, Record, node, Netlist, empty, WellFormed, with_variable, with_node, most_variables, most_nodes, most_body, last_kind, class_of, said, size}
+use Rattle.rules.specs.Records.{Cell, Record, node, Netlist, WellFormed, with_variable, with_node, most_variables, most_nodes, most_body, last_kind, class_of, said, size}
 use Rattle.rules.specs.Slices.{entry}
 use Rattle.rules.specs.Checks.{Outcome, answered, refused, and_then, over_limit, judged_at, record_at, reading, taken, step, after, read_from}
-use Rattle.rules.specs.Paper.{number_of, place_of, query_of}
+use Rattle.rules.specs.Paper.{number_of, place_of}
 use Rattle.rule_laws.proofs.Records.{Accepted, accepted, byte_of_class, said_same, says_end, says_variable, says_node}
 use Rattle.rule_laws.proofs.Reading.{ends}
-use Rattle.rules.specs.declared.QueryOutcome.{QueryOutcome}
-use Rattle.rules.specs.declared.QueryOutcome.TheVariants as Query
 use Rattle.records.specs.declared.RecordBytes.{RecordBytes}
 use Rattle.records.specs.Bytes.{record_bytes_at, accepted_if}
 use Rattle.records.proofs.Judged.{body_seen, found_record}
 use Rattle.netlists.specs.declared.Netlist.{Netlist as Flat}
-use Rattle.netlists.specs.Netlists.{flat_of, kept}
+use Rattle.netlists.specs.Netlists.{flat_of}
 use Rattle.netlists.proofs.Netlists.{with_class, with_entry, value_variables, value_count, value_variable, value_node}
-use Rattle.read_bytes.specs.declared.ReadFile.{ReadFile}
-use Rattle.read_bytes.specs.Reading.{found_at, Reads}
+use Rattle.read_bytes.specs.Reading.{found_of, found_at}
 
 -- after so many records behind `start` the rules are reading, with this netlist by value, at this offset
 pub record Reached (start : Netlist) (bytes : List ℕ) (records : ℕ) (value : Flat) (here : ℕ) : Type 0 where
@@ -43,33 +41,24 @@ module _ {start : Netlist} (fit : WellFormed start) {bytes : List ℕ} {records 
       (same, rw (add-one, r.so_far, same))
 
   -- a refusal that is found is the file's
-  pub refused_here : (told : QueryOutcome) (refusal : Refusal) (own : RecordBytes) → told ≡ Query.Refused refusal
-      → and_then (query_of told) (λ _. answered own) ≡ found_at bytes value.variables value.count here
+  pub refused_here : (refusal : Refusal) → found_of (Err refusal) ≡ found_at bytes value.variables value.count here
       → read_from start bytes ≡ refused (number_of refusal) (place_of refusal)
   unfolding accepted_if and_then
-  refused_here told refusal own is found = ends start fit bytes (records + 1) _ (unfold taken in (next _ (theirs _ refl)).1)
+  refused_here refusal found = ends start fit bytes (records + 1) _ (unfold taken in (next _ (theirs _ refl)).1)
     where
       theirs : (o : Outcome Record) → judged_at bytes value.variables value.count here ≡ o → o ≡ refused (number_of refusal) (place_of refusal)
-      theirs o e = go o (rw (is, e) at found)
+      theirs o e = go o (rw e at found)
         where
-          go : (o : Outcome Record) → and_then (query_of (Query.Refused refusal)) (λ _. answered own) ≡ and_then (accepted_if o) (λ _. answered (record_bytes_at bytes here))
+          go : (o : Outcome Record) → found_of (Err refusal) ≡ and_then (accepted_if o) (λ _. answered (record_bytes_at bytes here))
               → o ≡ refused (number_of refusal) (place_of refusal)
           go (answered r) f = cc
           go (refused number place) f = cc
-
--- what is refused is read as the refusal and the empty netlist
-pub refused_reads : (file : ReadFile) (end : Outcome Netlist) (told : QueryOutcome) (refusal : Refusal) → told ≡ Query.Refused refusal
-    → end ≡ refused (number_of refusal) (place_of refusal) → file.netlist ≡ flat_of empty → file.outcome ≡ told → Reads file end
-unfolding and_then kept
-refused_reads file end told refusal is e value own = record { outcome = rw (own, is, e); netlist = rw e value }
 
 -- and the record that is found next has these bytes
 pub record Turn (start : Netlist) (bytes : List ℕ) (records : ℕ) (value : Flat) (here : ℕ) (own : RecordBytes) : Type 0 where
   pub fit : WellFormed start
   pub reached : Reached start bytes records value here
-  pub told : QueryOutcome
-  pub is_told : told ≡ Query.Answered
-  pub found : and_then (query_of told) (λ _. answered own) ≡ found_at bytes value.variables value.count here
+  pub found : answered own ≡ found_at bytes value.variables value.count here
 
 module _ {start : Netlist} {bytes : List ℕ} {records : ℕ} {value : Flat} {here : ℕ} {own : RecordBytes} (t : Turn start bytes records value here own) where
   abbrev n : Netlist
@@ -86,7 +75,7 @@ module _ {start : Netlist} {bytes : List ℕ} {records : ℕ} {value : Flat} {he
 
   -- it is the file's, the rules accept it, and they take it
   found_here : (judged_at bytes value.variables value.count here ≡ answered (said (get_or bytes here 0) (drop (here + 1) bytes))) × (own ≡ record_bytes_at bytes here)
-  found_here = found_record _ _ _ _ _ _ _ _ t.told t.is_told t.found
+  found_here = found_record _ _ _ _ _ _ _ _ t.found
 
   seen : (j : ℕ) → j < most_body → get_or body j 0 ≡ get_or (drop (here + 1) bytes) j 0
   seen j h = ap (λ (x : RecordBytes). get_or x.body j 0) found_here.1 ∙ body_seen bytes here j h

@@ -10,12 +10,9 @@ use lib.ListN.{length, get_or, drop}
 use lib.Pow.{pow_pos}
 use lib.Seq.{get_or-drop}
 use borrow.Author.Tests.{lt-ltb, le-ltb, lt-leb, ltb-true, ltb-false}
-use Rattle.rules.specs.declared.QueryOutcome.{QueryOutcome}
-use Rattle.rules.specs.declared.QueryOutcome.TheVariants as Query
 use Rattle.rules.specs.Records as Records
 use Rattle.rules.specs.Records.{operand_count, listed, first_of, Cell, input, gate, Record, end, node, said, size, record_bytes, kind_of, operands, set_of, most_variables, most_nodes, most_body, last_kind}
 use Rattle.rules.specs.Checks.{Outcome, answered, refused, and_then, Check, check, judged, over_limit, undeclared, undeclared_set, not_below, bad_operand, judged_record}
-use Rattle.rules.specs.Paper.{query_of}
 use Rattle.rule_laws.proofs.Packing.{tabulate_at}
 use Rattle.rule_laws.proofs.Operands.{listed_length, known, kind_of_number}
 use Rattle.rule_laws.proofs.Records.{answer}
@@ -137,14 +134,14 @@ module _ (total v n here k : ℕ) (body : List ℕ) (inside : here < total) wher
       }
 
 -- where a record is found, the rules accept it, and the bytes found are those that they judge
-pub found_record : (total v n here k : ℕ) (body : List ℕ) (own own' : RecordBytes) (told : QueryOutcome) → told ≡ Query.Answered
-    → and_then (query_of told) (λ _. answered own) ≡ and_then (accepted_if (judged_record total v n here k body)) (λ _. answered own')
+pub found_record : (total v n here k : ℕ) (body : List ℕ) (own own' : RecordBytes)
+    → answered own ≡ and_then (accepted_if (judged_record total v n here k body)) (λ _. answered own')
     → (judged_record total v n here k body ≡ answered (said k body)) × (own ≡ own')
 unfolding accepted_if and_then judged_record
-found_record total v n here k body own own' told is e = go (judged_record total v n here k body) refl (rw is at e)
+found_record total v n here k body own own' e = go (judged_record total v n here k body) refl e
   where
     go : (o : Outcome Record) → judged_record total v n here k body ≡ o
-        → and_then (query_of Query.Answered) (λ _. answered own) ≡ and_then (accepted_if o) (λ _. answered own')
+        → answered own ≡ and_then (accepted_if o) (λ _. answered own')
         → (o ≡ answered (said k body)) × (own ≡ own')
     go (answered r) e f = (ap answered (sym (answer _ _ _ e)), cc)
     go (refused number place) e f = (cc, cc)

@@ -2,14 +2,15 @@
 // and writes to no lent slice. Used by `read_bytes`, `edit_parts` and `query_netlists`.
 #![tactic(auto)]
 
-ghost use Rattle.std.specs.Prelude.{◌≡◌, ◌+◌, ◌*◌, ◌<◌, ◌≤◌, get_or};
+ghost use Rattle.std.specs.Prelude.{◌≡◌, ◌+◌, ◌*◌, ◌<◌, ◌≤◌, get_or, IfOk};
 ghost use Rattle.rules.specs.Records.{listed, first_of, last_kind, most_body};
 ghost use Rattle.rules.specs.Checks.{undeclared, not_below, judged_record};
-ghost use Rattle.rules.specs.Paper.{query_of};
+ghost use Rattle.rules.specs.Paper.{outcome_by, query_of};
+ghost use Rattle.netlists.specs.Kinds.{byte_of};
 ghost use Rattle.records.specs.Bytes.{body_at, record_bytes_at, accepted_if};
 
-use netlists::operand_count;
-use rules::{LAST_KIND, MOST_BODY, MOST_NODES, MOST_VARIABLES, QueryOutcome, Reason, Refusal};
+use netlists::{Class, Kind, operand_count};
+use rules::{MOST_BODY, MOST_NODES, MOST_VARIABLES, Reason, Refusal};
 
 // The bytes of a record: its kind byte and those behind it, as many as the longest body has, of which a shorter one
 // uses fewer; where the file has no more, 0.
@@ -19,206 +20,29 @@ pub struct RecordBytes {
     pub body: [u8; MOST_BODY],
 }
 
+// A record that is accepted: its kind, and the bytes behind the kind byte.
+#[derive(Clone, Copy)]
+pub struct Record {
+    pub kind: Kind,
+    pub body: [u8; MOST_BODY],
+}
+
+// Where a record stands: its kind byte at offset `here` of a file of `total` bytes, behind so many variables and nodes.
+#[derive(Clone, Copy)]
+pub struct Spot {
+    pub total: usize,
+    pub variables: usize,
+    pub nodes: usize,
+    pub here: usize,
+}
+
+// ---- the bytes
+
 // The byte `k` places behind `here`, and 0 where the bytes have none there.
 pub fn byte_behind(bytes: &[u8], here: usize, k: usize) -> u8
     ensures { result ≡ get_or bytes.now (here + k) 0 }
 {
-    if bytes.len() <= here {
-        return 0;
-    }
-    if bytes.len() - here <= k {
-        return 0;
-    }
-    bytes[here + k]
-}
-
-// Whether a number, of a set or an assignment, has a bit of a variable that is not among the first `variables`.
-pub fn undeclared_bit(variables: usize, number: usize) -> bool
-    ensures { result ≡ undeclared variables number }
-{
-    if 64 <= variables {
-        return false;
-    }
-    (1usize << variables) <= number
-}
-
-// Whether one of the first `count` operands of a body is not below the number of nodes.
-fn not_below(body: [u8; MOST_BODY], count: usize, nodes: usize) -> bool
-    requires { count ≤ most_body }
-    ensures { result ≡ not_below nodes (listed count (first_of count body)) }
-{
-    let mut found = false;
-    let mut j = 0;
-    while j < MOST_BODY {
-        found = found | ((j < count) & (nodes <= (body[j] as usize)));
-        j += 1;
-    }
-    found
-}
-
-// Judges an end record: nothing may follow it.
-fn judge_end(
-    total: usize,
-    variables: usize,
-    nodes: usize,
-    here: usize,
-    own: RecordBytes,
-) -> QueryOutcome
-    requires { (here < total) × (own.kind ≡ 0) }
-    ensures { query_of result ≡ accepted_if (judged_record total variables nodes here own.kind own.body) }
-{
-    if 1 < total - here {
-        return QueryOutcome::Refused(Refusal {
-            reason: Reason::BytesAfterEnd,
-            place: here + 1,
-        });
-    }
-    QueryOutcome::Answered
-}
-
-// Judges a variable: it stands before every node, is one of at most ten, and its class is one of three.
-fn judge_variable(
-    total: usize,
-    variables: usize,
-    nodes: usize,
-    here: usize,
-    own: RecordBytes,
-) -> QueryOutcome
-    requires { (here < total) × (own.kind ≡ 1) }
-    ensures { query_of result ≡ accepted_if (judged_record total variables nodes here own.kind own.body) }
-{
-    let body = own.body;
-    if 0 < nodes {
-        return QueryOutcome::Refused(Refusal {
-            reason: Reason::LateVariable,
-            place: here,
-        });
-    }
-    if MOST_VARIABLES <= variables {
-        return QueryOutcome::Refused(Refusal {
-            reason: Reason::OverLimit,
-            place: here,
-        });
-    }
-    if total - here < 2 {
-        return QueryOutcome::Refused(Refusal {
-            reason: Reason::CutShort,
-            place: here,
-        });
-    }
-    if 2 < body[0] {
-        return QueryOutcome::Refused(Refusal {
-            reason: Reason::UnknownClass,
-            place: here,
-        });
-    }
-    QueryOutcome::Answered
-}
-
-// The number of a set, of its two bytes.
-fn set_of(low: u8, high: u8) -> usize
-    ensures { result ≡ low + 256 * high }
-{
-    (low as usize) + 256 * (high as usize)
-}
-
-// Judges an input: its set has declared variables only.
-fn judge_input(
-    total: usize,
-    variables: usize,
-    nodes: usize,
-    here: usize,
-    own: RecordBytes,
-) -> QueryOutcome
-    requires { (here < total) × (own.kind ≡ 2) }
-    ensures { query_of result ≡ accepted_if (judged_record total variables nodes here own.kind own.body) }
-{
-    let body = own.body;
-    if MOST_NODES <= nodes {
-        return QueryOutcome::Refused(Refusal {
-            reason: Reason::OverLimit,
-            place: here,
-        });
-    }
-    if total - here < 3 {
-        return QueryOutcome::Refused(Refusal {
-            reason: Reason::CutShort,
-            place: here,
-        });
-    }
-    if undeclared_bit(variables, set_of(body[0], body[1])) {
-        return QueryOutcome::Refused(Refusal {
-            reason: Reason::UndeclaredSet,
-            place: here,
-        });
-    }
-    QueryOutcome::Answered
-}
-
-// Judges a gate or a register: its operands are lower nodes.
-fn judge_gate(
-    total: usize,
-    variables: usize,
-    nodes: usize,
-    here: usize,
-    own: RecordBytes,
-) -> QueryOutcome
-    requires { (here < total) × (2 < own.kind) × (own.kind ≤ last_kind) }
-    ensures { query_of result ≡ accepted_if (judged_record total variables nodes here own.kind own.body) }
-{
-    let body = own.body;
-    let count = operand_count(own.kind);
-    if MOST_NODES <= nodes {
-        return QueryOutcome::Refused(Refusal {
-            reason: Reason::OverLimit,
-            place: here,
-        });
-    }
-    if total - here < 1 + count {
-        return QueryOutcome::Refused(Refusal {
-            reason: Reason::CutShort,
-            place: here,
-        });
-    }
-    if not_below(body, count, nodes) {
-        return QueryOutcome::Refused(Refusal {
-            reason: Reason::BadOperand,
-            place: here,
-        });
-    }
-    QueryOutcome::Answered
-}
-
-// Judges the record of these bytes whose kind byte stands at `here`, in a file of `total` bytes, behind `variables`
-// variables and `nodes` nodes: it is accepted, or gets the first refusal of document 01's table.
-pub fn judge(
-    total: usize,
-    variables: usize,
-    nodes: usize,
-    here: usize,
-    own: RecordBytes,
-) -> QueryOutcome
-    ensures { query_of result ≡ accepted_if (judged_record total variables nodes here own.kind own.body) }
-{
-    let kind = own.kind;
-    if total <= here {
-        return QueryOutcome::Refused(Refusal {
-            reason: Reason::NoEnd,
-            place: total,
-        });
-    }
-    if LAST_KIND < (kind as usize) {
-        return QueryOutcome::Refused(Refusal {
-            reason: Reason::UnknownKind,
-            place: here,
-        });
-    }
-    match kind {
-        0 => judge_end(total, variables, nodes, here, own),
-        1 => judge_variable(total, variables, nodes, here, own),
-        2 => judge_input(total, variables, nodes, here, own),
-        _ => judge_gate(total, variables, nodes, here, own),
-    }
+    bytes.get(here.saturating_add(k)).copied().unwrap_or(0)
 }
 
 // The bytes behind the kind byte at `here`, as many as the longest body has; where the file has no more, 0.
@@ -226,10 +50,8 @@ fn body_behind(bytes: &[u8], here: usize) -> [u8; MOST_BODY]
     ensures { result ≡ body_at bytes.now here }
 {
     let mut body = [0u8; MOST_BODY];
-    let mut j = 0;
-    while j < MOST_BODY {
-        body[j] = byte_behind(bytes, here, 1 + j);
-        j += 1;
+    for (j, byte) in body.iter_mut().enumerate() {
+        *byte = byte_behind(bytes, here, 1 + j);
     }
     body
 }
@@ -238,7 +60,129 @@ fn body_behind(bytes: &[u8], here: usize) -> [u8; MOST_BODY]
 pub fn bytes_at(bytes: &[u8], here: usize) -> RecordBytes
     ensures { result ≡ record_bytes_at bytes.now here }
 {
-    let kind = byte_behind(bytes, here, 0);
-    let body = body_behind(bytes, here);
-    RecordBytes { kind, body }
+    RecordBytes {
+        kind: byte_behind(bytes, here, 0),
+        body: body_behind(bytes, here),
+    }
+}
+
+// The number of a set, of its two bytes.
+pub fn set_of(low: u8, high: u8) -> u16
+    ensures { result ≡ low + 256 * high }
+{
+    u16::from_le_bytes([low, high])
+}
+
+// ---- the judgement
+
+// Whether a number, of a set or an assignment, has a bit of a variable that is not among the first `variables`.
+pub fn undeclared_bit(variables: usize, number: usize) -> bool
+    ensures { result ≡ undeclared variables number }
+{
+    variables < 64 && 1usize << variables <= number
+}
+
+// Whether one of the first `count` operands of a body is not below the number of nodes.
+fn not_below(body: [u8; MOST_BODY], count: usize, nodes: usize) -> bool
+    requires { count ≤ most_body }
+    ensures { result ≡ not_below nodes (listed count (first_of count body)) }
+{
+    for j in 0..count {
+        if nodes <= body[j] as usize {
+            return true;
+        }
+    }
+    false
+}
+
+// Judges an end record: nothing may follow it.
+fn judge_end(spot: Spot, own: RecordBytes) -> Result<(), Refusal>
+    requires { (spot.here < spot.total) × (own.kind ≡ 0) }
+    ensures { query_of result ≡ accepted_if
+        (judged_record spot.total spot.variables spot.nodes spot.here own.kind own.body) }
+{
+    if 1 < spot.total - spot.here {
+        return Err(Reason::BytesAfterEnd.at(spot.here + 1));
+    }
+    Ok(())
+}
+
+// Judges a variable: it stands before every node, is one of at most ten, and its class is one of three.
+fn judge_variable(spot: Spot, own: RecordBytes) -> Result<(), Refusal>
+    requires { (spot.here < spot.total) × (own.kind ≡ 1) }
+    ensures { query_of result ≡ accepted_if
+        (judged_record spot.total spot.variables spot.nodes spot.here own.kind own.body) }
+{
+    if 0 < spot.nodes {
+        return Err(Reason::LateVariable.at(spot.here));
+    }
+    if MOST_VARIABLES <= spot.variables {
+        return Err(Reason::OverLimit.at(spot.here));
+    }
+    if spot.total - spot.here < 2 {
+        return Err(Reason::CutShort.at(spot.here));
+    }
+    match Class::try_from(own.body[0]) {
+        Ok(_) => Ok(()),
+        Err(_) => Err(Reason::UnknownClass.at(spot.here)),
+    }
+}
+
+// Judges an input: its set has declared variables only.
+fn judge_input(spot: Spot, own: RecordBytes) -> Result<(), Refusal>
+    requires { (spot.here < spot.total) × (own.kind ≡ 2) }
+    ensures { query_of result ≡ accepted_if
+        (judged_record spot.total spot.variables spot.nodes spot.here own.kind own.body) }
+{
+    if MOST_NODES <= spot.nodes {
+        return Err(Reason::OverLimit.at(spot.here));
+    }
+    if spot.total - spot.here < 3 {
+        return Err(Reason::CutShort.at(spot.here));
+    }
+    if undeclared_bit(spot.variables, set_of(own.body[0], own.body[1]) as usize) {
+        return Err(Reason::UndeclaredSet.at(spot.here));
+    }
+    Ok(())
+}
+
+// Judges a gate or a register: its operands are lower nodes.
+fn judge_gate(spot: Spot, own: RecordBytes) -> Result<(), Refusal>
+    requires { (spot.here < spot.total) × (2 < own.kind) × (own.kind ≤ last_kind) }
+    ensures { query_of result ≡ accepted_if
+        (judged_record spot.total spot.variables spot.nodes spot.here own.kind own.body) }
+{
+    let count = operand_count(own.kind);
+    if MOST_NODES <= spot.nodes {
+        return Err(Reason::OverLimit.at(spot.here));
+    }
+    if spot.total - spot.here < 1 + count {
+        return Err(Reason::CutShort.at(spot.here));
+    }
+    if not_below(own.body, count, spot.nodes) {
+        return Err(Reason::BadOperand.at(spot.here));
+    }
+    Ok(())
+}
+
+// Judges the record of these bytes at a place of a file: it is accepted, with its kind, or gets the first refusal of
+// document 01's table.
+pub fn judge(spot: Spot, own: RecordBytes) -> Result<Kind, Refusal>
+    ensures judged { outcome_by (λ kind. tt) result ≡ accepted_if
+        (judged_record spot.total spot.variables spot.nodes spot.here own.kind own.body) }
+    ensures kind { IfOk result (λ kind. byte_of kind ≡ own.kind) }
+{
+    if spot.total <= spot.here {
+        return Err(Reason::NoEnd.at(spot.total));
+    }
+    let Ok(kind) = Kind::try_from(own.kind) else {
+        return Err(Reason::UnknownKind.at(spot.here));
+    };
+    match kind {
+        Kind::End => judge_end(spot, own)?,
+        Kind::Variable => judge_variable(spot, own)?,
+        Kind::Input => judge_input(spot, own)?,
+        _ => judge_gate(spot, own)?,
+    }
+    Ok(kind)
 }

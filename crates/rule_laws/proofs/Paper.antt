@@ -1,5 +1,6 @@
 -- The definitions of the paper's numbers and values lose nothing: a refusal is told by its number and place,
 -- and a reply by what it says. So a promise about what a reply says determines the reply. Assumes nothing.
+use Rattle.std.specs.Prelude.{Result, Ok, Err}
 use Prim.Native.Nat.{ℕ, suc, ◌≤◌}
 use mathlib.Core.Path.{◌≡◌, refl, sym, ap, ap₂, ◌∙◌}
 use mathlib.Core.Logic.{inl, inr}
@@ -12,16 +13,12 @@ use Rattle.rules.specs.declared.Half.TheVariants.{Clear, Suspect}
 use Rattle.rules.specs.declared.Answer.{Answer}
 use Rattle.rules.specs.declared.Reason.{Reason}
 use Rattle.rules.specs.declared.Refusal.{Refusal}
-use Rattle.rules.specs.declared.Reply.{Reply}
-use Rattle.rules.specs.declared.Reply.TheVariants.{Refused, Answered}
-use Rattle.rules.specs.declared.QueryOutcome.{QueryOutcome}
-use Rattle.rules.specs.declared.QueryOutcome.TheVariants as Query
 use Rattle.rules.specs.declared.ValueReply.{ValueReply}
 use Rattle.rules.specs.declared.FeedingReply.{FeedingReply}
 use Rattle.rules.specs.declared.MembershipReply.{MembershipReply}
 use Rattle.rules.specs.Families.{Finding, clear, suspect_at, Findings}
 use Rattle.rules.specs.Checks.{Outcome, answered, refused, and_then}
-use Rattle.rules.specs.Paper.{reason_number, number_of, place_of, finding_of, findings_of, reply_of, query_of, value_of, feeding_of, membership_of}
+use Rattle.rules.specs.Paper.{reason_number, number_of, place_of, finding_of, findings_of, outcome_by, reply_of, query_of, value_of, feeding_of, membership_of}
 use Rattle.rules.specs.contracts.Reason.{the_parts as parts, as_values, the_make as make, the_eta as eta, enum}
 
 -- choices of variants that hold nothing, with a number each, counted on from k
@@ -82,18 +79,20 @@ answer_told a =
 pub same_answer : (a b : Answer) → findings_of a ≡ findings_of b → a ≡ b
 same_answer a b e = sym (answer_told a) ∙ ap answer_saying e ∙ answer_told b
 
--- a reply, and the reply to a query, by what it says
-pub same_reply : (r q : Reply) → reply_of r ≡ reply_of q → r ≡ q
-same_reply (Refused r) (Refused q) e = ap Refused (same_refusal r q e)
-same_reply (Refused r) (Answered b) e = cc
-same_reply (Answered a) (Refused q) e = cc
-same_reply (Answered a) (Answered b) e = ap Answered (same_answer a b (cc))
+-- a result by what it says, where that tells its values
+pub same_result : {A B : Type 0} (meaning : A → B) → ((a b : A) → meaning a ≡ meaning b → a ≡ b)
+    → (r q : Result A Refusal) → outcome_by meaning r ≡ outcome_by meaning q → r ≡ q
+same_result meaning same (Err r) (Err q) e = ap Err (same_refusal r q e)
+same_result meaning same (Err r) (Ok b) e = cc
+same_result meaning same (Ok a) (Err q) e = cc
+same_result meaning same (Ok a) (Ok b) e = ap Ok (same a b (cc))
 
-same_query : (r q : QueryOutcome) → query_of r ≡ query_of q → r ≡ q
-same_query Query.Answered Query.Answered e = refl
-same_query Query.Answered (Query.Refused q) e = cc
-same_query (Query.Refused r) Query.Answered e = cc
-same_query (Query.Refused r) (Query.Refused q) e = ap Query.Refused (same_refusal r q e)
+-- a reply, and the reply to a query
+pub same_reply : (r q : Result Answer Refusal) → reply_of r ≡ reply_of q → r ≡ q
+same_reply = same_result findings_of same_answer
+
+same_query : (r q : Result (Unit {0}) Refusal) → query_of r ≡ query_of q → r ≡ q
+same_query = same_result (λ u. u) (λ u v e. e)
 
 pub same_value : (r q : ValueReply) → value_of r ≡ value_of q → r ≡ q
 same_value r q e = ap₂ (λ o v. record { outcome = o; value = v }) (same_query _ _ (ap (λ g. g.outcome) e)) (ap (λ g. g.gives) e)
@@ -106,8 +105,8 @@ same_membership r q e =
     ap₂ (λ o m. record { outcome = o; settled = m.settled; glitch = m.glitch }) (same_query _ _ (ap (λ g. g.outcome) e)) (ap (λ g. g.gives) e)
 
 -- what is answered or refused, where it tells of this outcome and is refused: so is the outcome
-pub query_refused : {A : Type 0} {told : QueryOutcome} (o : Outcome A) (refusal : Refusal) → query_of told ≡ and_then o (λ a. answered tt)
-    → told ≡ Query.Refused refusal → o ≡ refused (number_of refusal) (place_of refusal)
+pub query_refused : {A : Type 0} {told : Result (Unit {0}) Refusal} (o : Outcome A) (refusal : Refusal) → query_of told ≡ and_then o (λ a. answered tt)
+    → told ≡ Err refusal → o ≡ refused (number_of refusal) (place_of refusal)
 unfolding and_then
 query_refused (answered a) refusal e is = cc (ap query_of is)
 query_refused (refused k p) refusal e is = cc (ap query_of is)

@@ -1,15 +1,11 @@
 -- What the enums that are answers mean in document 01: for each case its number and values.
 -- Promises use these. Assumes nothing.
-use Rattle.std.specs.Prelude.{ℕ, Bool, List}
+use Rattle.std.specs.Prelude.{ℕ, Bool, List, Result, Ok, Err}
 use Rattle.rules.specs.declared.Half.{Half}
 use Rattle.rules.specs.declared.Half.TheVariants.{Clear, Suspect}
 use Rattle.rules.specs.declared.Answer.{Answer}
 use Rattle.rules.specs.declared.Reason.{Reason}
 use Rattle.rules.specs.declared.Refusal.{Refusal}
-use Rattle.rules.specs.declared.Reply.{Reply}
-use Rattle.rules.specs.declared.Reply.TheVariants.{Refused, Answered}
-use Rattle.rules.specs.declared.QueryOutcome.{QueryOutcome}
-use Rattle.rules.specs.declared.QueryOutcome.TheVariants as Query
 use Rattle.rules.specs.declared.ValueReply.{ValueReply}
 use Rattle.rules.specs.declared.FeedingReply.{FeedingReply}
 use Rattle.rules.specs.declared.MembershipReply.{MembershipReply}
@@ -57,15 +53,18 @@ findings_of a = record {
   glitch = finding_of a.glitch;
 }
 
+-- a result: what is answered, as a meaning of its values has it, or the refusal
+abbrev pub outcome_by : {A B : Type 0} → (A → B) → Result A Refusal → Outcome B
+outcome_by meaning (Ok a) = answered (meaning a)
+outcome_by meaning (Err r) = refused (number_of r) (place_of r)
+
 -- the whole reply
-abbrev pub reply_of : Reply → Outcome Findings
-reply_of (Refused r) = refused (number_of r) (place_of r)
-reply_of (Answered a) = answered (findings_of a)
+abbrev pub reply_of : Result Answer Refusal → Outcome Findings
+reply_of = outcome_by findings_of
 
 -- whether a query is answered
-abbrev pub query_of : QueryOutcome → Outcome (Unit {0})
-query_of Query.Answered = answered tt
-query_of (Query.Refused r) = refused (number_of r) (place_of r)
+abbrev pub query_of : Result (Unit {0}) Refusal → Outcome (Unit {0})
+query_of = outcome_by (λ u. u)
 
 -- the whole reply to each query
 abbrev pub value_of : ValueReply → Given Bool

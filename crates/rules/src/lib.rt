@@ -4,6 +4,8 @@
 // netlist is the crate `rule_laws`. Used by every crate of the product and by the library's callers.
 #![tactic(auto)]
 
+ghost use Rattle.std.specs.Prelude.{◌≡◌};
+
 // The most variables that a netlist may declare.
 pub const MOST_VARIABLES: usize = 10;
 
@@ -57,10 +59,10 @@ pub struct Answer {
 
 // The reasons of refusals, in the order of their numbers from 1 on. For 1 to 9 the place is an offset in the netlist
 // bytes or, for the record of a new node, its node number; for the others it is said below.
-#[derive(Clone, Copy)]
+#[derive(Clone, Copy, PartialEq, Eq)]
 pub enum Reason {
     // A kind above 7.
-    UnknownKind,
+    UnknownKind = 1,
     // A variable after a node.
     LateVariable,
     // The eleventh variable or the 201st node.
@@ -94,37 +96,35 @@ pub enum Reason {
 }
 
 // A refusal: a reason and a place.
-#[derive(Clone, Copy)]
+#[derive(Clone, Copy, PartialEq, Eq)]
 pub struct Refusal {
     pub reason: Reason,
     pub place: usize,
 }
 
-// What the checker replies: a refusal, which leaves both lent slices as they were, or the answer.
-#[derive(Clone, Copy)]
-pub enum Reply {
-    Refused(Refusal),
-    Answered(Answer),
-}
-
-// The outcome of a query, or of reading netlist bytes: answered, or the refusal.
-#[derive(Clone, Copy)]
-pub enum QueryOutcome {
-    Answered,
-    Refused(Refusal),
+impl Reason {
+    // The refusal for this reason at a place.
+    pub fn at(self, place: usize) -> Refusal
+        ensures { result ≡ record { reason = self; place = place } }
+    {
+        Refusal {
+            reason: self,
+            place,
+        }
+    }
 }
 
 // The reply to the query of a settled value. Refused, the value is 0 (`false`).
 #[derive(Clone, Copy)]
 pub struct ValueReply {
-    pub outcome: QueryOutcome,
+    pub outcome: Result<(), Refusal>,
     pub value: bool,
 }
 
 // The reply to the query of feeding points: a mark for each node number. Refused, every mark is no.
 #[derive(Clone, Copy)]
 pub struct FeedingReply {
-    pub outcome: QueryOutcome,
+    pub outcome: Result<(), Refusal>,
     pub marks: [bool; MOST_NODES],
 }
 
@@ -132,7 +132,7 @@ pub struct FeedingReply {
 // Refused, both are no.
 #[derive(Clone, Copy)]
 pub struct MembershipReply {
-    pub outcome: QueryOutcome,
+    pub outcome: Result<(), Refusal>,
     pub settled: bool,
     pub glitch: bool,
 }

@@ -23,7 +23,7 @@ use edit_lines::Ask;
 use edit_turns::{Told, Turn};
 use netlists::Netlist;
 use read_words::Fault;
-use rules::{MOST_VARIABLES, MOST_WORK, Refusal, Reply};
+use rules::{MOST_VARIABLES, MOST_WORK, Refusal, Answer};
 use std::fs::File;
 use std::io::Read;
 use std::random::RandomSource;
@@ -62,10 +62,10 @@ fn say_refused_edit(ask: Ask, refusal: Refusal) {
 }
 
 // The answer for a block whose variables have these classes, or the refusal of an edit.
-fn say_reply(ask: Ask, reply: Reply, classes: [u8; MOST_VARIABLES]) {
+fn say_reply(ask: Ask, reply: Result<Answer, Refusal>, classes: [u8; MOST_VARIABLES]) {
     match reply {
-        Reply::Refused(refusal) => say_refused_edit(ask, refusal),
-        Reply::Answered(answer) => say_answer(answer, classes),
+        Err(refusal) => say_refused_edit(ask, refusal),
+        Ok(answer) => say_answer(answer, classes),
     }
 }
 
@@ -136,7 +136,7 @@ fn say_no_node(line: &[u8]) {
 }
 
 // What is printed of an edit, and of a line that is none.
-fn say_told(ask: Ask, line: &[u8], reply: Reply, classes: [u8; MOST_VARIABLES]) {
+fn say_told(ask: Ask, line: &[u8], reply: Result<Answer, Refusal>, classes: [u8; MOST_VARIABLES]) {
     match ask {
         Ask::Add(_) => say_reply(ask, reply, classes),
         Ask::Remove(_) => say_reply(ask, reply, classes),
@@ -455,8 +455,8 @@ fn edit_block<R: Files<File = File> + RandomSource + Alloc, I: Read>(
         more: true,
     };
     match reply {
-        Reply::Refused(_) => begun,
-        Reply::Answered(_) => {
+        Err(_) => begun,
+        Ok(_) => {
             let last = run_lines(rt, input, run, work);
             let turn = last.turn;
             Told { turn, reply }
@@ -475,8 +475,8 @@ pub(crate) fn edit<R: Files<File = File> + RandomSource + Alloc, I: Read>(
     let reply = told.reply;
     let turn = told.turn;
     match reply {
-        Reply::Refused(refusal) => say_refused(refusal, 0),
-        Reply::Answered(_) => {
+        Err(refusal) => say_refused(refusal, 0),
+        Ok(_) => {
             let netlist = turn.netlist;
             let classes = netlist.classes;
             let answer = turn.answer;

@@ -17,7 +17,7 @@ use desk::say::{say, say_found, say_refused};
 use desk::{ask, help, picture, search, why};
 use files::{MOST_NUMBERS, ReadBlock};
 use read_words::MOST_BLOCK;
-use rules::{Answer, MOST_NODES, MOST_WORK, QueryOutcome, Reply};
+use rules::{Answer, MOST_NODES, MOST_WORK, Refusal};
 use scanner::is_word;
 use std::fs::File;
 use std::io::{IsTerminal, Read};
@@ -153,17 +153,17 @@ fn examine<R: Files<File = File> + RandomSource + Alloc, I: Read>(
     bytes: &[u8],
     numbers: [usize; MOST_NUMBERS],
     count: usize,
-) -> QueryOutcome {
+) -> Result<(), Refusal> {
     let mut work = [0u8; MOST_WORK];
     let examined = checker::examine(bytes, MOST_NODES, &mut work);
     let reply = examined.reply;
     match reply {
-        Reply::Refused(refusal) => QueryOutcome::Refused(refusal),
-        Reply::Answered(answer) => {
+        Err(refusal) => Err(refusal),
+        Ok(answer) => {
             obey_examined(
                 rt, input, shown, command, examined, answer, &mut work, numbers, count,
             );
-            QueryOutcome::Answered
+            Ok(())
         }
     }
 }
@@ -178,7 +178,7 @@ fn obey<R: Files<File = File> + RandomSource + Alloc, I: Read>(
     bytes: &[u8],
     numbers: [usize; MOST_NUMBERS],
     count: usize,
-) -> QueryOutcome {
+) -> Result<(), Refusal> {
     match command {
         Command::Value => ask::value(bytes, numbers[0], numbers[1]),
         Command::Feeding => ask::feeding(bytes, numbers[0]),
@@ -215,7 +215,7 @@ fn run_block<R: Files<File = File> + RandomSource + Alloc, I: Read>(
     let whole: &[u8] = block;
     let bytes = &whole[..length];
     let outcome = obey(rt, input, shown, command, bytes, numbers, count);
-    if let QueryOutcome::Refused(refusal) = outcome {
+    if let Err(refusal) = outcome {
         say_refused(refusal, files::line_of(refusal, lines, last));
     }
 }

@@ -47,13 +47,12 @@ ghost use Rattle.rules.specs.Listing.{most_text};
 ghost use Rattle.families.specs.Parts.{HasPart};
 
 use check::same;
-use derivations::Derived;
 use edit_rules::{Edit, State};
 use families::{PART, SETS};
 use listing_text::MOST_TEXT;
 use pair_search::{Found, Search};
-use pairs::PairsReply;
-use rules::{MOST_NODES, MOST_VARIABLES, MOST_WORK, NodeRecord, QueryOutcome};
+use pairs::PairsAnswer;
+use rules::{MOST_NODES, MOST_VARIABLES, MOST_WORK, NodeRecord, Refusal};
 use std::num::wrapping_add_u16;
 use test_generator::least;
 use test_tools::{
@@ -92,11 +91,11 @@ const NO_SET: u16 = 40000;
 // ---- printing
 
 // A question with its numbers, and whether it is answered.
-fn print_outcome(question: &[u8], node: usize, number: usize, outcome: QueryOutcome) {
+fn print_outcome(question: &[u8], node: usize, number: usize, outcome: Result<(), Refusal>) {
     print_counts(question, &[node, number]);
     match outcome {
-        QueryOutcome::Answered => print(b" answered"),
-        QueryOutcome::Refused(refusal) => print_refusal(refusal),
+        Ok(()) => print(b" answered"),
+        Err(refusal) => print_refusal(refusal),
     }
 }
 
@@ -357,11 +356,11 @@ fn print_search(search: Search) {
 }
 
 // The reply to a check with two probes.
-fn print_pairs(reply: PairsReply) {
+fn print_pairs(reply: Result<PairsAnswer, Refusal>) {
     print_byte(b':');
     match reply {
-        PairsReply::Refused(refusal) => print_refusal(refusal),
-        PairsReply::Answered(both) => {
+        Err(refusal) => print_refusal(refusal),
+        Ok(both) => {
             let answer = both.answer;
             let search = both.search;
             print_answer(answer);
@@ -530,11 +529,11 @@ fn derive(bytes: &[u8], node: usize, layer: usize, set: usize, room: usize)
     let reply = derivations::derive(bytes, node, layer, set, steps);
     print_byte(b':');
     match reply {
-        Derived::Refused(refusal) => {
+        Err(refusal) => {
             print_refusal(refusal);
             print_byte(b',');
         }
-        Derived::Steps(count) => {
+        Ok(count) => {
             print_counts(b" steps#:", &[count]);
             print_steps(steps, least(count, SHOWN));
             if count > SHOWN {

@@ -4,7 +4,7 @@
 // programs `test_random_blocks` and `test_random_edits`.
 #![tactic(auto)]
 
-use rules::{Half, NodeRecord, Reply};
+use rules::{Half, NodeRecord, Answer, Refusal};
 use std::num::wrapping_add_usize;
 use test_generator::{least, next, pick};
 use test_second_checker::{
@@ -100,10 +100,10 @@ pub fn half_number(half: Half) -> usize {
 pub type Numbers = [usize; 5];
 
 // The numbers of a reply.
-pub fn reply_numbers(reply: Reply) -> Numbers {
+pub fn reply_numbers(reply: Result<Answer, Refusal>) -> Numbers {
     match reply {
-        Reply::Refused(refusal) => [refusals::number_of(refusal), refusal.place, 0, 0, 0],
-        Reply::Answered(answer) => {
+        Err(refusal) => [refusals::number_of(refusal), refusal.place, 0, 0, 0],
+        Ok(answer) => {
             let settled = answer.settled;
             let glitch = answer.glitch;
             [

@@ -5,8 +5,8 @@
 use crate::products::compare_products;
 use crate::questions::ask;
 use pair_search::{Found, Search};
-use pairs::PairsReply;
-use rules::{Half, Node, NodeRecord, Reply};
+use pairs::PairsAnswer;
+use rules::{Half, Node, NodeRecord, Answer, Refusal};
 use std::num::wrapping_add_usize;
 use test_expected::{
     Lent, NO_PAIR, NOTHING_TO_LOOK_AT, Numbers, PAIR, SINGLE, SPENT, Sought, Work, expected_check,
@@ -271,14 +271,14 @@ fn same_search(search: Search, sought: Sought) -> bool {
 }
 
 // Compares the search of a reply, if there is one. Gives the rest of the reply in numbers.
-fn compare_search(tally: &mut Tally, reply: PairsReply, sought: Sought) -> Numbers {
+fn compare_search(tally: &mut Tally, reply: Result<PairsAnswer, Refusal>, sought: Sought) -> Numbers {
     match reply {
-        PairsReply::Refused(refusal) => reply_numbers(Reply::Refused(refusal)),
-        PairsReply::Answered(both) => {
+        Err(refusal) => reply_numbers(Err(refusal)),
+        Ok(both) => {
             let answer = both.answer;
             let search = both.search;
             count_if(tally, DIFFERENCES, !same_search(search, sought));
-            reply_numbers(Reply::Answered(answer))
+            reply_numbers(Ok(answer))
         }
     }
 }

@@ -3,8 +3,8 @@
 // and over what feeds two of them together, where it finds no pair; where it names a node, or finds a pair, at every
 // one before that one.
 use pair_search::Found;
-use pairs::PairsReply;
-use rules::{Half, Reply};
+use pairs::PairsAnswer;
+use rules::{Half, Answer, Refusal};
 use test_counting::{NODES, NONE, counts_differ};
 use test_second_checker::{SecondBlock, Store, number_if};
 use test_tools::{Tally, count, count_if};
@@ -36,7 +36,7 @@ fn suspect_node(bytes: &[u8]) -> usize {
     let mut work = [0u8; 51200];
     let examined = checker::examine(bytes, 200, &mut work);
     let reply = examined.reply;
-    let Reply::Answered(answer) = reply else {
+    let Ok(answer) = reply else {
         return NODES + 1;
     };
     let glitch = answer.glitch;
@@ -78,7 +78,7 @@ fn found_position(bytes: &[u8]) -> usize {
     let mut work = [0u8; 51200];
     let seen = pairs::examine_pairs(bytes, 200, &mut work, NONE);
     let reply = seen.reply;
-    let PairsReply::Answered(both) = reply else {
+    let Ok(both) = reply else {
         return NONE + 1;
     };
     let search = both.search;

@@ -1,6 +1,6 @@
 // Compares the three queries with the second checker: a node and a number that may be too high.
 use crate::compare::DIFFERENCES;
-use rules::QueryOutcome;
+use rules::Refusal;
 use test_expected::Expected;
 use test_generator::{next, pick};
 use test_second_checker::{SecondBlock, Store, has_bit, has_set, number_if};
@@ -37,11 +37,11 @@ fn expected_query(block: SecondBlock, node: usize, number: usize) -> Expected {
 }
 
 // Counts a query whose answer is the same or not, by its outcome.
-fn count_query(tally: &mut Tally, outcome: QueryOutcome, expected: Expected, same: bool) {
+fn count_query(tally: &mut Tally, outcome: Result<(), Refusal>, expected: Expected, same: bool) {
     let number = expected.number % 14;
     let as_expected = match outcome {
-        QueryOutcome::Answered => number == 0,
-        QueryOutcome::Refused(refusal) => {
+        Ok(()) => number == 0,
+        Err(refusal) => {
             (refusals::number_of(refusal) == number) & (refusal.place == expected.place)
         }
     };

@@ -9,7 +9,6 @@
 
 ghost use Rattle.std.specs.Prelude.{◌<◌};
 
-use derivations::Derived;
 use rules::Node;
 use std::num::wrapping_add_usize;
 use test_generator::{Mix, Shape, least, next, pick};
@@ -327,20 +326,20 @@ fn count_ways(tally: &mut Tally, block: SecondBlock, families: &Families, claim:
 
 // A reply: a refusal's number and place, or 0 and the number of steps.
 #[derive(Clone, Copy)]
-struct Reply {
+struct Result<Answer, Refusal> {
     number: usize,
     value: usize,
 }
 
 // Asks for the derivation of a claim in a slice.
-fn ask(bytes: &[u8], claim: usize, slice: &mut [u8]) -> Reply {
+fn ask(bytes: &[u8], claim: usize, slice: &mut [u8]) -> Result<Answer, Refusal> {
     let reply = derivations::derive(bytes, claim / SETS % 16, claim / LAYER, claim % SETS, slice);
     match reply {
-        Derived::Refused(refusal) => Reply {
+        Err(refusal) => Result<Answer, Refusal> {
             number: refusals::number_of(refusal),
             value: refusal.place,
         },
-        Derived::Steps(value) => Reply { number: 0, value },
+        Ok(value) => Result<Answer, Refusal> { number: 0, value },
     }
 }
 
@@ -357,15 +356,15 @@ fn holds_other(slice: &Slice, steps: &Slice, many: usize) -> bool {
 }
 
 // The reply to a claim whose derivation has so many steps, or none where it is not true, in a slice of so many bytes.
-fn expected_reply(claim: usize, many: usize, bytes: usize) -> Reply {
+fn expected_reply(claim: usize, many: usize, bytes: usize) -> Result<Answer, Refusal> {
     let fits = least(bytes / 5, MOST);
     if many == 0 {
-        return Reply {
+        return Result<Answer, Refusal> {
             number: 16,
             value: claim % SETS,
         };
     }
-    Reply {
+    Result<Answer, Refusal> {
         number: number_if(many > fits, 15),
         value: least(many, fits),
     }

@@ -4,7 +4,7 @@
 
 ghost use Rattle.std.specs.Prelude.{◌≡◌, ◌&&◌, ◌==◌};
 
-use rules::{Answer, Half, NodeRecord, Refusal, Reply};
+use rules::{Answer, Half, NodeRecord, Refusal};
 use std::num::wrapping_add_usize;
 
 // Standard output's descriptor.
@@ -133,9 +133,9 @@ pub fn print_answer(answer: Answer) {
 }
 
 // A refusal or an answer.
-pub fn print_reply(reply: Reply) {
+pub fn print_reply(reply: Result<Answer, Refusal>) {
     match reply {
-        Reply::Refused(refusal) => print_refusal(refusal),
-        Reply::Answered(answer) => print_answer(answer),
+        Err(refusal) => print_refusal(refusal),
+        Ok(answer) => print_answer(answer),
     }
 }

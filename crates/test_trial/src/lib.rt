@@ -20,8 +20,8 @@ ghost use Rattle.test_trial.specs.Before.{entry_before, byte_before, is_before, 
 
 use edit_rules::{Edit, State};
 use edits::Edited;
-use pairs::PairsReply;
-use rules::{MOST_NODES, Node, NodeRecord, Reply};
+use pairs::PairsAnswer;
+use rules::{MOST_NODES, Node, NodeRecord, Answer, Refusal};
 
 // ---- what stands in the slices before a check
 
@@ -104,14 +104,14 @@ pub fn work_kept_from(work: &[u8]) -> usize
 // What a check leaves: the reply, and all entries.
 #[derive(Clone, Copy)]
 pub struct Seen {
-    pub reply: Reply,
+    pub reply: Result<Answer, Refusal>,
     pub nodes: [NodeRecord; MOST_NODES],
 }
 
 // What a check with two probes leaves: the reply, and all entries.
 #[derive(Clone, Copy)]
 pub struct SeenPairs {
-    pub reply: PairsReply,
+    pub reply: Result<PairsAnswer, Refusal>,
     pub nodes: [NodeRecord; MOST_NODES],
 }
 

@@ -9,15 +9,15 @@ slices_fit-requires c = few_nodes c.requires
 
 pub answer-requires : goal.answer-requires
 answer-requires c =
-    record { formed = c.requires; room = (c.slices_fit.ensures.room c.in-Answered.is).1 }
+    record { formed = c.requires; room = (c.slices_fit.ensures.room c.in-Ok.is).1 }
 
-pub returns-in-Refused : goal.returns-in-Refused
-returns-in-Refused c =
+pub returns-in-Err : goal.returns-in-Err
+returns-in-Err c =
     λ n e.
-    rw (too_short c.slices_fit.ensures n (value_count n e) c.in-Refused.is)
+    rw (too_short c.slices_fit.ensures n (value_count n e) c.in-Err.is)
     (refusal _ _ _ _ _ refl refl c.refused.ensures.0 c.refused.ensures.1)
 
-pub returns-in-Answered : goal.returns-in-Answered
-returns-in-Answered c =
+pub returns-in-Ok : goal.returns-in-Ok
+returns-in-Ok c =
     λ n e.
-    rw (both_hold c.slices_fit.ensures n (value_count n e) c.in-Answered.is) (c.answer.ensures n e)
+    rw (both_hold c.slices_fit.ensures n (value_count n e) c.in-Ok.is) (c.answer.ensures n e)

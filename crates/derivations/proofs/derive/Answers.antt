@@ -26,7 +26,7 @@ all_known f before work size made = record { formed = f; rest = _; held = made f
 
 -- a query that stands
 stands : (c : In-Answered) → Stands c.ask_with-file.result (queried_with c.args.bytes.now c.args.node c.args.set)
-stands c = read_stands _ c.ask_with-file.ensures c.in-Answered.is
+stands c = read_stands _ c.ask_with-file.ensures c.in-Ok.is
 
 -- what is read has a netlist that obeys the record rules
 formed : (c : In-Answered) → Formed c.ask_with-file.result.netlist
@@ -40,8 +40,8 @@ pub derive_held-requires : goal.derive_held-requires
 derive_held-requires c =
     all_known (formed (goal.at.derive_held-requires c).In-Answered) _ _ (search rules) c.all_families.ensures
 
-pub returns-in-Refused : goal.returns-in-Refused
-returns-in-Refused c = let refuses = read_refused _ _ c.ask_with-file.ensures c.in-Refused.is in
+pub returns-in-Err : goal.returns-in-Err
+returns-in-Err c = let refuses = read_refused _ _ c.ask_with-file.ensures c.in-Err.is in
     let (reply, slice) = query_refused _ _ _ _ _ _ refuses _ in
     record {
       reply = reply;
@@ -50,8 +50,8 @@ returns-in-Refused c = let refuses = read_refused _ _ c.ask_with-file.ensures c.
       most = λ count e. absurd (no_answer e);
     }
 
-pub returns-in-Answered : goal.returns-in-Answered
-returns-in-Answered c = let s = stands (goal.at.returns-in-Answered c).In-Answered in
+pub returns-in-Ok : goal.returns-in-Ok
+returns-in-Ok c = let s = stands (goal.at.returns-in-Ok c).In-Answered in
     let held = c.derive_held.ensures in
     let reads : ReadAs _ _ = record { netlist = s.netlist; is = stands_read _ _ _ s; same = s.value } in
     record {

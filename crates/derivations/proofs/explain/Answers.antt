@@ -17,10 +17,10 @@ use Rattle.derivations.proofs.Told.{judged_refused, judged_passed, not_in_family
 use Rattle.derivations.proofs.explain.Goals as goal
 use Rattle.derivations.proofs.explain.Goals.{Else-not-in_family, In_default}
 
-pub returns-in-Refused : goal.returns-in-Refused
-returns-in-Refused c = λ n e.
+pub returns-in-Err : goal.returns-in-Err
+returns-in-Err c = λ n e.
     told_refused _ _ _ _ _ _ _
-    (judged_refused _ _ _ _ _ _ _ (ap query_of (sym c.in-Refused.is) ∙ c.judge.ensures n e))
+    (judged_refused _ _ _ _ _ _ _ (ap query_of (sym c.in-Err.is) ∙ c.judge.ensures n e))
     refl
 
 -- the rows of the node and of the set pass

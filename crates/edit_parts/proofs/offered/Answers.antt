@@ -37,21 +37,21 @@ pub returns-then-size_of-bytes : goal.returns-then-size_of-bytes
 returns-then-size_of-bytes c =
     let no_low : (length c.args.bytes.now ≤ 0) ⊎ (2 ≤ c.bytes_at-own.result.kind) =
     elim c.if-bytes-gt0.branch [ then-bytes-gt0+else-kind-lt2 w ↦ inr w.if-kind-lt2.false | else-bytes-gt0 w ↦ inl w.if-bytes-gt0.false ] in
-    let x = found_next (length c.args.bytes.now) c.args.variables c.args.nodes c.bytes_at-own.result.kind c.bytes_at-own.result.body no_low c.judge.ensures c.in-Answered.is in
+    let x = found_next (length c.args.bytes.now) c.args.variables c.args.nodes c.bytes_at-own.result.kind c.bytes_at-own.result.body no_low c.judge.ensures c.in-Ok.is in
     let sized = c.size_of.ensures.by_index _ x.above x.known ∙ ap size x.says in
     of-bytes _ _ _ _ _ c.bytes_at-own.ensures (surplus_next _ _ _ _ _ x _ _ sized c.if-size_of-bytes.true)
 
-pub returns-in-Refused : goal.returns-in-Refused
-returns-in-Refused c =
+pub returns-in-Err : goal.returns-in-Err
+returns-in-Err c =
     let no_low : (length c.args.bytes.now ≤ 0) ⊎ (2 ≤ c.bytes_at-own.result.kind) =
     elim c.if-bytes-gt0.branch [ then-bytes-gt0+else-kind-lt2 w ↦ inr w.if-kind-lt2.false | else-bytes-gt0 w ↦ inl w.if-bytes-gt0.false ] in
-    of-bytes _ _ _ _ _ c.bytes_at-own.ensures (refused_next _ _ _ _ _ no_low _ _ c.judge.ensures c.in-Refused.is)
+    of-bytes _ _ _ _ _ c.bytes_at-own.ensures (refused_next _ _ _ _ _ no_low _ _ c.judge.ensures c.in-Err.is)
 
 pub returns-else-size_of-bytes : goal.returns-else-size_of-bytes
 returns-else-size_of-bytes c =
     let no_low : (length c.args.bytes.now ≤ 0) ⊎ (2 ≤ c.bytes_at-own.result.kind) =
     elim c.if-bytes-gt0.branch [ then-bytes-gt0+else-kind-lt2 w ↦ inr w.if-kind-lt2.false | else-bytes-gt0 w ↦ inl w.if-bytes-gt0.false ] in
-    let x = found_next (length c.args.bytes.now) c.args.variables c.args.nodes c.bytes_at-own.result.kind c.bytes_at-own.result.body no_low c.judge.ensures c.in-Answered.is in
+    let x = found_next (length c.args.bytes.now) c.args.variables c.args.nodes c.bytes_at-own.result.kind c.bytes_at-own.result.body no_low c.judge.ensures c.in-Ok.is in
     let sized = c.size_of.ensures.by_index _ x.above x.known ∙ ap size x.says in
     of-bytes _ _ _ _ _ c.bytes_at-own.ensures
     (ap answered (c.entry_of.ensures x.cell x.says) ∙ taken_next _ _ _ _ _ x _ _ sized c.if-size_of-bytes.false)

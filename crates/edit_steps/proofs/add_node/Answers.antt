@@ -15,9 +15,9 @@ add_offered-requires c =
     let limited = c.requires in
     (limited, offered_room _ _ _ _ _ _ o.is, rw o.its (offered_placed _ _ _ _ _ _ o.is limited.variables))
 
-pub returns-in-Refused : goal.returns-in-Refused
-returns-in-Refused c =
-    let found = ap offered_of (sym c.in-Refused.is) ∙ c.offered.ensures in
+pub returns-in-Err : goal.returns-in-Err
+returns-in-Err c =
+    let found = ap offered_of (sym c.in-Err.is) ∙ c.offered.ensures in
     refuses _ _ _ _ _ _ _ found c.refused.ensures.0 c.refused.ensures.1
 
 pub returns-in-Node : goal.returns-in-Node

@@ -12,15 +12,15 @@ returns-then-count-removed c =
 
 pub remove_if_unused-requires : goal.remove_if_unused-requires
 remove_if_unused-requires c =
-    let room = c.slices_fit.ensures.room c.in-Answered.is in
+    let room = c.slices_fit.ensures.room c.in-Ok.is in
     search rules
 
-pub returns-in-Refused : goal.returns-in-Refused
-returns-in-Refused c =
+pub returns-in-Err : goal.returns-in-Err
+returns-in-Err c =
     refused_early _ _ _ _ _ _ _
-    (λ n formed s. by_slices _ _ _ _ n (state_count n s) c.if-count-removed.false ∙ too_short c.slices_fit.ensures n (state_count n s) c.in-Refused.is)
-    c.refused-in-Refused.ensures.0 c.refused-in-Refused.ensures.1
+    (λ n formed s. by_slices _ _ _ _ n (state_count n s) c.if-count-removed.false ∙ too_short c.slices_fit.ensures n (state_count n s) c.in-Err.is)
+    c.refused-in-Err.ensures.0 c.refused-in-Err.ensures.1
 
-pub returns-in-Answered : goal.returns-in-Answered
-returns-in-Answered c =
-    removes _ _ _ _ _ _ _ c.if-count-removed.false c.slices_fit.ensures c.in-Answered.is c.remove_if_unused.ensures
+pub returns-in-Ok : goal.returns-in-Ok
+returns-in-Ok c =
+    removes _ _ _ _ _ _ _ c.if-count-removed.false c.slices_fit.ensures c.in-Ok.is c.remove_if_unused.ensures

@@ -5,7 +5,7 @@ use Rattle.edit_turns.specs.Turns.{begun}
 use Rattle.edit_turns.proofs.Outcomes.{opened_answer}
 use Rattle.edit_turns.proofs.begin_with.Goals as goal
 
-pub returns-in-Answered-clause-stands : goal.returns-in-Answered-clause-stands
+pub returns-in-Ok-clause-stands : goal.returns-in-Ok-clause-stands
 unfolding begun
-returns-in-Answered-clause-stands c =
-    λ n work held says. record { is = held; answers = opened_answer n c.in-Answered.its (rw c.in-Answered.is at says); faults = refl; counts = refl }
+returns-in-Ok-clause-stands c =
+    λ n work held says. record { is = held; answers = opened_answer n c.in-Ok.its (rw c.in-Ok.is at says); faults = refl; counts = refl }

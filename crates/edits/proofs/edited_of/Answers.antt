@@ -2,8 +2,8 @@
 -- `opened_of` ensures it. Assumes nothing.
 use Rattle.edits.proofs.edited_of.Goals as goal
 
-pub returns-in-Refused : goal.returns-in-Refused
-returns-in-Refused c = rw c.in-Refused.is
+pub returns-in-Err : goal.returns-in-Err
+returns-in-Err c = rw c.in-Err.is
 
-pub returns-in-Answered : goal.returns-in-Answered
-returns-in-Answered c = rw (c.opened_of.ensures, c.in-Answered.is)
+pub returns-in-Ok : goal.returns-in-Ok
+returns-in-Ok c = rw (c.opened_of.ensures, c.in-Ok.is)

@@ -7,14 +7,14 @@ use Rattle.rules.specs.Listing.{text_of, listing}
 use Rattle.listing_text.proofs.Checked.{refused_read, checked, obeys}
 use Rattle.listing_text.proofs.put_listing.Goals as goal
 
-pub returns-in-Refused : goal.returns-in-Refused
+pub returns-in-Err : goal.returns-in-Err
 unfolding listing text_of
-returns-in-Refused c =
-    rw (refused_read _ _ (length-replicate {A = ℕ} most_work 0) c.in-Refused.is c.examine-examined.ensures.reply) c.put_refusal.ensures
+returns-in-Err c =
+    rw (refused_read _ _ (length-replicate {A = ℕ} most_work 0) c.in-Err.is c.examine-examined.ensures.reply) c.put_refusal.ensures
 
-pub returns-in-Answered : goal.returns-in-Answered
+pub returns-in-Ok : goal.returns-in-Ok
 unfolding listing text_of
-returns-in-Answered c =
+returns-in-Ok c =
     let given = c.examine-examined.ensures in
-    let checks = checked _ _ (length-replicate {A = ℕ} most_work 0) c.in-Answered.is given.reply given.netlist given.work in
+    let checks = checked _ _ (length-replicate {A = ℕ} most_work 0) c.in-Ok.is given.reply given.netlist given.work in
     rw checks.is_read (c.listing_of.ensures.appended checks.netlist _ (obeys checks) checks.is_value checks.found checks.is_work)

@@ -5,19 +5,19 @@ use Rattle.pairs.proofs.Core.{of_refused, of_answered, searches}
 use Rattle.pairs.proofs.Underway.{all_found}
 use Rattle.pairs.proofs.reply_after.Goals as goal
 
-pub returns-in-Refused : goal.returns-in-Refused
+pub returns-in-Err : goal.returns-in-Err
 unfolding and_then
-returns-in-Refused c = record {
-  beside = rw c.in-Refused.is;
-  done = λ bytes entries limit before netlist work u e. of_refused _ _ _ _ _ _ (rw c.in-Refused.is at u.replied);
+returns-in-Err c = record {
+  beside = rw c.in-Err.is;
+  done = λ bytes entries limit before netlist work u e. of_refused _ _ _ _ _ _ (rw c.in-Err.is at u.replied);
 }
 
-pub returns-in-Answered : goal.returns-in-Answered
+pub returns-in-Ok : goal.returns-in-Ok
 unfolding and_then
-returns-in-Answered c = record {
-  beside = rw c.in-Answered.is;
+returns-in-Ok c = record {
+  beside = rw c.in-Ok.is;
   done = λ bytes entries limit before netlist work u e.
-      let answers = of_answered _ _ _ _ (rw c.in-Answered.is at u.replied) in
-      searches _ _ _ c.in-Answered.answer c.args.progress.search before answers u.held
+      let answers = of_answered _ _ _ _ (rw c.in-Ok.is at u.replied) in
+      searches _ _ _ c.in-Ok.answer c.args.progress.search before answers u.held
       (all_found _ _ _ _ _ _ _ u e answers.netlist answers.admits);
 }

@@ -16,11 +16,11 @@ returns-in_default c =
 
 pub feeding_marks-requires : goal.feeding_marks-requires
 feeding_marks-requires c =
-    let s = read_stands _ c.ask-file.ensures c.in-Answered.is in
+    let s = read_stands _ c.ask-file.ensures c.in-Ok.is in
     (stands_formed _ _ s, stands_node _ _ s)
 
 pub returns : goal.returns
 unfolding feeding_query
 returns c =
-    let s = read_stands _ c.ask-file.ensures c.in-Answered.is in
-    given_answered _ _ _ s _ _ c.in-Answered.is (c.feeding_marks.ensures s.netlist s.value)
+    let s = read_stands _ c.ask-file.ensures c.in-Ok.is in
+    given_answered _ _ _ s _ _ c.in-Ok.is (c.feeding_marks.ensures s.netlist s.value)

@@ -11,13 +11,13 @@ returns-in_default c = given_refused _ _ _ _ c.ask_with-file.ensures c.in_defaul
 
 pub in_families-requires : goal.in_families-requires
 in_families-requires c =
-    let s = read_stands _ c.ask_with-file.ensures c.in-Answered.is in
+    let s = read_stands _ c.ask_with-file.ensures c.in-Ok.is in
     let w = stands_with _ _ _ s in
     (stands_formed _ _ w, stands_node _ _ w, stands_number _ _ _ s)
 
 pub returns : goal.returns
 unfolding membership_query
 returns c =
-    let s = read_stands _ c.ask_with-file.ensures c.in-Answered.is in
+    let s = read_stands _ c.ask_with-file.ensures c.in-Ok.is in
     let both = c.in_families.ensures s.netlist s.value in
     given_answered _ _ _ s _ _ both.0 (rw (both.1, both.2))

@@ -23,15 +23,15 @@ returns-in_default c = given_refused _ _ _ _ c.ask_with-file.ensures c.in_defaul
 
 pub settled_values-values-requires : goal.settled_values-values-requires
 settled_values-values-requires c =
-    stands_formed _ _ (stands_with _ _ _ (read_stands _ c.ask_with-file.ensures c.in-Answered.is))
+    stands_formed _ _ (stands_with _ _ _ (read_stands _ c.ask_with-file.ensures c.in-Ok.is))
 
 pub bounds-values-node : goal.bounds-values-node
 bounds-values-node c =
-    let s = stands_with _ _ _ (read_stands _ c.ask_with-file.ensures c.in-Answered.is) in
+    let s = stands_with _ _ _ (read_stands _ c.ask_with-file.ensures c.in-Ok.is) in
     omega (arith, stands_node _ _ s, few_nodes (stands_formed _ _ s))
 
 pub returns : goal.returns
 unfolding value_query
 returns c =
-    let s = read_stands _ c.ask_with-file.ensures c.in-Answered.is in
-    given_answered _ _ _ s _ _ c.in-Answered.is (value-at _ _ _ (c.settled_values-values.ensures s.netlist s.value))
+    let s = read_stands _ c.ask_with-file.ensures c.in-Ok.is in
+    given_answered _ _ _ s _ _ c.in-Ok.is (value-at _ _ _ (c.settled_values-values.ensures s.netlist s.value))

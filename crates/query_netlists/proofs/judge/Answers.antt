@@ -27,7 +27,7 @@ pub returns-then-undeclared_bit : goal.returns-then-undeclared_bit
 unfolding judged number_check
 returns-then-undeclared_bit c = λ n e.
     rw (
-      passes_on _ _ (ap query_of (sym c.in-Answered.is) ∙ c.judge_node-outcome.ensures n e),
+      passes_on _ _ (ap query_of (sym c.in-Ok.is) ∙ c.judge_node-outcome.ensures n e),
       ← value_variables n e,
       ← c.undeclared_bit.ensures,
       c.if-undeclared_bit.true,
@@ -37,9 +37,9 @@ pub returns : goal.returns
 unfolding judged number_check
 returns c = λ n e.
     rw (
-      passes_on _ _ (ap query_of (sym c.in-Answered.is) ∙ c.judge_node-outcome.ensures n e),
+      passes_on _ _ (ap query_of (sym c.in-Ok.is) ∙ c.judge_node-outcome.ensures n e),
       ← value_variables n e,
       ← c.undeclared_bit.ensures,
       c.if-undeclared_bit.false,
-      c.in-Answered.is,
+      c.in-Ok.is,
     )

@@ -9,15 +9,15 @@ use Rattle.query_netlists.proofs.with_judgement.Goals as goal
 pub returns-in_default : goal.returns-in_default
 returns-in_default c = λ end rows reads says. stays_refused _ end rows reads _ c.in_default.is
 
-pub returns-in-Refused : goal.returns-in-Refused
+pub returns-in-Err : goal.returns-in-Err
 unfolding and_then
-returns-in-Refused c = λ end rows reads says.
-    let s = read_stands end reads c.in-Answered.is in
-    rw (s.is, rows_refuse (rows s.netlist) s.netlist _ _ (ap query_of (sym c.in-Refused.is) ∙ says s.netlist s.value))
+returns-in-Err c = λ end rows reads says.
+    let s = read_stands end reads c.in-Ok.is in
+    rw (s.is, rows_refuse (rows s.netlist) s.netlist _ _ (ap query_of (sym c.in-Err.is) ∙ says s.netlist s.value))
     c.refused.ensures
 
-pub returns-in-Answered-judgement : goal.returns-in-Answered-judgement
+pub returns-in-Ok-judgement : goal.returns-in-Ok-judgement
 unfolding and_then
-returns-in-Answered-judgement c = λ end rows reads says.
-    let s = read_stands end reads c.in-Answered.is in
-    rw (s.is, rows_pass (rows s.netlist) s.netlist (ap query_of (sym c.in-Answered-judgement.is) ∙ says s.netlist s.value)) (rw s.is at reads)
+returns-in-Ok-judgement c = λ end rows reads says.
+    let s = read_stands end reads c.in-Ok.is in
+    rw (s.is, rows_pass (rows s.netlist) s.netlist (ap query_of (sym c.in-Ok-judgement.is) ∙ says s.netlist s.value)) (rw s.is at reads)

@@ -1,7 +1,7 @@
--- `netlists::entry_of` meets its contract: the fields returned are those of the entry of the node that the bytes say,
+-- `read_bytes::entry_of` meets its contract: the fields returned are those of the entry of the node that the bytes say,
 -- an input's set or the first bytes of the body. Assumes nothing.
 use Prim.Native.Nat.{ℕ, ◌+◌, ◌*◌, ◌<◌}
-use mathlib.Core.Path.{◌≡◌, sym, ap₂, ◌∙◌}
+use mathlib.Core.Path.{◌≡◌, sym, ap, ap₂, ◌∙◌}
 use mathlib.Core.List.{List}
 use native.Mathlib.Omega.{arith}
 use lib.ListN.{length, get_or}
@@ -9,6 +9,8 @@ use Rattle.rules.specs.Records.{operand_count, listed, first_of, Cell, input, ga
 use Rattle.rules.specs.Slices.{node_of, entry}
 use Rattle.rule_laws.proofs.Operands.{listed_length}
 use Rattle.rule_laws.proofs.Records.{says_gate, said_node}
+use Rattle.netlists.specs.Kinds.{byte_of}
+use Rattle.netlists.proofs.Bytes.{input_byte}
 use Rattle.netlists.proofs.Netlists.{node_same}
 use Rattle.read_bytes.proofs.entry_of.Goals as goal
 
@@ -33,15 +35,17 @@ gate-entry k body count first cell other e counts same =
     node_same k 0 first (listed count (first_of count body)) same
     ∙ ap₂ (λ (j n : ℕ). node_of j (listed n (first_of n body)) 0) (sym number) many ∙ same-entry own cell (sym says ∙ e)
 
-pub returns-then-kind-eq2 : goal.returns-then-kind-eq2
+pub returns-in-Input : goal.returns-in-Input
 unfolding entry kind_of operands set_of
-returns-then-kind-eq2 c cell e = rw (c.node_of.ensures, c.before.set_of.ensures, c.before.before.no_operands.ensures.1) (input-entry _ _ cell c.before.before.before.if-kind-eq2.true e)
+returns-in-Input c cell e =
+    let two = c.byte-kind.ensures ∙ ap byte_of c.in-Input.is in
+    rw (c.node_of.ensures, two, c.set_of-set.ensures, c.no_operands.ensures.1) (input-entry _ _ cell (ap byte_of c.in-Input.is) e)
 
 pub first_of-at-requires : goal.first_of-at-requires
 first_of-at-requires c = c.operand_count-count.ensures.few
 
-pub returns : goal.returns
-returns c cell e =
-    let counted = c.before.before in
-    c.node_of-2.ensures
-    ∙ gate-entry _ _ _ c.before.first_of-at.result cell counted.before.if-kind-eq2.false e counted.operand_count-count.ensures.value c.before.first_of-at.ensures
+pub returns-in_default : goal.returns-in_default
+returns-in_default c cell e =
+    c.node_of-in_default.ensures
+    ∙ gate-entry _ _ _ c.first_of-at.result cell (λ (two : c.byte-kind.result ≡ 2). c.in_default.not-Input (input_byte c.args.own.kind (sym c.byte-kind.ensures ∙ two)))
+    (rw c.byte-kind.ensures e) c.operand_count-count.ensures.value c.first_of-at.ensures

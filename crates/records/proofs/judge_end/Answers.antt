@@ -4,10 +4,10 @@ use Rattle.rules.specs.Checks.{judged}
 use Rattle.records.proofs.Judged.{end_checks}
 use Rattle.records.proofs.judge_end.Goals as goal
 
-pub returns-then-total-here-gt1 : goal.returns-then-total-here-gt1
+pub returns-then-spot-gt1 : goal.returns-then-spot-gt1
 unfolding judged
-returns-then-total-here-gt1 c = let (inside, kind) = c.before.requires in rw (end_checks, lt-ltb _ _ c.if-total-here-gt1.true)
+returns-then-spot-gt1 c = let (inside, kind) = c.requires in rw (end_checks, lt-ltb _ _ c.if-spot-gt1.true, c.at.ensures)
 
 pub returns : goal.returns
 unfolding judged
-returns c = let (inside, kind) = c.before.requires in rw (end_checks, le-ltb _ _ c.if-total-here-gt1.false)
+returns c = let (inside, kind) = c.requires in rw (end_checks, le-ltb _ _ c.if-spot-gt1.false)

@@ -14,4 +14,4 @@ obey_examined-requires g c =
       before = replicate most_work 0;
       size = length-replicate {A = ℕ} most_work 0;
       leaves = record { reply = promised.reply; netlist = promised.netlist; held = promised.work };
-    } in (seen, seen_known seen c.in-Answered.is)
+    } in (seen, seen_known seen c.in-Ok.is)

@@ -4,16 +4,16 @@ use Rattle.rules.specs.Paper.{reply_of}
 use Rattle.edit_turns.proofs.Outcomes.{not_opened}
 use Rattle.telgouin.proofs.editing.edit_block.Goals as goal
 
-pub returns-in-Refused : goal.returns-in-Refused
-returns-in-Refused g c =
+pub returns-in-Err : goal.returns-in-Err
+returns-in-Err g c =
     let begun = c.begin_with-begun.ensures in
     record {
       reply = begun.reply;
-      edited = λ n held says. absurd (not_opened n _ (rw c.in-Refused.is at (ap reply_of begun.reply ∙ says)));
+      edited = λ n held says. absurd (not_opened n _ (rw c.in-Err.is at (ap reply_of begun.reply ∙ says)));
     }
 
-pub returns-in-Answered : goal.returns-in-Answered
-returns-in-Answered g c =
+pub returns-in-Ok : goal.returns-in-Ok
+returns-in-Ok g c =
     let begun = c.begin_with-begun.ensures in
     let ran = c.run_lines-last.ensures in
     record {
