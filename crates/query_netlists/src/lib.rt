@@ -11,10 +11,9 @@ ghost use Rattle.netlists.specs.Netlists.{flat_of};
 ghost use Rattle.read_bytes.specs.Reading.{Reads};
 
 use netlists::Netlist;
-use read_bytes::ReadFile;
-use rules::{Refusal, Reason};
+use rules::{Reason, Refusal};
 
-// Whether a netlist has a node: answered, or refusal 12.
+// Whether a netlist has a node, or refusal 12.
 pub fn judge_node(netlist: Netlist, node: usize) -> Result<(), Refusal>
     ensures { (n : Records.Netlist) → netlist ≡ flat_of n → query_of result ≡ judged (node_check node n ∷ []) tt }
 {
@@ -24,52 +23,32 @@ pub fn judge_node(netlist: Netlist, node: usize) -> Result<(), Refusal>
     Ok(())
 }
 
-// Whether a netlist has a node, and all variables of an assignment or a set: answered, or refusal 12, and then 13.
+// Whether a netlist has a node, and all variables of an assignment or a set, or refusal 12, and then 13.
 pub fn judge(netlist: Netlist, node: usize, number: usize) -> Result<(), Refusal>
     ensures { (n : Records.Netlist) → netlist ≡ flat_of n →
         query_of result ≡ judged (node_check node n ∷ number_check number n ∷ []) tt }
 {
-    let outcome = judge_node(netlist, node);
-    let Ok(()) = outcome else {
-        return outcome;
-    };
+    judge_node(netlist, node)?;
     if records::undeclared_bit(netlist.variables, number) {
         return Err(Reason::UndeclaredBit.at(number));
     }
-    outcome
-}
-
-// A file that was read, once its netlist is judged: what reading refuses stays refused, and of a netlist
-// that was read the judgement counts.
-fn with_judgement(file: ReadFile, judgement: Result<(), Refusal>) -> ReadFile
-    ensures { (end : Outcome Records.Netlist) (rows : Records.Netlist → List Check) → Reads file end →
-        ((n : Records.Netlist) → file.netlist ≡ flat_of n → query_of judgement ≡ judged (rows n) tt) →
-        Reads result (and_then end (λ n. judged (rows n) n)) }
-{
-    let outcome = file.outcome;
-    let Ok(()) = outcome else {
-        return file;
-    };
-    match judgement {
-        Err(refusal) => read_bytes::refused(refusal),
-        Ok(()) => file,
-    }
+    Ok(())
 }
 
 // The netlist of a query of a node, or the refusal: of the file, and then 12.
-pub fn ask(bytes: &[u8], node: usize) -> ReadFile
+pub fn ask(bytes: &[u8], node: usize) -> Result<Netlist, Refusal>
     ensures { Reads result (queried bytes.now node) }
 {
-    let file = read_bytes::read(bytes);
-    let netlist = file.netlist;
-    with_judgement(file, judge_node(netlist, node))
+    let netlist = read_bytes::read(bytes)?;
+    judge_node(netlist, node)?;
+    Ok(netlist)
 }
 
 // The netlist of a query of a node with an assignment or a set, or the refusal: of the file, then 12, and then 13.
-pub fn ask_with(bytes: &[u8], node: usize, number: usize) -> ReadFile
+pub fn ask_with(bytes: &[u8], node: usize, number: usize) -> Result<Netlist, Refusal>
     ensures { Reads result (queried_with bytes.now node number) }
 {
-    let file = read_bytes::read(bytes);
-    let netlist = file.netlist;
-    with_judgement(file, judge(netlist, node, number))
+    let netlist = read_bytes::read(bytes)?;
+    judge(netlist, node, number)?;
+    Ok(netlist)
 }

@@ -1,11 +1,11 @@
 -- `query_netlists::judge` meets its contract: what is refused of the node stays refused, and then the row of the number
 -- is the code's test of it. Assumes nothing.
 use Prim.Native.Nat.{ℕ}
-use mathlib.Core.Path.{◌≡◌, refl, sym, ap, ◌∙◌}
+use mathlib.Core.Path.{◌≡◌, refl}
 use mathlib.Core.Bool.{true, false}
 use mathlib.Core.List.{List, [], ◌∷◌}
+use Rattle.std.proofs.lemmas.Result.{err_from_is_err_and}
 use Rattle.rules.specs.Checks.{Outcome, answered, refused, Check, check, judged, number_check}
-use Rattle.rules.specs.Paper.{query_of}
 use Rattle.netlists.proofs.Netlists.{value_variables}
 use Rattle.query_netlists.proofs.judge.Goals as goal
 
@@ -20,26 +20,28 @@ unfolding judged
 passes_on (check j true q) rows e = cc
 passes_on (check j false q) rows e = refl
 
-pub returns-in_default : goal.returns-in_default
-returns-in_default c = λ n e. rw c.in_default.is (refuses _ _ _ _ (ap query_of (sym c.in_default.is) ∙ c.judge_node-outcome.ensures n e))
+pub returns-in_err-judge_node : goal.returns-in_err-judge_node
+returns-in_err-judge_node c n e =
+    let p = err_from_is_err_and c.from_residual.result c.from_residual.ensures.1 in
+    rw (p.1, p.2) (refuses _ _ _ _ (c.in_err-judge_node.ensures n e))
 
 pub returns-then-undeclared_bit : goal.returns-then-undeclared_bit
 unfolding judged number_check
-returns-then-undeclared_bit c = λ n e.
+returns-then-undeclared_bit c n e =
     rw (
-      passes_on _ _ (ap query_of (sym c.in-Ok.is) ∙ c.judge_node-outcome.ensures n e),
+      passes_on _ _ (c.in_ok-judge_node.ensures n e),
       ← value_variables n e,
       ← c.undeclared_bit.ensures,
       c.if-undeclared_bit.true,
+      c.at.ensures,
     )
 
 pub returns : goal.returns
 unfolding judged number_check
-returns c = λ n e.
+returns c n e =
     rw (
-      passes_on _ _ (ap query_of (sym c.in-Ok.is) ∙ c.judge_node-outcome.ensures n e),
+      passes_on _ _ (c.in_ok-judge_node.ensures n e),
       ← value_variables n e,
       ← c.undeclared_bit.ensures,
       c.if-undeclared_bit.false,
-      c.in-Ok.is,
     )

@@ -7,7 +7,7 @@ use Rattle.query_netlists.proofs.judge_node.Goals as goal
 
 pub returns-then-netlist-node : goal.returns-then-netlist-node
 unfolding judged node_check
-returns-then-netlist-node c = λ n e. rw (← value_count n e, le-leb _ _ c.if-netlist-node.true)
+returns-then-netlist-node c = λ n e. rw (← value_count n e, le-leb _ _ c.if-netlist-node.true, c.at.ensures)
 
 pub returns : goal.returns
 unfolding judged node_check
