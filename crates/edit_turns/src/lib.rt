@@ -52,7 +52,7 @@ pub struct Obeyed {
 
 // ---- the start
 
-// An answer of nothing, which stands where a block is refused.
+// An answer of nothing: what `begin_with` puts in the turn where a block is refused, since a turn has an answer.
 fn no_answer() -> Answer {
     Answer {
         variables: 0,
@@ -100,13 +100,11 @@ pub fn begin(bytes: &[u8], work: &mut [u8; MOST_WORK]) -> Told
 // ---- a line
 
 // Something could not be obeyed: the block stays as it is.
-pub fn at_fault(turn: Turn) -> Turn
+pub fn at_fault(mut turn: Turn) -> Turn
     ensures { (s : Standing) (work : List ℕ) → Stands s turn work → Stands (failed s) result work }
 {
-    Turn {
-        faulty: true,
-        ..turn
-    }
+    turn.faulty = true;
+    turn
 }
 
 // The turn once an edit gave this: its reply, and the netlist and its marks as they then are.
@@ -119,7 +117,10 @@ fn turned(turn: Turn, changed: Examined) -> Turn
         ..turn
     };
     match changed.reply {
-        Reply::Refused(_) => at_fault(next),
+        Reply::Refused(_) => Turn {
+            faulty: true,
+            ..next
+        },
         Reply::Answered(answer) => Turn {
             answer,
             made: next.made.saturating_add(1),

@@ -52,10 +52,8 @@ fn byte_before(k: usize) -> u8
 pub fn fill(work: &mut [u8])
     ensures { work.new ≡ tabulate byte_before (length work.old) }
 {
-    let mut k = 0;
-    while k < work.len() {
-        work[k] = byte_before(k);
-        k += 1;
+    for (k, byte) in work.iter_mut().enumerate() {
+        *byte = byte_before(k);
     }
 }
 
@@ -64,41 +62,15 @@ fn is_before(held: NodeRecord) -> bool
 {
     let node = held.node;
     node.kind == 9
-        && (node.first == 8
-            && (node.second == 7 && (node.set == 6 && (held.settled == 5 && held.glitch == 4))))
+        && node.first == 8
+        && node.second == 7
+        && node.set == 6
+        && held.settled == 5
+        && held.glitch == 4
 }
 
-// The lowest number from which on all entries are as they were before.
-pub fn entries_kept_from(nodes: [NodeRecord; MOST_NODES]) -> usize
-    ensures { result ≡ kept_from (λ k. is_before (get_or nodes k entry_before)) most_nodes }
-{
-    let mut from = 0;
-    let mut k = 0;
-    while k < MOST_NODES {
-        if !is_before(nodes[k]) {
-            from = k + 1;
-        }
-        k += 1;
-    }
-    from
-}
-
-// The lowest number from which on all work bytes are as they were before.
-pub fn work_kept_from(work: &[u8]) -> usize
-    ensures { result ≡
-        kept_from (λ k. eqb (get_or work.now k 0) (byte_before k)) (length work.now) }
-{
-    let mut from = 0;
-    let mut k = 0;
-    while k < work.len() {
-        if work[k] != byte_before(k) {
-            from = k + 1;
-        }
-        k += 1;
-    }
-    from
-}
-
+// The lowest number from which on all elements are as they were before, by a test of each and its number.
+fn kept_from<T: Copy, F: Fn(usize, T) -> bool>(held: &[T], same: F) -> usize
 // ---- a check
 
 // What a check leaves: the reply, and all entries.
