@@ -53,6 +53,7 @@ fn loaded_by(state: State, records: &[NodeRecord]) -> Loaded
         settled[i] = record.settled;
         glitch[i] = record.glitch;
     }
+    // Stored straight from the other struct, an array has no proof.
     let classes = state.classes;
     let block = Netlist {
         variables: state.variables,

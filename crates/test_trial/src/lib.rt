@@ -98,7 +98,7 @@ pub fn work_kept_from(work: &[u8]) -> usize
     kept_from(work.len(), |k| work[k] == byte_before(k))
 }
 
-// ---- a check
+// ---- a check; each call below has a contract of its own, so that a function of all four would be no plainer
 
 // What a check with one probe or two leaves: the reply, and all entries.
 #[derive(Clone, Copy)]
@@ -153,7 +153,7 @@ pub fn check_pairs_over(
 
 // ---- an open block
 
-// What opening a block or an edit of it leaves: what the call gives, and all entries.
+// What opening a block or an edit of it leaves: what the call gives, and all entries. Callers read its field `edited`.
 #[derive(Clone, Copy)]
 pub struct SeenEdit {
     pub edited: Edited,
