@@ -10,13 +10,6 @@ use rules::{MOST_NODES, MOST_WORK, Answer, Refusal};
 // The most times that one call makes its edits.
 const MOST_TURNS: usize = 65536;
 
-// The lesser of two numbers.
-fn least(a: usize, b: usize) -> usize
-    ensures { (result ≤ a) × (result ≤ b) }
-{
-    if a < b { a } else { b }
-}
-
 // 1 for an answer and 0 for a refusal.
 fn one_if_answered(reply: Result<Answer, Refusal>) -> usize
     ensures { result ≤ 1 }
@@ -33,7 +26,6 @@ fn one_if_answered(reply: Result<Answer, Refusal>) -> usize
 pub extern "C" fn telgouin_edits(bytes: &[u8], added: &[u8], node: usize, times: usize) -> usize
     ensures { result ≤ 131072 }
 {
-    let turns = least(times, MOST_TURNS);
     let mut work = [0u8; MOST_WORK];
     let opened = test_trial::open_over(
         bytes,
@@ -41,12 +33,10 @@ pub extern "C" fn telgouin_edits(bytes: &[u8], added: &[u8], node: usize, times:
         [test_trial::entry_before(); MOST_NODES],
         &mut work,
     );
-    let first = opened.edited;
-    let mut state = first.state;
+    let mut state = opened.edited.state;
     let mut nodes = opened.nodes;
     let mut answered = 0;
-    let mut turn = 0;
-    while turn < turns {
+    for turn in 0..times.min(MOST_TURNS) {
         let less = test_trial::edit_over(
             state,
             Edit::Remove(node),
@@ -55,17 +45,17 @@ pub extern "C" fn telgouin_edits(bytes: &[u8], added: &[u8], node: usize, times:
             nodes,
             &mut work,
         );
-        let removed = less.edited;
-        let shorter = less.nodes;
-        let reply = removed.reply;
-        let between = removed.state;
-        let more = test_trial::edit_over(between, Edit::Add, added, MOST_NODES, shorter, &mut work);
-        let longer = more.edited;
-        let last = longer.reply;
-        state = longer.state;
+        let more = test_trial::edit_over(
+            less.edited.state,
+            Edit::Add,
+            added,
+            MOST_NODES,
+            less.nodes,
+            &mut work,
+        );
+        state = more.edited.state;
         nodes = more.nodes;
-        answered += one_if_answered(reply) + one_if_answered(last);
-        turn += 1;
+        answered += one_if_answered(less.edited.reply) + one_if_answered(more.edited.reply);
     }
     answered
 }
@@ -73,12 +63,10 @@ pub extern "C" fn telgouin_edits(bytes: &[u8], added: &[u8], node: usize, times:
 // The edit that adds a node at the end or, where its record has no bytes, removes the last of `count` nodes.
 fn edit_at_the_end(added: usize, count: usize) -> Edit {
     if added > 0 {
-        return Edit::Add;
+        Edit::Add
+    } else {
+        Edit::Remove(count.saturating_sub(1))
     }
-    if count == 0 {
-        return Edit::Remove(0);
-    }
-    Edit::Remove(count - 1)
 }
 
 // Opens a block, and then makes one edit of it as it was opened, `times` times or `MOST_TURNS`:
@@ -89,7 +77,6 @@ fn edit_at_the_end(added: usize, count: usize) -> Edit {
 pub extern "C" fn telgouin_edit_again(bytes: &[u8], added: &[u8], times: usize) -> usize
     ensures { result ≤ 65536 }
 {
-    let turns = least(times, MOST_TURNS);
     let mut work = [0u8; MOST_WORK];
     let opened = test_trial::open_over(
         bytes,
@@ -97,18 +84,12 @@ pub extern "C" fn telgouin_edit_again(bytes: &[u8], added: &[u8], times: usize) 
         [test_trial::entry_before(); MOST_NODES],
         &mut work,
     );
-    let first = opened.edited;
-    let state = first.state;
-    let nodes = opened.nodes;
+    let state = opened.edited.state;
     let edit = edit_at_the_end(added.len(), state.count);
     let mut answered = 0;
-    let mut turn = 0;
-    while turn < turns {
-        let seen = test_trial::edit_over(state, edit, added, MOST_NODES, nodes, &mut work);
-        let edited = seen.edited;
-        let reply = edited.reply;
-        answered += one_if_answered(reply);
-        turn += 1;
+    for turn in 0..times.min(MOST_TURNS) {
+        let seen = test_trial::edit_over(state, edit, added, MOST_NODES, opened.nodes, &mut work);
+        answered += one_if_answered(seen.edited.reply);
     }
     answered
 }

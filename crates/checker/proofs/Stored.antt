@@ -7,7 +7,7 @@ use mathlib.Core.List.{List, ◌++◌}
 use mathlib.Core.Option.{none}
 use native.Mathlib.Omega.{arith}
 use native.Mathlib.Numerals.{add-one}
-use lib.ListN.{length, get_or, drop, set, length-set, length-replicate, get_or-append}
+use lib.ListN.{length, get_or, drop, set, length-set}
 use lib.Seq.{drop-cons, set_at, append_snoc}
 use Rattle.rules.specs.declared.NodeRecord.{NodeRecord}
 use Rattle.rules.specs.Lists.{tabulate}
@@ -15,7 +15,7 @@ use Rattle.rules.specs.Records.{input, Netlist, empty, most_nodes}
 use Rattle.rules.specs.Families.{layer_marks}
 use Rattle.rules.specs.Slices.{node_record, node_records, filled, nodes_after}
 use Rattle.rules.specs.Checks.{Outcome, answered, refused, admitted}
-use Rattle.rule_laws.proofs.Packing.{tabulate_length, tabulate_at, tabulate_same}
+use Rattle.rule_laws.proofs.Packing.{tabulate_length, tabulate_same}
 use Rattle.rule_laws.proofs.Exit.{records_length}
 use Rattle.rule_laws.proofs.Reading.{read_well_formed}
 use Rattle.rule_laws.proofs.Room.{admitted_says}
@@ -24,7 +24,7 @@ use Rattle.netlists.proofs.Netlists.{flat_entry_at, value_count}
 use Rattle.marks.specs.Marks.{marks_in, marks_of}
 use Rattle.marks.proofs.Layers.{flat_at}
 use Rattle.checker.specs.declared.Examined.{Examined}
-use Rattle.checker.specs.Work.{record_in, unwritten, no_entries, stored}
+use Rattle.checker.specs.Work.{record_in, unwritten, stored}
 
 module _ (records : ℕ → NodeRecord) (before : List NodeRecord) where
   pub stored_none : stored records before 0 ≡ before
@@ -47,16 +47,6 @@ module _ (records : ℕ → NodeRecord) (before : List NodeRecord) where
       rw (stored_front k (omega arith), drop-cons before k unwritten (omega arith))
       (set_at (tabulate records k) (get_or before k unwritten) (drop (suc k) before) (records k) k (tabulate_length records k)
       ∙ sym (append_snoc (tabulate records k) (records k) (drop (suc k) before)))
-
-  pub stored_at : (k i : ℕ) → i < k → k ≤ length before → get_or (stored records before k) i unwritten ≡ records i
-  stored_at k i less h =
-      rw (stored_front k h)
-      (get_or-append (tabulate records k) (drop k before) unwritten i (rw (tabulate_length records k) less)
-      ∙ tabulate_at records k i unwritten less)
-
-pub no_entries_length : length no_entries ≡ most_nodes
-unfolding no_entries
-no_entries_length = length-replicate most_nodes unwritten
 
 -- what is examined of a netlist: its own node records
 module _ (examined : Examined) (n : Netlist) (is-flat : examined.netlist ≡ flat_of n) (is-marked : examined.marks ≡ marks_of n) where

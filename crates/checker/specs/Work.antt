@@ -1,9 +1,9 @@
 -- What the core examines, and the node records that are stored. Cited by the contracts of this crate. Assumes nothing.
 use Rattle.std.specs.Prelude.{Result, Ok}
 use Rattle.rules.specs.declared.Refusal.{Refusal}
-use Rattle.std.specs.Prelude.{ℕ, zero, suc, ◌*◌, ◌≤◌, ◌≡◌, List, length, get_or, set, replicate}
+use Rattle.std.specs.Prelude.{ℕ, zero, suc, ◌*◌, ◌≤◌, ◌≡◌, List, length, get_or, set}
 use Rattle.rules.specs.declared.NodeRecord.{NodeRecord}
-use Rattle.rules.specs.Records.{Netlist, empty, most_nodes}
+use Rattle.rules.specs.Records.{Netlist, empty}
 use Rattle.rules.specs.Families.{families, findings}
 use Rattle.rules.specs.Slices.{work_bytes, filled}
 use Rattle.rules.specs.Checks.{Outcome, answered, refused, and_then, slices_fit}
@@ -49,10 +49,6 @@ record_in examined = record_of examined.netlist examined.marks
 
 abbrev pub unwritten : NodeRecord
 unwritten = record { node = blank; settled = 0; glitch = 0 }
-
--- entries of no node, as many as there may be nodes
-unfoldable pub no_entries : List NodeRecord
-no_entries = replicate most_nodes unwritten
 
 -- the entries `before` once the first k of the records stand at their front
 unfoldable pub stored : (records : ℕ → NodeRecord) (before : List NodeRecord) (k : ℕ) → List NodeRecord

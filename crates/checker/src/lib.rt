@@ -4,7 +4,7 @@
 // the desk and test programs.
 #![tactic(auto)]
 
-ghost use Rattle.std.specs.Prelude.{◌≡◌, ◌↔◌, ◌<◌, ◌≤◌, length, get_or};
+ghost use Rattle.std.specs.Prelude.{◌≡◌, ◌↔◌, ◌<◌, ◌≤◌, length};
 ghost use Rattle.rules.specs.Records as Records;
 ghost use Rattle.rules.specs.Records.{most_nodes};
 ghost use Rattle.rules.specs.Slices.{nodes_after, work_after, reply};
@@ -14,11 +14,11 @@ ghost use Rattle.rules.specs.Paper.{reply_of};
 ghost use Rattle.netlists.specs.Netlists.{flat_of, Formed, Ready, kept};
 ghost use Rattle.marks.specs.Marks.{marks_of};
 ghost use Rattle.checker.specs.Work.{NothingKept, Examines, ReadsMarks};
-ghost use Rattle.checker.specs.Work.{JudgesSlices, record_in, stored, unwritten, no_entries};
+ghost use Rattle.checker.specs.Work.{JudgesSlices, record_in, stored};
 
 use marks::Marks;
 use netlists::Netlist;
-use rules::{Answer, MOST_NODES, NodeRecord, Refusal, Reason};
+use rules::{Answer, NodeRecord, Refusal, Reason};
 
 // What an examination gives: the reply, and the netlist and its marks by value.
 // On a refusal these are empty, of no node.
@@ -46,15 +46,11 @@ pub fn read_marks(netlist: Netlist, marks: Marks) -> Examined
     requires { netlist.count ≤ most_nodes }
     ensures { ReadsMarks netlist marks result }
 {
-    let in_settled = marks.settled;
-    let in_glitch = marks.glitch;
-    let settled = marks::lowest_marked(in_settled, netlist.count);
-    let glitch = marks::lowest_marked(in_glitch, netlist.count);
     let answer = Answer {
         variables: netlist.variables,
         nodes: netlist.count,
-        settled,
-        glitch,
+        settled: marks::lowest_marked(marks.settled, netlist.count),
+        glitch: marks::lowest_marked(marks.glitch, netlist.count),
     };
     Examined {
         reply: Ok(answer),
@@ -126,74 +122,18 @@ pub fn examine(bytes: &[u8], entries: usize, work: &mut [u8]) -> Examined
 
 // ---- the entry point, over the lent slice of node records
 
-// How many nodes the examined netlist has.
-fn count_of(examined: Examined) -> usize
-    ensures { result ≡ examined.netlist.count }
-{
-    let netlist = examined.netlist;
-    netlist.count
-}
-
-// The reply of an examination.
-fn reply_of(examined: Examined) -> Result<Answer, Refusal>
-    ensures { result ≡ examined.reply }
-{
-    examined.reply
-}
-
-// 200 entries of no node, in which every field is 0.
-pub fn no_entries() -> [NodeRecord; MOST_NODES]
-    ensures { result ≡ no_entries }
-{
-    let node = netlists::blank_node();
-    [NodeRecord {
-        node,
-        settled: 0,
-        glitch: 0,
-    }; MOST_NODES]
-}
-
-// The node records of what was examined, by value: each node with its marks, and behind them entries of no node.
-fn records_of(examined: Examined) -> [NodeRecord; MOST_NODES]
-    requires { examined.netlist.count ≤ most_nodes }
-    ensures { result ≡ stored (record_in examined) no_entries examined.netlist.count }
-{
-    let netlist = examined.netlist;
-    let marks = examined.marks;
-    let count = netlist.count;
-    let mut records = no_entries();
-    let mut i = 0;
-    while i < count {
-        records[i] = NodeRecord {
-            node: netlist.nodes[i],
-            settled: marks.settled[i],
-            glitch: marks.glitch[i],
-        };
-        i += 1;
-    }
-    records
-}
-
 // Writes the node records of what was examined to the front of the lent slice. The entries beyond are as they were.
 pub fn store(nodes: &mut [NodeRecord], examined: Examined)
     requires { (examined.netlist.count ≤ length nodes.old) × (examined.netlist.count ≤ most_nodes) }
     ensures { nodes.new ≡ stored (record_in examined) nodes.old examined.netlist.count }
 {
-    let count = count_of(examined);
-    let records = records_of(examined);
-    let mut i = 0;
-    while i < count {
-        nodes[i] = records[i];
-        i += 1;
+    for i in 0..examined.netlist.count {
+        nodes[i] = NodeRecord {
+            node: examined.netlist.nodes[i],
+            settled: examined.marks.settled[i],
+            glitch: examined.marks.glitch[i],
+        };
     }
-}
-
-// The node record at entry `i` of the lent slice.
-pub fn node_at(nodes: &[NodeRecord], i: usize) -> NodeRecord
-    requires { i < length nodes.now }
-    ensures { result ≡ get_or nodes.now i unwritten }
-{
-    nodes[i]
 }
 
 // Checks netlist bytes: the reply, the node records with their marks at the front of `nodes` and the families at the
@@ -213,5 +153,5 @@ pub fn check(bytes: &[u8], nodes: &mut [NodeRecord], work: &mut [u8]) -> Result<
 {
     let examined = examine(bytes, nodes.len(), work);
     store(nodes, examined);
-    reply_of(examined)
+    examined.reply
 }

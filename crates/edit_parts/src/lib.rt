@@ -3,7 +3,8 @@
 // families move. `edit_steps` uses it.
 #![tactic(auto)]
 
-ghost use Rattle.std.specs.Prelude.{◌≡◌, ◌+◌, ◌*◌, ◌<◌, ◌≤◌, length, get_or, drop};
+ghost use Rattle.std.specs.Prelude.{◌≡◌, ◌==◌, ◌+◌, ◌*◌, ◌<◌, ◌≤◌, length, get_or, drop};
+ghost use Rattle.std.specs.List.{list_any};
 ghost use Rattle.rules.specs.Records as Records;
 ghost use Rattle.rules.specs.Records.{Cell, WellFormed, renamed, most_nodes};
 ghost use Rattle.rules.specs.Slices.{entry};
@@ -11,10 +12,10 @@ ghost use Rattle.rules.specs.Checks.{answered, and_then};
 ghost use Rattle.netlists.specs.Netlists.{flat_of};
 ghost use Rattle.edit_rules.specs.Edits as Edits;
 ghost use Rattle.edit_rules.specs.Edits.{judged_node, without_node};
-ghost use Rattle.edit_parts.specs.Parts.{offered_of, moved_down};
+ghost use Rattle.edit_parts.specs.Parts.{offered_of, IsLowestUser, moved_down};
 
 use netlists::Netlist;
-use rules::{MOST_BODY, Node, Refusal, Reason};
+use rules::{Node, Refusal, Reason};
 
 // ---- a new node
 
@@ -47,49 +48,43 @@ pub fn offered(bytes: &[u8], variables: usize, nodes: usize) -> Result<Node, Ref
 
 // ---- a node removed
 
-// Whether a node uses node `i`: that is one of its operands. The loop goes over all fields, of which there are as many
-// at every node, so that the compiler unrolls it.
+// Whether node `i` is one of these operands.
+fn is_among(i: usize, operands: &[u8]) -> bool
+    ensures { result ≡ list_any (λ a. a == i) operands.now }
+{
+    operands.iter().any(|a| *a as usize == i)
+}
+
+// Whether a node uses node `i`: that is one of its operands.
 fn uses(node: Node, i: usize) -> bool
     ensures { (cell : Cell) → node ≡ entry cell → result ≡ Edits.uses i cell }
 {
     let operands = netlists::operands_of(node);
-    let mut j = 0;
-    while j < MOST_BODY {
-        if j < operands.count {
-            if (operands.at[j] as usize) == i {
-                return true;
-            }
-        }
-        j += 1;
-    }
-    false
+    is_among(i, &operands.at[..operands.count])
 }
 
-// The lowest node that uses node `i`, or the number of nodes where none does. A node's operands are lower, so that only
-// those behind `i` are looked at.
-pub fn lowest_user(block: Netlist, i: usize) -> usize
+// The lowest node that uses node `i`. A node's operands are lower, so that only those behind `i` are looked at.
+pub fn lowest_user(block: Netlist, i: usize) -> Option<usize>
     requires { (i < block.count) × (block.count ≤ most_nodes) }
-    ensures { (n : Records.Netlist) → WellFormed n → block ≡ flat_of n → result ≡ Edits.lowest_user i n.nodes }
+    ensures { (n : Records.Netlist) → WellFormed n → block ≡ flat_of n → IsLowestUser i n result }
 {
-    let count = block.count;
-    let mut j = i + 1;
-    while j < count {
+    for j in i + 1..block.count {
         if uses(block.nodes[j], i) {
-            return j;
+            return Some(j);
         }
-        j += 1;
     }
-    count
+    None
 }
 
 // An operand follows where a lower node is removed.
 fn lowered(operand: u8, removed: usize) -> u8
     ensures { result ≡ Edits.lowered removed operand }
 {
-    if removed < (operand as usize) {
-        return operand - 1;
+    if removed < operand as usize {
+        operand - 1
+    } else {
+        operand
     }
-    operand
 }
 
 // A node record whose operands follow. Beyond those that the kind has stands 0, and stays.
@@ -97,10 +92,8 @@ fn renumbered(node: Node, removed: usize) -> Node
     ensures { (cell : Cell) → node ≡ entry cell → result ≡ entry (renamed (Edits.lowered removed) cell) }
 {
     let mut operands = netlists::operands_of(node);
-    let mut j = 0;
-    while j < MOST_BODY {
-        operands.at[j] = lowered(operands.at[j], removed);
-        j += 1;
+    for operand in operands.at.iter_mut() {
+        *operand = lowered(*operand, removed);
     }
     netlists::node_of(node.kind, operands, node.set)
 }
@@ -113,10 +106,8 @@ pub fn without_node(block: Netlist, removed: usize) -> Netlist
 {
     let last = block.count - 1;
     let mut shorter = block;
-    let mut i = removed;
-    while i < last {
+    for i in removed..last {
         shorter.nodes[i] = renumbered(shorter.nodes[i + 1], removed);
-        i += 1;
     }
     shorter.nodes[last] = netlists::blank_node();
     shorter.count = last;
@@ -128,10 +119,5 @@ pub fn move_down(work: &mut [u8], removed: usize, count: usize)
     requires { (removed < count) × (count ≤ most_nodes) × (256 * count ≤ length work.old) }
     ensures { work.new ≡ moved_down removed count work.old }
 {
-    let end = 256 * (count - 1);
-    let mut at = 256 * removed;
-    while at < end {
-        work[at] = work[at + 256];
-        at += 1;
-    }
+    work.copy_within(256 * (removed + 1)..256 * count, 256 * removed);
 }

@@ -30,27 +30,30 @@ use Rattle.edit_steps.specs.Changes.{RemovesUnused, Changes}
 use Rattle.edit_steps.proofs.Changing.{state_count, contained_refused, contained_looks}
 use Rattle.edit_rules.proofs.Removal.{Unused, marks_removed}
 
--- a node is removed, where `by` is the lowest node that uses it
-module _ (block : Value.Netlist) (marks : Marks) (removed by : ℕ) (lowest : (n : Netlist) → WellFormed n → block ≡ flat_of n → by ≡ lowest_user removed n.nodes) where
-  pub still_used : (examined : Examined) (before : List ℕ) → by < block.count → examined.reply ≡ Err (record { reason = StillNamed; place = by })
+-- a node is removed, which is used, the lowest time by a node `by`, or is not
+module _ (block : Value.Netlist) (marks : Marks) (removed : ℕ) where
+  pub still_used : (by : ℕ) (examined : Examined) (before : List ℕ)
+      → ((n : Netlist) → WellFormed n → block ≡ flat_of n → (by < length n.nodes) × (by ≡ lowest_user removed n.nodes)) → examined.reply ≡ Err (record { reason = StillNamed; place = by })
       → NothingKept examined → RemovesUnused block marks removed examined before before
   unfolding removed_if_unused judged
-  still_used examined before named r none = record {
+  still_used by examined before lowest r none = record {
     contained = contained_refused block.count examined before none;
     made = λ n formed is known holds.
-        rw (← (lowest n formed is), ← (value_count n is), lt-ltb by block.count named) (refusal (record { reason = StillNamed; place = by }) 14 by examined before refl refl r none);
+        let (inside, named) = lowest n formed is in
+        rw (← named, lt-ltb by (length n.nodes) inside) (refusal (record { reason = StillNamed; place = by }) 14 by examined before refl refl r none);
   }
 
-  pub removed_unused : (value : Value.Netlist) (fewer : Marks) (examined : Examined) (before after : List ℕ) → block.count ≤ by → removed < block.count
+  pub removed_unused : (value : Value.Netlist) (fewer : Marks) (examined : Examined) (before after : List ℕ)
+      → ((n : Netlist) → WellFormed n → block ≡ flat_of n → lowest_user removed n.nodes ≡ length n.nodes) → removed < block.count
       → block.count ≤ most_nodes → 256 * block.count ≤ length before
       → value.count + 1 ≡ block.count → ((n : Netlist) → WellFormed n → block ≡ flat_of n → value ≡ flat_of (without_node n removed))
       → ((settled glitch : List (Option ℕ)) → length settled ≡ block.count → length glitch ≡ block.count → marks ≡ marks_in settled glitch
       → fewer ≡ marks_in (without removed settled) (without removed glitch))
       → after ≡ moved_down removed block.count before → ReadsMarks value fewer examined → RemovesUnused block marks removed examined before after
   unfolding removed_if_unused judged
-  removed_unused value fewer examined before after unused there small room one_less is_without are-without moved l = record {
+  removed_unused value fewer examined before after lowest there small room one_less is_without are-without moved l = record {
     contained = contained_looks block.count value fewer examined before after (omega arith) (omega arith) l;
-    made = λ n formed is known holds. rw (← (lowest n formed is), ← (value_count n is), le-ltb by block.count unused) (made n formed is known holds);
+    made = λ n formed is known holds. rw (lowest n formed is, le-ltb (length n.nodes) (length n.nodes) (omega arith)) (made n formed is known holds);
   }
     where
       -- so are the marks, where no node uses it

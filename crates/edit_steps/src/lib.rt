@@ -30,6 +30,7 @@ pub struct Loaded {
 pub fn state_of(block: Netlist) -> State
     ensures { result ≡ state_in block }
 {
+    // Stored straight from the other struct, an array has no proof.
     let classes = block.classes;
     State {
         variables: block.variables,
@@ -42,82 +43,61 @@ pub fn state_of(block: Netlist) -> State
 
 // The answer for a block with a node more, which can stand at its number, or the refusal of slices that are too short
 // for it.
-fn add_offered(
-    block: Netlist,
-    marks: Marks,
-    node: Node,
-    entries: usize,
-    work: &mut [u8],
-) -> Examined
-    requires { Limited block × (block.count < most_nodes) × Placed block.count node }
-    ensures { Adds block marks node entries result work.old work.new }
+fn add_offered(loaded: Loaded, node: Node, entries: usize, work: &mut [u8]) -> Examined
+    requires { Limited loaded.block × (loaded.block.count < most_nodes) × Placed loaded.block.count node }
+    ensures { Adds loaded.block loaded.marks node entries result work.old work.new }
 {
-    let count = block.count;
+    let count = loaded.block.count;
     match checker::slices_fit(count + 1, entries, work.len()) {
         Err(refusal) => checker::refused(refusal),
         Ok(()) => {
             nodes::node_families(work, count, node);
-            let longer = netlists::with_node(block, node);
-            checker::read_marks(longer, marks::with_last(longer, marks, work))
+            let longer = netlists::with_node(loaded.block, node);
+            checker::read_marks(longer, marks::with_last(longer, loaded.marks, work))
         }
     }
 }
 
 // A new node at the end of a block: its record is judged before both slices.
-fn add_node(block: Netlist, marks: Marks, bytes: &[u8], entries: usize, work: &mut [u8]) -> Examined
-    requires { Limited block }
-    ensures { Changes block marks (Edits.add bytes.now) entries result work.old work.new }
+fn add_node(loaded: Loaded, bytes: &[u8], entries: usize, work: &mut [u8]) -> Examined
+    requires { Limited loaded.block }
+    ensures { Changes loaded.block loaded.marks (Edits.add bytes.now) entries result work.old work.new }
 {
-    match edit_parts::offered(bytes, block.variables, block.count) {
+    match edit_parts::offered(bytes, loaded.block.variables, loaded.block.count) {
         Err(refusal) => checker::refused(refusal),
-        Ok(node) => add_offered(block, marks, node, entries, work),
+        Ok(node) => add_offered(loaded, node, entries, work),
     }
 }
 
 // ---- a node removed
 
-// A node removed from a block that both slices hold, where `by` is the lowest node that uses it: 14 where there is one;
-// and only then does anything move.
-fn remove_if_unused(
-    block: Netlist,
-    marks: Marks,
-    removed: usize,
-    by: usize,
-    work: &mut [u8],
-) -> Examined
-    requires limited { Limited block × (removed < block.count) × (256 * block.count ≤ length work.old) }
-    requires by_value { (n : Records.Netlist) → WellFormed n → block ≡ flat_of n →
-        by ≡ Edits.lowest_user removed n.nodes }
-    ensures { RemovesUnused block marks removed result work.old work.new }
+// A node removed from a block that both slices hold: 14 with the lowest node that uses it, where there is one; and only
+// else does anything move.
+fn remove_if_unused(loaded: Loaded, removed: usize, work: &mut [u8]) -> Examined
+    requires { Limited loaded.block × (removed < loaded.block.count) × (256 * loaded.block.count ≤ length work.old) }
+    ensures { RemovesUnused loaded.block loaded.marks removed result work.old work.new }
 {
-    let count = block.count;
-    if by < count {
+    let count = loaded.block.count;
+    if let Some(by) = edit_parts::lowest_user(loaded.block, removed) {
         return checker::refused(Reason::StillNamed.at(by));
     }
     edit_parts::move_down(work, removed, count);
-    let fewer = marks::without_marks(marks, removed, count);
-    checker::read_marks(edit_parts::without_node(block, removed), fewer)
+    let fewer = marks::without_marks(loaded.marks, removed, count);
+    checker::read_marks(edit_parts::without_node(loaded.block, removed), fewer)
 }
 
 // A node removed: 12, then both slices for the nodes that the block has, then 14 where another node uses it.
-fn remove_node(
-    block: Netlist,
-    marks: Marks,
-    removed: usize,
-    entries: usize,
-    work: &mut [u8],
-) -> Examined
-    requires { Limited block }
-    ensures { Changes block marks (Edits.remove removed) entries result work.old work.new }
+fn remove_node(loaded: Loaded, removed: usize, entries: usize, work: &mut [u8]) -> Examined
+    requires { Limited loaded.block }
+    ensures { Changes loaded.block loaded.marks (Edits.remove removed) entries result work.old work.new }
 {
-    let count = block.count;
+    let count = loaded.block.count;
     if count <= removed {
         return checker::refused(Reason::NoSuchNode.at(removed));
     }
-    let by = edit_parts::lowest_user(block, removed);
     match checker::slices_fit(count, entries, work.len()) {
         Err(refusal) => checker::refused(refusal),
-        Ok(()) => remove_if_unused(block, marks, removed, by, work),
+        Ok(()) => remove_if_unused(loaded, removed, work),
     }
 }
 
@@ -130,16 +110,11 @@ pub fn change(loaded: Loaded, edit: Edit, bytes: &[u8], entries: usize, work: &m
     ensures { Changes loaded.block loaded.marks (edit_of edit bytes.now) entries result
         work.old work.new }
 {
-    let block = loaded.block;
-    let marks = loaded.marks;
-    if MOST_VARIABLES < block.variables {
-        return checker::refused(Reason::OverLimit.at(block.count));
-    }
-    if MOST_NODES < block.count {
-        return checker::refused(Reason::OverLimit.at(block.count));
+    if MOST_VARIABLES < loaded.block.variables || MOST_NODES < loaded.block.count {
+        return checker::refused(Reason::OverLimit.at(loaded.block.count));
     }
     match edit {
-        Edit::Add => add_node(block, marks, bytes, entries, work),
-        Edit::Remove(node) => remove_node(block, marks, node, entries, work),
+        Edit::Add => add_node(loaded, bytes, entries, work),
+        Edit::Remove(node) => remove_node(loaded, node, entries, work),
     }
 }

@@ -13,7 +13,7 @@ ghost use Rattle.edit_rules.specs.Meaning.{edit_of};
 ghost use Rattle.held_blocks.specs.Held.{IsHeld};
 ghost use Rattle.edit_lines.specs.Asks.{changes, asks_in};
 ghost use Rattle.edit_lines.specs.Meaning.{asks_of, Within};
-ghost use Rattle.edit_turns.specs.Turns.{Standing, begun, one_more, failed};
+ghost use Rattle.edit_turns.specs.Turns.{Standing, begun, failed};
 ghost use Rattle.edit_turns.specs.Meaning.{Stands, Answers, turned_of, unchanged_of};
 
 use checker::Examined;
@@ -52,7 +52,7 @@ pub struct Obeyed {
 
 // ---- the start
 
-// An answer of nothing, which stands where a block is refused.
+// An answer of nothing: what `begin_with` puts in the turn where a block is refused, since a turn has an answer.
 fn no_answer() -> Answer {
     Answer {
         variables: 0,
@@ -71,8 +71,6 @@ pub fn begin_with(opened: Examined) -> Told
     ensures refused { (k p : ℕ) → reply_of result.reply ≡ refused k p → result.turn.faulty ≡ true }
 {
     let reply = opened.reply;
-    let netlist = opened.netlist;
-    let marks = opened.marks;
     let mut answer = no_answer();
     let mut faulty = true;
     if let Ok(its) = reply {
@@ -80,8 +78,8 @@ pub fn begin_with(opened: Examined) -> Told
         faulty = false;
     }
     let turn = Turn {
-        netlist,
-        marks,
+        netlist: opened.netlist,
+        marks: opened.marks,
         answer,
         faulty,
         made: 0,
@@ -102,46 +100,31 @@ pub fn begin(bytes: &[u8], work: &mut [u8; MOST_WORK]) -> Told
 // ---- a line
 
 // Something could not be obeyed: the block stays as it is.
-pub fn at_fault(turn: Turn) -> Turn
+pub fn at_fault(mut turn: Turn) -> Turn
     ensures { (s : Standing) (work : List ℕ) → Stands s turn work → Stands (failed s) result work }
 {
-    let mut next = turn;
-    next.faulty = true;
-    next
-}
-
-// One more edit made; the highest number stays as it is.
-fn one_more(count: usize) -> usize
-    ensures { result ≡ one_more count }
-{
-    if count == usize::MAX {
-        return count;
-    }
-    count + 1
+    turn.faulty = true;
+    turn
 }
 
 // The turn once an edit gave this: its reply, and the netlist and its marks as they then are.
 fn turned(turn: Turn, changed: Examined) -> Turn
     ensures { result ≡ turned_of turn changed }
 {
-    let netlist = changed.netlist;
-    let marks = changed.marks;
-    let reply = changed.reply;
-    let before = turn.answer;
-    match reply {
+    let next = Turn {
+        netlist: changed.netlist,
+        marks: changed.marks,
+        ..turn
+    };
+    match changed.reply {
         Err(_) => Turn {
-            netlist,
-            marks,
-            answer: before,
             faulty: true,
-            made: turn.made,
+            ..next
         },
         Ok(answer) => Turn {
-            netlist,
-            marks,
             answer,
-            faulty: turn.faulty,
-            made: one_more(turn.made),
+            made: next.made.saturating_add(1),
+            ..next
         },
     }
 }
@@ -158,21 +141,18 @@ fn change(
     ensures { (s : Standing) → Stands s turn work.old →
         Answers s (changes (edit_of edit (take count bytes.now))) result work.new }
 {
-    let netlist = turn.netlist;
-    let marks = turn.marks;
-    let whole: &[u8] = bytes;
-    let changed = held_blocks::edit_held(netlist, marks, edit, &whole[..count], work);
-    let reply = changed.reply;
-    let turn = turned(turn, changed);
-    Told { turn, reply }
+    let changed = held_blocks::edit_held(turn.netlist, turn.marks, edit, &bytes[..count], work);
+    Told {
+        turn: turned(turn, changed),
+        reply: changed.reply,
+    }
 }
 
 // The block as it is, and its answer.
 fn unchanged(turn: Turn) -> Told
     ensures { result ≡ unchanged_of turn }
 {
-    let answer = turn.answer;
-    let reply = Ok(answer);
+    let reply = Ok(turn.answer);
     Told { turn, reply }
 }
 
@@ -182,18 +162,11 @@ fn answer_to(turn: Turn, asked: Asked, line: &[u8], work: &mut [u8; MOST_WORK]) 
     ensures { (s : Standing) → Stands s turn work.old →
         Answers s (asks_of asked line.now) result work.new }
 {
-    let ask = asked.ask;
-    let own = asked.own;
-    match ask {
-        Ask::Add(count) => change(turn, Edit::Add, &own, count, work),
-        Ask::Remove(node) => change(turn, Edit::Remove(node), &own, 0, work),
-        Ask::NoRecord(_) => unchanged(at_fault(turn)),
-        Ask::NoNumber => unchanged(at_fault(turn)),
-        Ask::NoEdit => unchanged(at_fault(turn)),
-        Ask::Nothing => unchanged(turn),
-        Ask::List => unchanged(turn),
-        Ask::Write(_, _) => unchanged(turn),
-        Ask::Quit => unchanged(turn),
+    match asked.ask {
+        Ask::Add(count) => change(turn, Edit::Add, &asked.own, count, work),
+        Ask::Remove(node) => change(turn, Edit::Remove(node), &asked.own, 0, work),
+        Ask::NoRecord(_) | Ask::NoNumber | Ask::NoEdit => unchanged(at_fault(turn)),
+        Ask::Nothing | Ask::List | Ask::Write(_, _) | Ask::Quit => unchanged(turn),
     }
 }
 

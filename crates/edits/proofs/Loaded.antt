@@ -1,27 +1,24 @@
 -- A block that is loaded by value with its marks: its fields one node record after the other,
--- and of records that are copied from a slice, once all are, the block that the contracts speak of.
+-- and of the records at the front of a slice the block that the contracts speak of.
 -- Its state is the one that was handed in, and of an open block it is the netlist by value, with the netlist's marks.
 -- By laws of lists of any length, so that no array is unfolded. Assumes nothing.
-use Prim.Native.Nat.{ℕ, zero, suc, ◌+◌, ◌≤◌, ◌<◌, min}
+use Prim.Native.Nat.{ℕ, ◌+◌, ◌<◌, min}
 use mathlib.Core.Path.{◌≡◌, refl, sym, ◌∙◌}
 use mathlib.Core.List.{List}
 use native.Mathlib.Nat.{min-eq_left}
 use native.Mathlib.Numerals.{add-one}
 use native.Mathlib.Omega.{arith}
-use lib.ListN.{length, get_or, take, drop, set, replicate, length-take}
-use lib.Seq.{length-take-le, take_all, take-take, take-suc, take_at}
+use lib.ListN.{length, get_or, take, set, replicate, length-take}
+use lib.Seq.{length-take-le, take_all, take-take, take-suc}
 use Rattle.rules.specs.declared.NodeRecord.{NodeRecord}
 use Rattle.rules.specs.Records as Records
 use Rattle.rules.specs.Records.{most_nodes}
-use Rattle.rules.specs.Lists.{tabulate}
 use Rattle.rules.specs.Slices.{node_records}
-use Rattle.rule_laws.proofs.Packing.{tabulate_length}
 use Rattle.rule_laws.proofs.Marks.{record_nodes, record_settled, record_glitch}
 use Rattle.netlists.specs.Netlists.{flat_of}
 use Rattle.netlists.proofs.Netlists.{padded_none, made_set}
 use Rattle.marks.specs.Marks.{flat_marks, marks_in, marks_of}
-use Rattle.checker.specs.Work.{unwritten, no_entries, stored}
-use Rattle.checker.proofs.Stored.{stored_front, no_entries_length}
+use Rattle.checker.specs.Work.{unwritten}
 use Rattle.edit_rules.specs.declared.State.{State}
 use Rattle.edit_rules.specs.Meaning.{state_of, IsOpen}
 use Rattle.edit_steps.specs.Changes.{state_in}
@@ -41,31 +38,21 @@ module _ {A : Type 0} (rest : A) (field : NodeRecord → A) (records : List Node
       rw (add-one k, take-suc records k unwritten h)
       (sym (made_set field most_nodes rest (take k records) (get_or records k unwritten) (omega arith)) ∙ rw many)
 
--- ---- records that are copied to an array
+-- ---- of a slice
 
-module _ (records : List NodeRecord) where
-  -- the first k of them
-  abbrev pub copied : (k : ℕ) → List NodeRecord
-  copied = stored (λ i. get_or records i unwritten) no_entries
-
-  tabulated : (k : ℕ) → k ≤ length records → tabulate (λ i. get_or records i unwritten) k ≡ take k records
-  unfolding tabulate
-  tabulated zero h = refl
-  tabulated (suc k) h = rw (tabulated k (omega arith), take-suc records k unwritten (omega arith))
-
-  copied_front : (k : ℕ) → k ≤ length records → k ≤ most_nodes → take k (copied k) ≡ take k records
-  copied_front k h few =
-      rw (stored_front (λ i. get_or records i unwritten) no_entries k (omega (arith, no_entries_length)))
-      (take_at (tabulate (λ i. get_or records i unwritten) k) (drop k no_entries) k (tabulate_length (λ i. get_or records i unwritten) k) ∙ tabulated k h)
+-- the first k of some records are all of these
+pub loaded_first : (state : State) (k : ℕ) (records : List NodeRecord) → loaded_from state (length (take k records)) (take k records) ≡ loaded_from state k records
+unfolding loaded_from column
+loaded_first state k records = rw (take_all (length (take k records)) (take k records) (omega arith)) refl
 
 module _ (state : State) (records : List NodeRecord) where
-  -- as many are copied as the block takes of them
-  pub copied_all : loaded_from state (min (min state.count most_nodes) (length records)) (copied records (min (min state.count most_nodes) (length records))) ≡ loaded_of state records
+  -- as many are taken as the block takes of them
+  pub loaded_all : loaded_from state (min (min state.count most_nodes) (length records)) records ≡ loaded_of state records
   unfolding loaded_from column
-  copied_all =
+  loaded_all =
       let m = min state.count most_nodes in
       let k = min m (length records) in
-      rw (copied_front records k (omega arith) (omega arith), sym (take-take k m records (omega arith)), take_all k (take m records) (rw length-take (omega arith)))
+      rw (sym (take-take k m records (omega arith)), take_all k (take m records) (rw length-take (omega arith)))
 
   -- ---- a block that is loaded
 

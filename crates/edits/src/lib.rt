@@ -4,7 +4,7 @@
 // programs and the benchmark; `write_bytes` and `write_words` load an open block by it.
 #![tactic(auto)]
 
-ghost use Rattle.std.specs.Prelude.{◌≡◌, ◌↔◌, ℕ, ◌≤◌, min, length};
+ghost use Rattle.std.specs.Prelude.{◌≡◌, ◌↔◌, ℕ, ◌≤◌, length};
 ghost use Rattle.rules.specs.Records as Records;
 ghost use Rattle.rules.specs.Records.{WellFormed, written_out, most_nodes};
 ghost use Rattle.rules.specs.Slices.{nodes_after, work_after, reply};
@@ -32,39 +32,29 @@ pub struct Edited {
 
 // ---- a block by value
 
-// How many node records are loaded: no more than the state says, than there may be, and than the slice has.
-fn to_load(state: State, entries: usize) -> usize
-    ensures { result ≡ min (min state.count most_nodes) entries }
-{
-    let count = state.count;
-    let mut most = count;
-    if MOST_NODES < most {
-        most = MOST_NODES;
-    }
-    if entries < most {
-        most = entries;
-    }
-    most
-}
-
 // The block of a state, by value with its marks, from the first of some node records.
 pub fn loaded_of(state: State, records: [NodeRecord; MOST_NODES], count: usize) -> Loaded
     requires { count ≤ most_nodes }
     ensures { result ≡ loaded_from state count records }
 {
-    let classes = state.classes;
+    loaded_by(state, &records[..count])
+}
+
+// The block of a state, by value with its marks, from all of some node records.
+fn loaded_by(state: State, records: &[NodeRecord]) -> Loaded
+    requires { length records.now ≤ most_nodes }
+    ensures { result ≡ loaded_from state (length records.now) records.now }
+{
     let mut nodes = [netlists::blank_node(); MOST_NODES];
     let mut settled = [0u16; MOST_NODES];
     let mut glitch = [0u16; MOST_NODES];
-    let mut i = 0;
-    while i < count {
-        let taken = records[i];
-        let node = taken.node;
-        nodes[i] = node;
-        settled[i] = taken.settled;
-        glitch[i] = taken.glitch;
-        i += 1;
+    for (i, record) in records.iter().enumerate() {
+        nodes[i] = record.node;
+        settled[i] = record.settled;
+        glitch[i] = record.glitch;
     }
+    // Stored straight from the other struct, an array has no proof.
+    let classes = state.classes;
     let block = Netlist {
         variables: state.variables,
         count: state.count,
@@ -75,18 +65,13 @@ pub fn loaded_of(state: State, records: [NodeRecord; MOST_NODES], count: usize) 
     Loaded { block, marks }
 }
 
-// The same, from the node records at the front of the slice.
+// The same, from the node records at the front of the slice: no more than the state says, than there may be, and than
+// the slice has.
 fn load(state: State, nodes: &[NodeRecord]) -> Loaded
     ensures { result ≡ loaded_of state nodes.now }
 {
-    let count = to_load(state, nodes.len());
-    let mut records = checker::no_entries();
-    let mut i = 0;
-    while i < count {
-        records[i] = checker::node_at(nodes, i);
-        i += 1;
-    }
-    loaded_of(state, records, count)
+    let count = state.count.min(MOST_NODES).min(nodes.len());
+    loaded_by(state, &nodes[..count])
 }
 
 // ---- what a call gives
@@ -95,9 +80,10 @@ fn load(state: State, nodes: &[NodeRecord]) -> Loaded
 fn opened_of(examined: Examined) -> Edited
     ensures { result ≡ opened_of examined }
 {
-    let reply = examined.reply;
-    let state = edit_steps::state_of(examined.netlist);
-    Edited { reply, state }
+    Edited {
+        reply: examined.reply,
+        state: edit_steps::state_of(examined.netlist),
+    }
 }
 
 fn edited_of(state: State, examined: Examined) -> Edited

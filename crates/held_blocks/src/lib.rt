@@ -51,10 +51,9 @@ pub fn edit_held(
         marks,
     };
     let changed = edit_steps::change(loaded, edit, bytes, MOST_NODES, work);
-    let reply = changed.reply;
-    match reply {
+    match changed.reply {
         Err(_) => Examined {
-            reply,
+            reply: changed.reply,
             netlist,
             marks,
         },

@@ -1,9 +1,9 @@
 // A trial of `check`, `check_pairs`, `open` and `edit` over node records by value, of which the first are lent: what
-// stands in both lent slices before, from where on it still stands there after, and one of the records, read through a
-// lent slice. Touches nothing but what it is given. For the test programs and the benchmark.
+// stands in both lent slices before, from where on it still stands there after, and one of the records. Touches nothing
+// but what it is given. For the test programs and the benchmark.
 #![tactic(auto)]
 
-ghost use Rattle.std.specs.Prelude.{◌≡◌, ◌++◌, ◌<◌, min, eqb, length, get_or, take, drop};
+ghost use Rattle.std.specs.Prelude.{◌≡◌, ◌++◌, ℕ, Bool, ◌<◌, min, eqb, length, get_or, take, drop};
 ghost use Rattle.rules.specs.Lists.{tabulate};
 ghost use Rattle.rules.specs.Records as Records;
 ghost use Rattle.rules.specs.Records.{most_nodes};
@@ -52,10 +52,8 @@ fn byte_before(k: usize) -> u8
 pub fn fill(work: &mut [u8])
     ensures { work.new ≡ tabulate byte_before (length work.old) }
 {
-    let mut k = 0;
-    while k < work.len() {
-        work[k] = byte_before(k);
-        k += 1;
+    for (k, byte) in work.iter_mut().enumerate() {
+        *byte = byte_before(k);
     }
 }
 
@@ -63,24 +61,33 @@ fn is_before(held: NodeRecord) -> bool
     ensures { result ≡ is_before held }
 {
     let node = held.node;
+    // Grouped as in the definition: the proof takes the tests one by one.
     node.kind == 9
         && (node.first == 8
             && (node.second == 7 && (node.set == 6 && (held.settled == 5 && held.glitch == 4))))
+}
+
+// The lowest number from which on, up to a bound, a test holds.
+fn kept_from<F: Fn(usize) -> bool>(bound: usize, same: F) -> usize
+    requires { (k : ℕ) → k < bound → F.pre same k }
+    ensures { (test : ℕ → Bool) →
+        ((k : ℕ) (b : Bool) → k < bound → F.post same k b → b ≡ test k) →
+        result ≡ kept_from test bound }
+{
+    let mut from = 0;
+    for k in 0..bound {
+        if !same(k) {
+            from = k + 1;
+        }
+    }
+    from
 }
 
 // The lowest number from which on all entries are as they were before.
 pub fn entries_kept_from(nodes: [NodeRecord; MOST_NODES]) -> usize
     ensures { result ≡ kept_from (λ k. is_before (get_or nodes k entry_before)) most_nodes }
 {
-    let mut from = 0;
-    let mut k = 0;
-    while k < MOST_NODES {
-        if !is_before(nodes[k]) {
-            from = k + 1;
-        }
-        k += 1;
-    }
-    from
+    kept_from(MOST_NODES, |k| is_before(nodes[k]))
 }
 
 // The lowest number from which on all work bytes are as they were before.
@@ -88,41 +95,16 @@ pub fn work_kept_from(work: &[u8]) -> usize
     ensures { result ≡
         kept_from (λ k. eqb (get_or work.now k 0) (byte_before k)) (length work.now) }
 {
-    let mut from = 0;
-    let mut k = 0;
-    while k < work.len() {
-        if work[k] != byte_before(k) {
-            from = k + 1;
-        }
-        k += 1;
-    }
-    from
+    kept_from(work.len(), |k| work[k] == byte_before(k))
 }
 
-// ---- a check
+// ---- a check; each call below has a contract of its own, so that a function of all four would be no plainer
 
-// What a check leaves: the reply, and all entries.
+// What a check with one probe or two leaves: the reply, and all entries.
 #[derive(Clone, Copy)]
-pub struct Seen {
-    pub reply: Result<Answer, Refusal>,
+pub struct Seen<R: Copy> {
+    pub reply: R,
     pub nodes: [NodeRecord; MOST_NODES],
-}
-
-// What a check with two probes leaves: the reply, and all entries.
-#[derive(Clone, Copy)]
-pub struct SeenPairs {
-    pub reply: Result<PairsAnswer, Refusal>,
-    pub nodes: [NodeRecord; MOST_NODES],
-}
-
-// How many of 200 entries are lent.
-pub fn at_most(entries: usize) -> usize
-    ensures { result ≡ min entries most_nodes }
-{
-    if entries < MOST_NODES {
-        return entries;
-    }
-    MOST_NODES
 }
 
 // Checks a block over the first `entries` of 200 entries (or over all where there are not so many), which hold `nodes`.
@@ -132,7 +114,7 @@ pub fn check_over(
     entries: usize,
     nodes: [NodeRecord; MOST_NODES],
     work: &mut [u8],
-) -> Seen
+) -> Seen<Result<Answer, Refusal>>
     ensures reply { reply_of result.reply ≡
         reply bytes.now (min entries most_nodes) (length work.old) }
     ensures nodes { result.nodes ≡
@@ -141,7 +123,7 @@ pub fn check_over(
     ensures work { work.new ≡
         work_after bytes.now (min entries most_nodes) work.old }
 {
-    let lent = at_most(entries);
+    let lent = entries.min(MOST_NODES);
     let mut kept = nodes;
     let reply = checker::check(bytes, &mut kept[..lent], work);
     Seen { reply, nodes: kept }
@@ -154,7 +136,7 @@ pub fn check_pairs_over(
     entries: usize,
     nodes: [NodeRecord; MOST_NODES],
     work: &mut [u8],
-) -> SeenPairs
+) -> Seen<Result<PairsAnswer, Refusal>>
     ensures reply { pairs_reply_of result.reply ≡
         pairs_reply bytes.now (min entries most_nodes) (length work.old) limit }
     ensures nodes { result.nodes ≡
@@ -163,15 +145,15 @@ pub fn check_pairs_over(
     ensures work { work.new ≡
         work_after bytes.now (min entries most_nodes) work.old }
 {
-    let lent = at_most(entries);
+    let lent = entries.min(MOST_NODES);
     let mut kept = nodes;
     let reply = pairs::check_pairs(bytes, &mut kept[..lent], work, limit);
-    SeenPairs { reply, nodes: kept }
+    Seen { reply, nodes: kept }
 }
 
 // ---- an open block
 
-// What opening a block or an edit of it leaves: what the call gives, and all entries.
+// What opening a block or an edit of it leaves: what the call gives, and all entries. Callers read its field `edited`.
 #[derive(Clone, Copy)]
 pub struct SeenEdit {
     pub edited: Edited,
@@ -195,7 +177,7 @@ pub fn open_over(
     ensures work { work.new ≡
         work_after bytes.now (min entries most_nodes) work.old }
 {
-    let lent = at_most(entries);
+    let lent = entries.min(MOST_NODES);
     let mut kept = nodes;
     let edited = edits::open(bytes, &mut kept[..lent], work);
     SeenEdit {
@@ -232,7 +214,7 @@ pub fn edit_over(
         IsOpen n state (take (min entries most_nodes) nodes) work.old →
         work.new ≡ bytes_after n (edit_of edit bytes.now) (min entries most_nodes) work.old }
 {
-    let lent = at_most(entries);
+    let lent = entries.min(MOST_NODES);
     let mut kept = nodes;
     let edited = edits::edit(state, edit, bytes, &mut kept[..lent], work);
     SeenEdit {
@@ -243,10 +225,10 @@ pub fn edit_over(
 
 // ---- one record
 
-// The record at one of the entries that a check leaves, read through a lent slice.
+// The record at one of the entries that a check leaves.
 pub fn entry_at(nodes: [NodeRecord; MOST_NODES], i: usize) -> NodeRecord
     requires { i < most_nodes }
     ensures { result ≡ get_or nodes i unwritten }
 {
-    checker::node_at(&nodes, i)
+    nodes[i]
 }

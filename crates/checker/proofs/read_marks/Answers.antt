@@ -4,4 +4,4 @@ use Rattle.checker.proofs.Core.{looks}
 use Rattle.checker.proofs.read_marks.Goals as goal
 
 pub returns : goal.returns
-returns c = looks _ _ _ _ c.lowest_marked-settled.ensures c.lowest_marked-glitch.ensures
+returns c = looks _ _ _ _ c.lowest_marked.ensures c.lowest_marked-2.ensures

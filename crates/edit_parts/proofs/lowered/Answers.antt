@@ -7,6 +7,6 @@ pub returns-then-removed-operand : goal.returns-then-removed-operand
 unfolding lowered
 returns-then-removed-operand c = rw (lt-ltb _ _ c.if-removed-operand.true)
 
-pub returns : goal.returns
+pub returns-else-removed-operand : goal.returns-else-removed-operand
 unfolding lowered
-returns c = rw (le-ltb _ _ c.if-removed-operand.false)
+returns-else-removed-operand c = rw (le-ltb _ _ c.if-removed-operand.false)

@@ -1,5 +1,5 @@
--- `edit_parts::renumbered` meets its contract. The loop's invariant: the first j operands follow, and the others stand.
--- The measure is the number of operands left. Assumes nothing.
+-- `edit_parts::renumbered` meets its contract. The loop's invariant: the operands before the index follow, and the
+-- others stand. Assumes nothing.
 use Prim.Native.Nat.{ℕ}
 use mathlib.Core.Path.{◌≡◌, sym, ap, ◌∙◌}
 use mathlib.Core.List.{List, map}
@@ -32,10 +32,10 @@ followed removed cell =
 pub returns : goal.returns
 unfolding entry
 returns c cell e =
-    let loop = c.loop-j in
+    let loop = c.loop-operand in
     let own = c.operands_of-operands.result.at in
     let f = lowered c.args.removed in
-    let all = all_done 0 own (map f own) loop.operands.at loop.j (sym (length-map own f)) (λ k h.
-    let none : get_or own k 0 ≡ 0 = get_or-eq_default own 0 {n = k} (omega (arith, c.operands_of-operands.ensures.few.1)) in
-    none ∙ sym (follow_at _ own k ∙ ap f none ∙ lowered_low _ 0 (omega arith))) loop.invariant.1 in
+    let all = all_done 0 own (map f own) loop.operand-items loop.operand-index (sym (length-map own f)) (λ k h.
+    let none : get_or own k 0 ≡ 0 = get_or-eq_default own 0 {n = k} (omega arith) in
+    none ∙ sym (follow_at _ own k ∙ ap f none ∙ lowered_low _ 0 (omega arith))) loop.invariant in
     c.node_of.ensures ∙ rw (all, (c.operands_of-operands.ensures.count_value cell e).1, e) (followed _ cell)

@@ -1,14 +1,10 @@
--- `edit_parts::renumbered` meets its contract. The loop's invariant: the first j operands follow, and the others stand.
--- The measure is the number of operands left. Assumes nothing.
-use Prim.Native.Nat.{◌-◌, ◌≤◌}
+-- `edit_parts::renumbered` meets its contract. The loop's invariant: the operands before the index follow, and the
+-- others stand. Assumes nothing.
 use mathlib.Core.List.{map}
-use Rattle.rules.specs.Records.{most_body}
 use Rattle.netlists.proofs.Without.{Becoming}
 use Rattle.edit_rules.specs.Edits.{lowered}
 use Rattle.edit_parts.proofs.renumbered.Given as goal
 
-abbrev pub invariant-loop-j : goal.invariant-loop-j
-invariant-loop-j l = (l.j ≤ most_body) × Becoming 0 l.initial.operands.at (map (lowered l.removed) l.initial.operands.at) l.operands.at l.j
-
-abbrev pub decreases-loop-j : goal.decreases-loop-j
-decreases-loop-j l = most_body - l.j
+abbrev pub invariant-loop-operand : goal.invariant-loop-operand
+invariant-loop-operand l =
+    Becoming 0 l.initial.operand-items (map (lowered l.removed) l.initial.operand-items) l.operand-items l.operand-index

@@ -10,7 +10,7 @@ use Rattle.edit_steps.proofs.add_node.Goals as goal
 
 pub add_offered-requires : goal.add_offered-requires
 add_offered-requires c =
-    let o : OffersNode (offered_to c.args.block c.args.bytes.now) c.in-Node.node =
+    let o : OffersNode (offered_to c.args.loaded.block c.args.bytes.now) c.in-Node.node =
     offers_node _ _ (ap offered_of (sym c.in-Node.is) ∙ c.offered.ensures) in
     let limited = c.requires in
     (limited, offered_room _ _ _ _ _ _ o.is, rw o.its (offered_placed _ _ _ _ _ _ o.is limited.variables))

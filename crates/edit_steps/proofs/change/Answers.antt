@@ -1,18 +1,18 @@
 -- `edit_steps::change` meets its contract: a state beyond the limits is nobody's, and else the edit is the addition
 -- or the removal. Assumes nothing.
+use mathlib.Core.Logic.{⊎_elim}
 use native.Mathlib.Omega.{arith}
 use Rattle.edit_steps.proofs.Changing.{state_count, state_variables, refused_early}
 use Rattle.edit_steps.proofs.change.Goals as goal
 
-pub returns-then-block-gt-MOST_VARIABLES : goal.returns-then-block-gt-MOST_VARIABLES
-returns-then-block-gt-MOST_VARIABLES c =
-    let over = c.if-block-gt-MOST_VARIABLES.true in
-    refused_early _ _ _ _ _ _ _ (λ n formed s. absurd (omega (arith, over, state_variables n s, formed.few_variables))) c.refused.ensures.0 c.refused.ensures.1
-
-pub returns-then-block-gt-MOST_NODES : goal.returns-then-block-gt-MOST_NODES
-returns-then-block-gt-MOST_NODES c =
-    let over = c.if-block-gt-MOST_NODES.true in
-    refused_early _ _ _ _ _ _ _ (λ n formed s. absurd (omega (arith, over, state_count n s, formed.few_nodes))) c.refused-then-block-gt-MOST_NODES.ensures.0 c.refused-then-block-gt-MOST_NODES.ensures.1
+pub returns-then-loaded-gt-MOST_VARIABLES : goal.returns-then-loaded-gt-MOST_VARIABLES
+returns-then-loaded-gt-MOST_VARIABLES c =
+    refused_early _ _ _ _ _ _ _
+    (λ n formed s.
+    absurd
+    (⊎_elim (λ over. omega (arith, over, state_variables n s, formed.few_variables)) (λ over. omega (arith, over.1, state_count n s, formed.few_nodes))
+    c.then-loaded-gt-MOST_VARIABLES.either))
+    c.refused.ensures.0 c.refused.ensures.1
 
 pub returns-in-Add : goal.returns-in-Add
 returns-in-Add c =

@@ -3,12 +3,13 @@
 use Rattle.edit_steps.proofs.Removing.{still_used, removed_unused}
 use Rattle.edit_steps.proofs.remove_if_unused.Goals as goal
 
-pub returns-then-by-count : goal.returns-then-by-count
-returns-then-by-count c = still_used _ _ _ _ c.requires.by_value _ _ c.if-by-count.true c.refused.ensures.0 c.refused.ensures.1
+pub returns-in-Some : goal.returns-in-Some
+returns-in-Some c =
+    still_used _ _ _ _ _ _ (λ n formed e. rw c.in-Some.is at (c.lowest_user.ensures n formed e)) c.refused.ensures.0 c.refused.ensures.1
 
 pub returns : goal.returns
 returns c =
-    let (limited, there, room) = c.requires.limited in
-    removed_unused _ _ _ _ c.requires.by_value _ _ _ _ _ c.if-by-count.false there limited.nodes room
+    let (limited, there, room) = c.requires in
+    removed_unused _ _ _ _ _ _ _ _ (λ n formed e. rw c.in_default.is at (c.lowest_user.ensures n formed e)) there limited.nodes room
     c.without_node.ensures.fewer.1 c.without_node.ensures.value c.without_marks-fewer.ensures c.move_down.ensures
     c.read_marks.ensures

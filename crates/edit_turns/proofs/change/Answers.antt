@@ -12,5 +12,5 @@ returns c =
     let changed = c.edit_held-changed.ensures in
     let long : length c.args.work.now ≡ most_work = search rules in
     λ s stands.
-    rw c.turned-turn.ensures
+    rw c.turned.ensures
     (turned_answers s _ _ _ _ stands _ (rw long at (changed.reply s.netlist stands.is)) (rw long at (changed.held s.netlist stands.is)))

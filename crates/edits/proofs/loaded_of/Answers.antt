@@ -1,26 +1,7 @@
--- `edits::loaded_of` meets its contract. The loop's invariant: each array has the field of so many of the records,
--- and zeros beyond them. The measure is what is left of the records. Assumes nothing.
-use mathlib.Core.Path.{◌≡◌, sym}
-use native.Mathlib.Omega.{arith}
-use Rattle.edits.specs.Edited.{loaded_from}
-use Rattle.edits.proofs.Loaded.{column_none, column_more}
+-- `edits::loaded_of` meets its contract: what is loaded is the first of the records (`Loaded`). Assumes nothing.
+use mathlib.Core.Path.{◌∙◌}
+use Rattle.edits.proofs.Loaded.{loaded_first}
 use Rattle.edits.proofs.loaded_of.Goals as goal
 
-pub loop-i-init : goal.loop-i-init
-loop-i-init c = (omega arith, rw c.blank_node-nodes.ensures (sym (column_none _ _ _)), sym (column_none _ _ _), sym (column_none _ _ _))
-
-pub loop-i-preserved : goal.loop-i-preserved
-loop-i-preserved c =
-    let (_, in-nodes, in-settled, in-glitch) = c.loop-i.invariant in (
-      omega arith,
-      rw in-nodes (sym (column_more _ _ _ _ (omega arith) (omega arith))),
-      rw in-settled (sym (column_more _ _ _ _ (omega arith) (omega arith))),
-      rw in-glitch (sym (column_more _ _ _ _ (omega arith) (omega arith))),
-    )
-
 pub returns : goal.returns
-unfolding loaded_from
-returns c =
-    let (_, in-nodes, in-settled, in-glitch) = c.loop-i.invariant in
-    let end : c.loop-i.i ≡ c.args.count = omega arith in
-    rw (in-nodes, in-settled, in-glitch, end)
+returns c = c.loaded_by.ensures ∙ loaded_first _ _ _

@@ -7,7 +7,6 @@ use native.Mathlib.Numerals.{add-one}
 use native.Mathlib.Omega.{arith}
 use lib.ListN.{length, take, set}
 use lib.Seq.{take_all, take-suc-set}
-use borrow.Author.Rules.{rules}
 use Rattle.rules.specs.Lists.{tabulate}
 use Rattle.test_trial.specs.Before.{byte_before}
 use Rattle.test_trial.proofs.fill.Goals as goal
@@ -24,11 +23,10 @@ filled work k n all inside long done = sym (take_all k work all) ∙ done ∙ ap
 
 pub loop-k-init : goal.loop-k-init
 unfolding tabulate
-loop-k-init c = (omega arith, refl, refl)
+loop-k-init c = refl
 
 pub loop-k-preserved : goal.loop-k-preserved
-loop-k-preserved c =
-    (search rules, search rules, next _ _ _ c.loop-k-test.true c.byte_before.ensures c.loop-k.invariant.2)
+loop-k-preserved c = next _ _ _ (omega arith) c.byte_before.ensures c.loop-k.invariant
 
 pub returns : goal.returns
-returns c = let (inside, long, done) = c.loop-k.invariant in filled _ _ _ c.loop-k-test.false inside long done
+returns c = filled _ _ _ (omega arith) (omega arith) c.loop-k.auto.work c.loop-k.invariant
