@@ -30,8 +30,8 @@ pub fn scan(netlist: Netlist, layer: usize, from: usize, work: &[u8]) -> Half
             if !is_tested(netlist.nodes[i].kind) || !suspect_maps::meets(work, part, map) {
                 continue;
             }
-            for set in order {
-                let set = usize::from(set);
+            for set in &order {
+                let set = usize::from(*set);
                 if suspect_in(work, part, classes, set) {
                     break 'nodes Half::Suspect(i, set);
                 }

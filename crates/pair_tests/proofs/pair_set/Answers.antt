@@ -18,7 +18,7 @@ returns c =
     let first = c.take_family.ensures in
     let second = c.take_family-2.ensures in
     let made = c.multiply.ensures in
-    c.first_suspect.ensures variables by.secrets by.masks
+    c.first_suspect.ensures.reported variables by
     ∙ ap (λ (bytes : List ℕ). reported variables (family_at bytes 2))
     (made
     ∙ ap (λ (bytes : List ℕ). with_family bytes 2 (product (family_at bytes 0) (family_at bytes 1)))
