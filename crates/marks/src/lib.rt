@@ -19,6 +19,7 @@ use netlists::Netlist;
 use rules::{Half, MOST_NODES};
 
 // The marks of both layers, by node number. Beyond the nodes all are 0.
+// 0 is none, and no Option: these are the marks that `rules::NodeRecord` holds (`mark_number`).
 #[derive(Clone, Copy)]
 pub struct Marks {
     pub settled: [u16; MOST_NODES],

@@ -3,8 +3,8 @@
 // Used by `pair_search`.
 #![tactic(auto)]
 
-ghost use Rattle.std.specs.Prelude.{◌≡◌, List};
-ghost use Rattle.rules.specs.Records.{Class};
+ghost use Rattle.std.specs.Prelude.{◌≡◌, List, ◌<◌, IfSome};
+ghost use Rattle.rules.specs.Records.{Class, most_sets};
 ghost use Rattle.families.specs.Parts.{HasPart, family_at, with_family};
 ghost use Rattle.suspect_sets.specs.Sets.{ByClass, report_of};
 ghost use Rattle.pair_tests.specs.Tests.{report_of_parts};
@@ -27,8 +27,9 @@ fn take_family(scratch: &mut [u8], into: usize, work: &[u8], from: usize)
 // The product is made in bytes of its own.
 pub fn pair_set(first: &[u8], p: usize, second: &[u8], q: usize, classes: Classes) -> Option<usize>
     requires { HasPart first.now p × HasPart second.now q }
-    ensures { (variables : List Class) → ByClass classes variables →
+    ensures reported { (variables : List Class) → ByClass classes variables →
         report_of result ≡ report_of_parts variables first.now p second.now q }
+    ensures is_set { IfSome result (λ A. A < most_sets) }
 {
     let mut scratch = [0u8; 3 * PART];
     take_family(&mut scratch, 0, first, p);

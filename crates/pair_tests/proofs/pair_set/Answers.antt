@@ -10,9 +10,9 @@ use Rattle.pair_tests.specs.Tests.{report_of_parts}
 use Rattle.pair_tests.proofs.Scratch.{scratch_report}
 use Rattle.pair_tests.proofs.pair_set.Goals as goal
 
-pub returns : goal.returns
+pub returns-clause-reported : goal.returns-clause-reported
 unfolding report_of_parts
-returns c =
+returns-clause-reported c =
     λ variables by.
     let args = c.args in
     let first = c.take_family.ensures in
