@@ -59,7 +59,7 @@ pub fn no_pair(looked: usize) -> Search
 
 // Looks at the pair of node `i` of one block and node `j` of another, or of the same, by the work bytes of each, after
 // `looked` pairs that were clear. Where they are not both tested (`both`) it is no pair, and where the limit is spent
-// it is not looked at. `both` is a flag beside `i` and `j`, and no Option of them: no caller of `look` has to test first.
+// it is not looked at. `both` is a flag beside `i` and `j`, and no Option of them: no caller has to test first.
 pub fn look(
     first: &[u8],
     i: usize,
