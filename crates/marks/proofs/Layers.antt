@@ -9,11 +9,10 @@ use mathlib.Core.List.{List, [], ◌∷◌, ◌++◌, map}
 use mathlib.Core.Option.{Option, none, some}
 use native.Mathlib.Numerals.{add-one}
 use native.Mathlib.Omega.{arith}
-use borrow.Author.Tests.{lt-ltb, le-ltb}
 use lib.ListN.{length, get_or, take, drop, set, replicate, length-append, length-map, length-take, length-replicate, get_or-eq_default}
 use lib.Seq.{length-take-le, take_at, take-suc, get_or-take, get_or-drop, ext_get_or}
 use Rattle.rules.specs.Lists.{without}
-use Rattle.rules.specs.Records.{input, Netlist, WellFormed, most_nodes, most_sets}
+use Rattle.rules.specs.Records.{input, Netlist, WellFormed, most_nodes}
 use Rattle.rules.specs.Families.{Family, Families, families, Finding, clear, suspect_at, tested, reported, mark, layer_marks, lowest, half}
 use Rattle.rules.specs.Slices.{mark_number, mark_of, work_bytes}
 use Rattle.rule_laws.proofs.Tests.{lt_or_le}
@@ -21,9 +20,8 @@ use Rattle.rule_laws.proofs.Halves.{NoneBefore, Lowest, lowest_says}
 use Rattle.rule_laws.proofs.Marks.{mark_written, layer_marks_length, marks_told}
 use Rattle.netlists.specs.Netlists.{padded}
 use Rattle.netlists.proofs.Netlists.{padded_same, made_set}
-use Rattle.netlists.proofs.Without.{without_before, without_behind, without_count, Becoming, none_done, next_done, all_done}
+use Rattle.netlists.proofs.Without.{without_before, without_behind, without_count, next_done, all_done}
 use Rattle.families.specs.Parts.{family_at}
-use Rattle.suspect_sets.specs.Sets.{report_of}
 use Rattle.suspects.specs.Suspects.{reports_in, found_from}
 use Rattle.suspects.proofs.Search.{reports, report_there, reports_are}
 use Rattle.marks.specs.Marks.{flat_marks, marks_in, marks_of}
@@ -129,48 +127,42 @@ module _ (n : Netlist) (layer : ℕ) (bytes : List ℕ) (i : ℕ) (h : i < lengt
   unfolding mark_number reports mark
   untested_mark e = rw (report_there n layer bytes i h, e)
 
-  module _ (A : ℕ) (is : tested (get_or n.nodes i (input 0)) ≡ true) (told : report_of A ≡ reported n.variables (family_at bytes (2 * i + layer))) where
-    report : report_of A ≡ get_or (reports_in n layer bytes) i none
-    unfolding reports mark
-    report = rw (report_there n layer bytes i h, is) told
-
-    pub reported_mark : A < most_sets → A ≡ mark_number (get_or (reports_in n layer bytes) i none)
-    unfolding mark_number report_of
-    reported_mark l = rw (← report, lt-ltb A most_sets l)
-
-    pub no_mark_lem : most_sets ≤ A → 0 ≡ mark_number (get_or (reports_in n layer bytes) i none)
-    unfolding mark_number report_of
-    no_mark_lem l = rw (← report, le-ltb A most_sets l)
+  pub tested_mark : (o : Option ℕ) → tested (get_or n.nodes i (input 0)) ≡ true → o ≡ reported n.variables (family_at bytes (2 * i + layer))
+      → mark_number o ≡ mark_number (get_or (reports_in n layer bytes) i none)
+  unfolding reports mark
+  tested_mark o e told = rw (report_there n layer bytes i h, e, ← told)
 
 -- ---- marks that move down
 
 module _ (reports : List (Option ℕ)) (removed : ℕ) where
-  -- those up to i are the marks without that of the node that is removed
-  abbrev pub Moved : List ℕ → ℕ → Type 0
-  Moved = Becoming 0 (flat_marks reports) (flat_marks (without removed reports))
+  -- before the removed one each is its own, and from there on the mark behind
+  before : (i : ℕ) → i < removed → get_or (flat_marks reports) i 0 ≡ get_or (flat_marks (without removed reports)) i 0
+  before i h =
+      flat_at reports i ∙ ap mark_number (sym (without_before none removed reports i h)) ∙ sym (flat_at (without removed reports) i)
 
-  pub none_moved : Moved (flat_marks reports) removed
-  none_moved =
-      none_done 0 _ _ removed (λ k h.
-      flat_at reports k ∙ ap mark_number (sym (without_before none removed reports k h)) ∙ sym (flat_at (without removed reports) k))
-
-  -- from there on each is the mark behind
   behind : (i : ℕ) → removed ≤ i → get_or (flat_marks reports) (suc i) 0 ≡ get_or (flat_marks (without removed reports)) i 0
   behind i h =
       flat_at reports (suc i) ∙ ap mark_number (sym (without_behind none removed reports i h)) ∙ sym (flat_at (without removed reports) i)
 
-  module _ (few : length reports ≤ most_nodes) where
-    pub next_moved : (marks : List ℕ) (i : ℕ) → removed ≤ i → i < most_nodes → Moved marks i → Moved (set marks i (get_or marks (i + 1) 0)) (i + 1)
-    next_moved marks i h l m = next_done 0 _ _ marks i _ (omega (arith, flat_length reports few)) (m.left (i + 1) (omega arith) ∙ rw add-one (behind i h)) m
-
-    pub all_moved : (marks : List ℕ) (last : ℕ) → length reports ≡ suc last → removed ≤ last → Moved marks last → set marks last 0 ≡ flat_marks (without removed reports)
-    unfolding mark_number
-    all_moved marks last many there m =
-        let same = flat_length reports few in
-        let fewer = flat_length (without removed reports) (omega (arith, without_count removed reports)) in
-        let none_at : (k : ℕ) → suc last ≤ k → get_or (flat_marks reports) k 0 ≡ 0 = λ k h. flat_at reports k ∙ ap mark_number (get_or-eq_default reports none {n = k} (omega arith)) in
-        all_done 0 _ _ _ (last + 1) (omega arith) (λ k h. none_at k (omega arith) ∙ sym (none_at (suc k) (omega arith)) ∙ behind k (omega arith))
-        (next_done 0 _ _ marks last 0 (omega arith) (sym (none_at (suc last) (omega arith)) ∙ behind last there) m)
+  -- where those behind it have moved down and the last place is emptied, they are the marks without it
+  pub moved_down : length reports ≤ most_nodes → (moved : List ℕ) (last : ℕ) → length reports ≡ suc last → removed ≤ last
+      → length moved ≡ length (flat_marks reports)
+      → ((i : ℕ) → i < removed → get_or moved i 0 ≡ get_or (flat_marks reports) i 0)
+      → ((i : ℕ) → removed ≤ i → i < last → get_or moved i 0 ≡ get_or (flat_marks reports) (suc i) 0)
+      → ((i : ℕ) → last ≤ i → get_or moved i 0 ≡ get_or (flat_marks reports) i 0)
+      → set moved last 0 ≡ flat_marks (without removed reports)
+  unfolding mark_number
+  moved_down few moved last many there size below copied from =
+      let same = flat_length reports few in
+      let fewer = flat_length (without removed reports) (omega (arith, without_count removed reports)) in
+      let none_at : (k : ℕ) → suc last ≤ k → get_or (flat_marks reports) k 0 ≡ 0 = λ k h. flat_at reports k ∙ ap mark_number (get_or-eq_default reports none {n = k} (omega arith)) in
+      all_done 0 _ _ _ (last + 1) (omega arith) (λ k h. none_at k (omega arith) ∙ sym (none_at (suc k) (omega arith)) ∙ behind k (omega arith))
+      (next_done 0 _ _ moved last 0 (omega arith) (sym (none_at (suc last) (omega arith)) ∙ behind last there)
+      record {
+        many = size;
+        done = λ k h. ⊎_elim (λ l. below k l ∙ before k l) (λ l. copied k l h ∙ behind k l) (lt_or_le k removed);
+        left = from;
+      })
 
 -- ---- the marks of a netlist
 

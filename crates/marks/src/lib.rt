@@ -15,11 +15,11 @@ ghost use Rattle.netlists.specs.Netlists.{flat_of, Sized};
 ghost use Rattle.suspects.specs.Suspects.{reports_in};
 ghost use Rattle.marks.specs.Marks.{flat_marks, marks_in, with_marks};
 
-use families::SETS;
 use netlists::Netlist;
 use rules::{Half, MOST_NODES};
 
 // The marks of both layers, by node number. Beyond the nodes all are 0.
+// 0 is none, and no Option: these are the marks that `rules::NodeRecord` holds (`mark_number`).
 #[derive(Clone, Copy)]
 pub struct Marks {
     pub settled: [u16; MOST_NODES],
@@ -45,19 +45,11 @@ fn layer_marks(netlist: Netlist, layer: usize, work: &[u8]) -> [u16; MOST_NODES]
     ensures { (n : Records.Netlist) → netlist ≡ flat_of n →
         result ≡ flat_marks (reports_in n layer work.now) }
 {
-    let count = netlist.count;
     let mut marks = [0u16; MOST_NODES];
     let mut from = 0;
-    while from < count {
-        match suspects::scan(netlist, layer, from, work) {
-            Half::Clear => {
-                from = count;
-            }
-            Half::Suspect(node, set) => {
-                marks[node] = set as u16;
-                from = node + 1;
-            }
-        }
+    while let Half::Suspect(node, set) = suspects::scan(netlist, layer, from, work) {
+        marks[node] = set as u16;
+        from = node + 1;
     }
     marks
 }
@@ -81,17 +73,14 @@ fn last_mark(netlist: Netlist, layer: usize, work: &[u8]) -> u16
         result ≡ mark_number (get_or (reports_in n layer work.now) (netlist.count - 1) none) }
 {
     let last = netlist.count - 1;
-    let node = netlist.nodes[last];
-    if !suspect_sets::is_tested(node.kind) {
+    if !suspect_sets::is_tested(netlist.nodes[last].kind) {
         return 0;
     }
-    let secrets = suspect_sets::variables_of(netlist, 0);
-    let masks = suspect_sets::variables_of(netlist, 1);
-    let set = suspect_sets::first_suspect(work, 2 * last + layer, secrets, masks);
-    if set < SETS {
-        return set as u16;
+    let classes = suspect_sets::classes_of(netlist);
+    match suspect_sets::first_suspect(work, 2 * last + layer, classes) {
+        Some(set) => set as u16,
+        None => 0,
     }
-    0
 }
 
 // The marks with those of the last node of a netlist, whose other nodes have the given ones.
@@ -119,14 +108,9 @@ fn without_mark(marks: [u16; MOST_NODES], removed: usize, count: usize) -> [u16;
     ensures { (reports : List (Option ℕ)) → length reports ≡ count → marks ≡ flat_marks reports →
         result ≡ flat_marks (without removed reports) }
 {
-    let last = count - 1;
     let mut fewer = marks;
-    let mut i = removed;
-    while i < last {
-        fewer[i] = fewer[i + 1];
-        i += 1;
-    }
-    fewer[last] = 0;
+    fewer.copy_within(removed + 1..count, removed);
+    fewer[count - 1] = 0;
     fewer
 }
 
@@ -137,11 +121,9 @@ pub fn without_marks(marks: Marks, removed: usize, count: usize) -> Marks
         marks ≡ marks_in settled glitch →
         result ≡ marks_in (without removed settled) (without removed glitch) }
 {
-    let settled = marks.settled;
-    let glitch = marks.glitch;
     Marks {
-        settled: without_mark(settled, removed, count),
-        glitch: without_mark(glitch, removed, count),
+        settled: without_mark(marks.settled, removed, count),
+        glitch: without_mark(marks.glitch, removed, count),
     }
 }
 
@@ -153,13 +135,10 @@ pub fn lowest_marked(marks: [u16; MOST_NODES], count: usize) -> Half
     requires { count ≤ most_nodes }
     ensures { finding_of result ≡ lowest 0 (map mark_of (take count marks)) }
 {
-    let mut i = 0;
-    while i < count {
-        let set = marks[i] as usize;
-        if set != 0 {
-            return Half::Suspect(i, set);
+    for (i, mark) in marks[..count].iter().enumerate() {
+        if *mark != 0 {
+            return Half::Suspect(i, usize::from(*mark));
         }
-        i += 1;
     }
     Half::Clear
 }

@@ -62,6 +62,10 @@ module _ (n : Netlist) where
       go true = refl
       go false = refl
 
+  pub row_untested : (j k : ℕ) → is_tested n j ≡ false → row n j k ≡ []
+  unfolding row
+  row_untested j k e = rw e
+
   pub row_more : (j k : ℕ) → row n j (k + 1) ≡ row n j k ++ one_pair j k
   unfolding row tested_below
   row_more j k = rw (add-one k) (go (is_tested n j) (is_tested n k))

@@ -9,20 +9,26 @@ ghost use Rattle.rules.specs.Records as Records;
 ghost use Rattle.rules.specs.Records.{Class};
 ghost use Rattle.netlists.specs.Netlists.{flat_of, Ready};
 ghost use Rattle.families.specs.Parts.{HasPart};
-ghost use Rattle.pair_tests.specs.Tests.{ByClass};
+ghost use Rattle.suspect_sets.specs.Sets.{ByClass};
 ghost use Rattle.pair_search.specs.Pairs.{row, no_pair, search_from};
 ghost use Rattle.pair_search.specs.Meaning.{searched_of};
 ghost use Rattle.pair_search.specs.Work.{report_between, report_in, over};
 
-use families::SETS;
 use netlists::Netlist;
-use pair_tests::Terms;
+use suspect_sets::Classes;
 
 // The layer of the glitch families: that of node i is part 2 × i + 1.
 const GLITCH: usize = 1;
 
-// What a search over pairs finds.
+// What a search over pairs goes by: which variables are secrets and which are masks, and the limit on pairs.
 #[derive(Clone, Copy)]
+pub struct Terms {
+    pub classes: Classes,
+    pub limit: usize,
+}
+
+// What a search over pairs finds.
+#[derive(Clone, Copy, PartialEq, Eq)]
 pub enum Found {
     // A node that is suspect by itself, and its set; no pair is looked at.
     Single(usize, usize),
@@ -35,7 +41,7 @@ pub enum Found {
 }
 
 // What was found, and how many pairs were looked at: up to the pair that was found, its position.
-#[derive(Clone, Copy)]
+#[derive(Clone, Copy, PartialEq, Eq)]
 pub struct Search {
     pub found: Found,
     pub looked: usize,
@@ -53,7 +59,7 @@ pub fn no_pair(looked: usize) -> Search
 
 // Looks at the pair of node `i` of one block and node `j` of another, or of the same, by the work bytes of each, after
 // `looked` pairs that were clear. Where they are not both tested (`both`) it is no pair, and where the limit is spent
-// it is not looked at.
+// it is not looked at. `both` is a flag beside `i` and `j`, and no Option of them: no caller has to test first.
 pub fn look(
     first: &[u8],
     i: usize,
@@ -64,28 +70,26 @@ pub fn look(
     looked: usize,
 ) -> Search
     requires { HasPart first.now (2 * i + 1) × HasPart second.now (2 * j + 1) }
-    ensures { (variables : List Class) → ByClass terms variables →
+    ensures { (variables : List Class) → ByClass terms.classes variables →
         searched_of result ≡ search_from (report_between variables first.now second.now) terms.limit
         looked (cond both (record { i = i; j = j } ∷ []) []) }
 {
-    let limit = terms.limit;
     if !both {
         return no_pair(looked);
     }
-    if looked >= limit {
+    if looked >= terms.limit {
         return Search {
             found: Found::Spent,
             looked,
         };
     }
-    let position = looked + 1;
-    let set = pair_tests::pair_set(first, 2 * i + GLITCH, second, 2 * j + GLITCH, terms);
-    if set >= SETS {
-        return no_pair(position);
-    }
+    let set = pair_tests::pair_set(first, 2 * i + GLITCH, second, 2 * j + GLITCH, terms.classes);
     Search {
-        found: Found::Pair(i, j, set),
-        looked: position,
+        found: match set {
+            Some(set) => Found::Pair(i, j, set),
+            None => Found::NoPair,
+        },
+        looked: looked + 1,
     }
 }
 
@@ -93,49 +97,31 @@ pub fn look(
 pub fn is_over(search: Search) -> bool
     ensures { result ≡ over (searched_of search).found }
 {
-    let found = search.found;
-    match found {
-        Found::NoPair => false,
-        Found::Single(_, _) => true,
-        Found::Pair(_, _, _) => true,
-        Found::Spent => true,
-    }
+    search.found != Found::NoPair
 }
 
 // Goes on with the pairs of node `j` and each lower node, after `looked` pairs that were clear, until one
-// is suspect or the limit is spent.
-fn search_row(netlist: Netlist, work: &[u8], j: usize, terms: Terms, looked: usize) -> Search
-    requires { Ready netlist (length work.now) × (j < netlist.count) }
-    ensures { (n : Records.Netlist) → netlist ≡ flat_of n → ByClass terms n.variables →
-        searched_of result ≡ search_from (report_in n.variables work.now) terms.limit looked (row n j j) }
-{
-    let higher = netlist.nodes[j];
-    let tested = suspect_sets::is_tested(higher.kind);
-    let mut so_far = no_pair(looked);
-    let mut i = 0;
-    while i < j {
-        let lower = netlist.nodes[i];
-        let both = tested & suspect_sets::is_tested(lower.kind);
-        so_far = look(work, i, work, j, both, terms, so_far.looked);
-        if is_over(so_far) {
-            break;
-        }
-        i += 1;
-    }
-    so_far
-}
-
-// Goes on with the pairs of node `j` and each lower node, after `looked` pairs that were clear.
-// The netlist and the work bytes are those that `checker::examine` left; secrets and masks are read from the classes.
+// is suspect or the limit is spent. The netlist and the work bytes are those that `checker::examine` left; secrets and
+// masks are read from the classes.
 pub fn search_node(netlist: Netlist, work: &[u8], j: usize, limit: usize, looked: usize) -> Search
     requires { Ready netlist (length work.now) × (j < netlist.count) }
     ensures { (n : Records.Netlist) → netlist ≡ flat_of n →
         searched_of result ≡ search_from (report_in n.variables work.now) limit looked (row n j j) }
 {
+    let mut so_far = no_pair(looked);
+    if !suspect_sets::is_tested(netlist.nodes[j].kind) {
+        return so_far;
+    }
     let terms = Terms {
-        secrets: suspect_sets::variables_of(netlist, 0),
-        masks: suspect_sets::variables_of(netlist, 1),
+        classes: suspect_sets::classes_of(netlist),
         limit,
     };
-    search_row(netlist, work, j, terms, looked)
+    for i in 0..j {
+        let both = suspect_sets::is_tested(netlist.nodes[i].kind);
+        so_far = look(work, i, work, j, both, terms, so_far.looked);
+        if is_over(so_far) {
+            break;
+        }
+    }
+    so_far
 }

@@ -3,21 +3,14 @@
 // Used by `pair_search`.
 #![tactic(auto)]
 
-ghost use Rattle.std.specs.Prelude.{◌≡◌, List};
-ghost use Rattle.rules.specs.Records.{Class};
+ghost use Rattle.std.specs.Prelude.{◌≡◌, List, ◌<◌, IfSome};
+ghost use Rattle.rules.specs.Records.{Class, most_sets};
 ghost use Rattle.families.specs.Parts.{HasPart, family_at, with_family};
-ghost use Rattle.suspect_sets.specs.Sets.{report_of};
-ghost use Rattle.pair_tests.specs.Tests.{ByClass, report_of_parts};
+ghost use Rattle.suspect_sets.specs.Sets.{ByClass, report_of};
+ghost use Rattle.pair_tests.specs.Tests.{report_of_parts};
 
 use families::PART;
-
-// What a search over pairs goes by: which variables are secrets and which are masks, as sets, and the limit on pairs.
-#[derive(Clone, Copy)]
-pub struct Terms {
-    pub secrets: usize,
-    pub masks: usize,
-    pub limit: usize,
-}
+use suspect_sets::Classes;
 
 // Copies the family of a part of the work bytes into a part of `scratch`.
 fn take_family(scratch: &mut [u8], into: usize, work: &[u8], from: usize)
@@ -25,25 +18,22 @@ fn take_family(scratch: &mut [u8], into: usize, work: &[u8], from: usize)
     ensures { scratch.new ≡
         with_family scratch.old into (family_at work.now from) }
 {
-    let a = PART * into;
-    let b = PART * from;
-    let mut k = 0;
-    while k < PART {
-        scratch[a + k] = work[b + k];
-        k += 1;
-    }
+    let into = PART * into;
+    let from = PART * from;
+    scratch[into..into + PART].copy_from_slice(&work[from..from + PART]);
 }
 
-// The set that the pair of part `p` of one slice and part `q` of another reports, or `families::SETS` if it is clear.
+// The set that the pair of part `p` of one slice and part `q` of another reports, if it is suspect.
 // The product is made in bytes of its own.
-pub fn pair_set(first: &[u8], p: usize, second: &[u8], q: usize, terms: Terms) -> usize
+pub fn pair_set(first: &[u8], p: usize, second: &[u8], q: usize, classes: Classes) -> Option<usize>
     requires { HasPart first.now p × HasPart second.now q }
-    ensures { (variables : List Class) → ByClass terms variables →
+    ensures reported { (variables : List Class) → ByClass classes variables →
         report_of result ≡ report_of_parts variables first.now p second.now q }
+    ensures is_set { IfSome result (λ A. A < most_sets) }
 {
     let mut scratch = [0u8; 3 * PART];
     take_family(&mut scratch, 0, first, p);
     take_family(&mut scratch, 1, second, q);
     family_products::multiply(&mut scratch, 2, 0, 1);
-    suspect_sets::first_suspect(&scratch, 2, terms.secrets, terms.masks)
+    suspect_sets::first_suspect(&scratch, 2, classes)
 }

@@ -57,16 +57,13 @@ fn single_or_none(reply: Result<Answer, Refusal>) -> Search
 {
     match reply {
         Err(_) => pair_search::no_pair(0),
-        Ok(answer) => {
-            let glitch = answer.glitch;
-            match glitch {
-                Half::Clear => pair_search::no_pair(0),
-                Half::Suspect(node, set) => Search {
-                    found: Found::Single(node, set),
-                    looked: 0,
-                },
-            }
-        }
+        Ok(answer) => match answer.glitch {
+            Half::Clear => pair_search::no_pair(0),
+            Half::Suspect(node, set) => Search {
+                found: Found::Single(node, set),
+                looked: 0,
+            },
+        },
     }
 }
 
@@ -79,13 +76,11 @@ pub fn begin_pairs(examined: Examined) -> Progress
         work ≡ work_after bytes entries before →
         Underway bytes entries limit before examined.netlist work result }
 {
-    let reply = examined.reply;
-    let netlist = examined.netlist;
     Progress {
-        reply,
-        search: single_or_none(reply),
+        reply: examined.reply,
+        search: single_or_none(examined.reply),
         next: 0,
-        nodes: netlist.count,
+        nodes: examined.netlist.count,
     }
 }
 
@@ -93,8 +88,7 @@ pub fn begin_pairs(examined: Examined) -> Progress
 pub fn is_done(progress: Progress) -> bool
     ensures { result ≡ is_done progress }
 {
-    let search = progress.search;
-    (progress.nodes <= progress.next) | pair_search::is_over(search)
+    progress.nodes <= progress.next || pair_search::is_over(progress.search)
 }
 
 // The search after the pairs of the next node. It takes the netlist and the work bytes that `examine` left,
@@ -106,15 +100,11 @@ pub fn further(netlist: Netlist, work: &[u8], limit: usize, progress: Progress) 
         Underway bytes entries limit before netlist work.now result }
     ensures next { (result.next ≡ progress.next + 1) × (result.next ≤ result.nodes) × (result.nodes ≡ progress.nodes) }
 {
-    let reply = progress.reply;
-    let so_far = progress.search;
     let j = progress.next;
-    let search = pair_search::search_node(netlist, work, j, limit, so_far.looked);
     Progress {
-        reply,
-        search,
+        search: pair_search::search_node(netlist, work, j, limit, progress.search.looked),
         next: j + 1,
-        nodes: progress.nodes,
+        ..progress
     }
 }
 
@@ -127,14 +117,12 @@ pub fn reply_after(progress: Progress) -> Result<PairsAnswer, Refusal>
         Underway bytes entries limit before netlist work progress → is_done progress ≡ true →
         pairs_reply_of result ≡ pairs_reply bytes entries (length before) limit }
 {
-    let reply = progress.reply;
-    match reply {
+    match progress.reply {
         Err(refusal) => Err(refusal),
-        Ok(answer) => {
-            let search = progress.search;
-            let both = PairsAnswer { answer, search };
-            Ok(both)
-        }
+        Ok(answer) => Ok(PairsAnswer {
+            answer,
+            search: progress.search,
+        }),
     }
 }
 
@@ -156,30 +144,17 @@ pub fn examine_pairs(bytes: &[u8], entries: usize, work: &mut [u8], limit: usize
     ensures probes { NoPair (pairs_reply_of result.reply) → TwoProbes bytes.now }
 {
     let examined = checker::examine(bytes, entries, work);
-    let netlist = examined.netlist;
     let mut progress = begin_pairs(examined);
     while !is_done(progress) {
-        progress = further(netlist, work, limit, progress);
+        progress = further(examined.netlist, work, limit, progress);
     }
-    let reply = reply_after(progress);
-    ExaminedPairs { reply, examined }
+    ExaminedPairs {
+        reply: reply_after(progress),
+        examined,
+    }
 }
 
 // ---- the entry point, over the lent slice of node records
-
-// What the examination with one probe gave.
-fn examined_of(examined: ExaminedPairs) -> Examined
-    ensures { result ≡ examined.examined }
-{
-    examined.examined
-}
-
-// The reply of an examination with two probes.
-fn reply_of(examined: ExaminedPairs) -> Result<PairsAnswer, Refusal>
-    ensures { result ≡ examined.reply }
-{
-    examined.reply
-}
 
 // Checks netlist bytes with one probe and then, where every single node is clear for glitches, with two:
 // at most `limit` pairs of tested nodes are looked at, in their order. The slices at exit are those of `check`,
@@ -205,7 +180,6 @@ pub fn check_pairs(
     ensures probes { NoPair (pairs_reply_of result) → TwoProbes bytes.now }
 {
     let examined = examine_pairs(bytes, nodes.len(), work, limit);
-    let checked = examined_of(examined);
-    checker::store(nodes, checked);
-    reply_of(examined)
+    checker::store(nodes, examined.examined);
+    examined.reply
 }

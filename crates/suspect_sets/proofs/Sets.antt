@@ -1,7 +1,7 @@
 -- Suspect sets by bit masks: a set holds a variable of a class if it meets the mask of the class, by induction
 -- on the variables; that mask by one variable more; and what a family reports, by which of its sets are suspect,
--- in the order of report. Assumes nothing.
-use Prim.Native.Nat.{ℕ, zero, suc, min, ◌+◌, ◌*◌, ◌/◌, ◌%◌, ◌^◌, ◌<◌, ◌≤◌}
+-- in the order of report; and whether a node is tested, by its kind. Assumes nothing.
+use Prim.Native.Nat.{ℕ, zero, suc, min, ◌+◌, ◌*◌, ◌/◌, ◌%◌, ◌^◌, ◌<◌}
 use mathlib.Core.Path.{◌≡◌, refl, sym, ap, ◌∙◌, subst}
 use mathlib.Core.Logic.{◌↔◌}
 use mathlib.Core.Bool.{Bool, true, false, not, ◌&&◌, ◌||◌, not-not}
@@ -16,17 +16,24 @@ use lib.Dec.{T, eqb, not_T, eqb-suc-zero}
 use lib.ListN.{length, get_or, take, length-map}
 use lib.Seq.{take-suc, length-take-le}
 use Rattle.rules.specs.Lists.{digit, member}
-use Rattle.rules.specs.Records.{Class, secret, mask, public, class_byte, number, most_sets}
+use Rattle.rules.specs.declared.Node.{Node}
+use Rattle.rules.specs.Records as Records
+use Rattle.rules.specs.Records.{Class, secret, mask, public, class_byte, Cell, input, kind_of, number, most_sets}
 use Rattle.rules.specs.Values.{same}
-use Rattle.rules.specs.Families.{Family, holds, suspect, reported}
+use Rattle.rules.specs.Families.{Family, holds, suspect, tested, reported}
+use Rattle.rules.specs.Slices.{entry}
 use Rattle.rule_laws.proofs.Tests.{pass, and_left, and_right, same_test}
 use Rattle.rule_laws.proofs.Lists.{digit_small}
 use Rattle.rule_laws.proofs.ReportOrder.{NotLater}
 use Rattle.rule_laws.proofs.Halves.{reported_none, reported_clear, reported_exactly}
-use Rattle.set_order.specs.Order.{set_at}
+use Rattle.netlists.specs.declared.Netlist.{Netlist}
+use Rattle.netlists.specs.Netlists.{blank, flat_of}
+use Rattle.netlists.proofs.Netlists.{value_entry}
+use Rattle.set_order.specs.Order.{report_order, set_at}
 use Rattle.set_order.proofs.Order.{place_of, set_low, set_not_later}
 use Rattle.suspect_maps.specs.Maps.{suspect_by, Common}
-use Rattle.suspect_sets.specs.Sets.{variables_of}
+use Rattle.suspect_sets.specs.declared.Classes.{Classes}
+use Rattle.suspect_sets.specs.Sets.{variables_of, ByClass}
 
 -- ---- the mask of a class
 
@@ -79,10 +86,6 @@ variables_more class variables v h =
     let here = get_or variables v public in
     let len : length (map (same class) first) ≡ v = length-map first (same class) ∙ length-take-le v variables (omega arith) in
     rw (add-one v, take-suc variables v public h, map-append (same class) first (here ∷ []), number_more (map (same class) first) (same class here), len)
-
-pub digit_times : (b : Bool) (x : ℕ) → digit b * x ≤ x
-digit_times true x = omega arith
-digit_times false x = omega arith
 
 -- the bytes of two classes are equal if they are the same
 pub same_byte : (class other : Class) → eqb (class_byte other) (class_byte class) ≡ same class other
@@ -150,8 +153,22 @@ module _ (variables : List Class) where
 
 -- where a family has no set in common with the map of the suspect sets, none of its sets is suspect,
 -- wherever it is in the order of report
-pub none_suspect : (variables : List Class) (secrets masks : ℕ) (map F : Family) (met : Bool) → secrets ≡ variables_of secret variables
-    → masks ≡ variables_of mask variables → ((A : ℕ) → A < most_sets → member A map ≡ suspect_by secrets masks A) → T met ↔ Common map F → met ≡ false
+pub none_suspect : (variables : List Class) (classes : Classes) (map F : Family) (met : Bool) → ByClass classes variables
+    → ((A : ℕ) → A < most_sets → member A map ≡ suspect_by classes.secrets classes.masks A) → T met ↔ Common map F → met ≡ false
     → (k : ℕ) → k < most_sets → (suspect variables (set_at k) && member (set_at k) F) ≡ false
-none_suspect variables secrets masks map F met s m mapped meets e k l =
-    same_test _ false (λ t. rw e at (meets.1 (set_at k, rw (mapped (set_at k) (set_low refl l), s, m, ← (suspect_masks variables (set_at k))) t))) absurd
+none_suspect variables classes map F met by mapped meets e k l =
+    same_test _ false
+    (λ t.
+    rw e at (meets.1 (set_at k, rw (mapped (set_at k) (set_low refl l), by.secrets, by.masks, ← (suspect_masks variables (set_at k))) t)))
+    absurd
+
+-- what is read at a place of the order is the set there
+pub set_there : (set place : ℕ) (order : List ℕ) → set ≡ get_or order place 0 → order ≡ report_order → set ≡ set_at place
+unfolding set_at
+set_there set place order read e = read ∙ ap (λ (o : List ℕ). get_or o place 0) e
+
+-- whether a node is tested, by its kind
+pub tested_there : (value : Netlist) (n : Records.Netlist) → value ≡ flat_of n → (k : ℕ) → k < value.count → {r : Bool}
+    → ((cell : Cell) → (get_or value.nodes k blank).kind ≡ kind_of cell → r ≡ tested cell) → r ≡ tested (get_or n.nodes k (input 0))
+unfolding entry
+tested_there value n e k h is = is (get_or n.nodes k (input 0)) (ap (λ (node : Node). node.kind) (value_entry n e k h))

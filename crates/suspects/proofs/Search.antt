@@ -7,17 +7,16 @@ use mathlib.Core.Logic.{⊎_elim}
 use mathlib.Core.Bool.{Bool, true, false, ◌&&◌, cond}
 use mathlib.Core.List.{List, [], ◌∷◌, ◌++◌, map}
 use mathlib.Core.Option.{Option, none, some}
-use native.Mathlib.Nat.{suc-add, add-suc, add-zero, lt_of_lt_of_le}
+use native.Mathlib.Nat.{suc-add, add-suc, add-zero}
 use native.Mathlib.Omega.{arith}
 use borrow.Author.Count.{below_more}
-use lib.Dec.{T}
 use lib.ListN.{length, get_or, drop, length-map, get_or-map, get_or-eq_default}
 use lib.Seq.{get_or-drop}
 use Rattle.rules.specs.Lists.{member, tabulate}
 use Rattle.rules.specs.Records.{Class, Cell, input, kind_of, Netlist, WellFormed, most_sets}
 use Rattle.rules.specs.Families.{Family, Families, constant, families, families_at, suspect, tested, reported, clear, suspect_at, mark, marks, layer_marks, lowest}
 use Rattle.rules.specs.Slices.{work_bytes}
-use Rattle.rule_laws.proofs.Tests.{pass, lt_or_le}
+use Rattle.rule_laws.proofs.Tests.{lt_or_le}
 use Rattle.rule_laws.proofs.Halves.{marks_at}
 use Rattle.rule_laws.proofs.Packing.{tabulate_length, tabulate_at}
 use Rattle.rule_laws.proofs.Exit.{families_length}
@@ -57,60 +56,39 @@ reports n layer bytes i = mark n.variables (get_or n.nodes i (input 0)) (family_
 abbrev pub suspect_in : Netlist → (layer : ℕ) → List ℕ → (i A : ℕ) → Bool
 suspect_in n layer bytes i A = suspect n.variables A && member A (family_at bytes (2 * i + layer))
 
--- the sets at lower places are looked at, and none is suspect; all of them, where the node is not tested
-pub record Searched (n : Netlist) (layer : ℕ) (bytes : List ℕ) (i place : ℕ) : Type 0 where
-  pub is_tested : place < most_sets → T (tested (get_or n.nodes i (input 0)))
-  pub before : (k : ℕ) → k < place → T (tested (get_or n.nodes i (input 0))) → suspect_in n layer bytes i (set_at k) ≡ false
-
 module _ (n : Netlist) (layer : ℕ) (bytes : List ℕ) (i : ℕ) where
-  cell : Cell
-  cell = get_or n.nodes i (input 0)
+  -- a node that is not tested reports nothing
+  pub untested_none : tested (get_or n.nodes i (input 0)) ≡ false → reports n layer bytes i ≡ none
+  unfolding reports mark
+  untested_none e = rw e
 
-  -- a node that is tested is scanned from the first place on, unless it is known to have no suspect set
-  pub search_start : (met : Bool) → (met ≡ false → (k : ℕ) → k < most_sets → suspect_in n layer bytes i (set_at k) ≡ false) → (place : ℕ)
-      → place ≡ cond (tested (get_or n.nodes i (input 0)) && met) 0 most_sets → Searched n layer bytes i place
-  unfolding cell
-  search_start met absent place start = go (tested cell) met refl absent start
+  -- nor does one of whose sets none is suspect
+  pub none_there : ((k : ℕ) → k < most_sets → suspect_in n layer bytes i (set_at k) ≡ false) → reports n layer bytes i ≡ none
+  unfolding reports mark
+  none_there passed = go (tested (get_or n.nodes i (input 0)))
     where
-      go : (b m : Bool) → tested cell ≡ b → (m ≡ false → (k : ℕ) → k < most_sets → suspect_in n layer bytes i (set_at k) ≡ false)
-          → place ≡ cond (b && m) 0 most_sets → Searched n layer bytes i place
-      go true true e absent first = record { is_tested = λ l. pass e; before = λ k l t. absurd (omega arith) }
-      go true false e absent last = record { is_tested = λ l. pass e; before = λ k l t. absent refl k (omega arith) }
-      go false m e absent last = record { is_tested = λ l. absurd (omega arith); before = λ k l t. absurd (rw e at t) }
+      go : (b : Bool) → cond b (reported n.variables (family_at bytes (2 * i + layer))) none ≡ none
+      go true = reported_nothing n.variables (family_at bytes (2 * i + layer)) (below_at bytes (2 * i + layer)) passed
+      go false = refl
 
-  pub search_more : (place : ℕ) → Searched n layer bytes i place → suspect_in n layer bytes i (set_at place) ≡ false
-      → Searched n layer bytes i (place + 1)
-  search_more place s here = record {
-    is_tested = λ l. s.is_tested (omega arith);
-    before = λ k l t. below_more (λ k. suspect_in n layer bytes i (set_at k) ≡ false) place (λ j m. s.before j m t) here k l;
-  }
-
-  pub search_none : (place : ℕ) → most_sets ≤ place → Searched n layer bytes i place → reports n layer bytes i ≡ none
-  unfolding reports mark cell
-  search_none place h s = go (tested cell) refl
-    where
-      go : (b : Bool) → tested cell ≡ b → cond b (reported n.variables (family_at bytes (2 * i + layer))) none ≡ none
-      go true e =
-          reported_nothing n.variables (family_at bytes (2 * i + layer)) (below_at bytes (2 * i + layer))
-          (λ k l. s.before k (lt_of_lt_of_le l h) (pass e))
-      go false e = refl
-
-  pub search_some : (place : ℕ) → place < most_sets → Searched n layer bytes i place → suspect_in n layer bytes i (set_at place) ≡ true
+  -- and one that is tested reports the first suspect set, in the order of report
+  pub first_there : tested (get_or n.nodes i (input 0)) ≡ true → (place : ℕ) → place < most_sets
+      → suspect_in n layer bytes i (set_at place) ≡ true → ((k : ℕ) → k < place → suspect_in n layer bytes i (set_at k) ≡ false)
       → reports n layer bytes i ≡ some (set_at place)
-  unfolding reports mark cell
-  search_some place h s here = go (tested cell) refl
-    where
-      go : (b : Bool) → tested cell ≡ b → cond b (reported n.variables (family_at bytes (2 * i + layer))) none ≡ some (set_at place)
-      go true e =
-          reported_first n.variables (family_at bytes (2 * i + layer)) (below_at bytes (2 * i + layer)) place h here
-          (λ k l. s.before k l (pass e))
-      go false e = absurd (rw e at (s.is_tested h))
+  unfolding reports mark
+  first_there e place h here before =
+      rw e (reported_first n.variables (family_at bytes (2 * i + layer)) (below_at bytes (2 * i + layer)) place h here before)
 
 -- ---- all nodes
 
 -- the nodes from `from` on and below i report nothing
 abbrev pub Passed : Netlist → (layer : ℕ) → List ℕ → (from i : ℕ) → Type 0
 Passed n layer bytes from i = (j : ℕ) → from ≤ j → j < i → reports n layer bytes j ≡ none
+
+pub pass_more : (n : Netlist) (layer : ℕ) (bytes : List ℕ) (from i : ℕ) → Passed n layer bytes from i → reports n layer bytes i ≡ none
+    → Passed n layer bytes from (i + 1)
+pass_more n layer bytes from i passed here j h l =
+    below_more (λ j. from ≤ j → reports n layer bytes j ≡ none) i (λ k m g. passed k g m) (λ g. here) j l h
 
 module _ (n : Netlist) (layer : ℕ) (bytes : List ℕ) where
   -- the families, and the reports of the nodes one by one

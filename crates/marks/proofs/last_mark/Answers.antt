@@ -1,31 +1,27 @@
 -- `marks::last_mark` meets its contract: what the node's family reports is its mark. Assumes nothing.
-use mathlib.Core.Path.{refl, sym, ap, ◌∙◌}
+use mathlib.Core.Path.{sym, ◌∙◌}
 use native.Mathlib.Omega.{arith}
-use Rattle.rules.specs.declared.Node.{Node}
-use Rattle.rules.specs.Records.{secret, mask, class_byte}
-use Rattle.rules.specs.Slices.{entry}
-use Rattle.netlists.proofs.Netlists.{value_count, value_entry}
-use Rattle.marks.proofs.Layers.{untested_mark, reported_mark, no_mark_lem}
+use Rattle.rules.specs.Slices.{mark_number}
+use Rattle.netlists.proofs.Netlists.{value_count}
+use Rattle.suspect_sets.specs.Sets.{report_of}
+use Rattle.suspect_sets.proofs.Sets.{tested_there}
+use Rattle.marks.proofs.Layers.{untested_mark, tested_mark}
 use Rattle.marks.proofs.last_mark.Goals as goal
 
 pub returns-then-not-is_tested : goal.returns-then-not-is_tested
-unfolding entry
 returns-then-not-is_tested c n e =
-    let kind = c.is_tested.ensures _ (ap (λ (v : Node). v.kind) (value_entry n e _ (omega arith))) in
-    untested_mark n _ _ _ (omega (arith, value_count n e)) (sym kind ∙ c.if-not-is_tested.true)
+    untested_mark n _ _ _ (omega (arith, value_count n e)) (sym (tested_there _ n e _ (omega arith) c.is_tested.ensures) ∙ c.if-not-is_tested.true)
 
-pub returns-then-set-lt-SETS : goal.returns-then-set-lt-SETS
-unfolding entry class_byte
-returns-then-set-lt-SETS c n e =
-    let kind = c.is_tested.ensures _ (ap (λ (v : Node). v.kind) (value_entry n e _ (omega arith))) in
-    let told =
-    c.first_suspect-set.ensures n.variables (c.variables_of-secrets.ensures n secret e refl) (c.variables_of-masks.ensures n mask e refl) in
-    reported_mark n _ _ _ (omega (arith, value_count n e)) _ (sym kind ∙ c.if-not-is_tested.false) told c.if-set-lt-SETS.true
+pub returns-in-Some : goal.returns-in-Some
+unfolding report_of mark_number
+returns-in-Some c n e =
+    tested_mark n _ _ _ (omega (arith, value_count n e)) _
+    (sym (tested_there _ n e _ (omega arith) c.is_tested.ensures) ∙ c.if-not-is_tested.false)
+    (c.in-Some.ensures.reported n.variables (c.classes_of-classes.ensures n e))
 
-pub returns : goal.returns
-unfolding entry class_byte
-returns c n e =
-    let kind = c.is_tested.ensures _ (ap (λ (v : Node). v.kind) (value_entry n e _ (omega arith))) in
-    let told =
-    c.first_suspect-set.ensures n.variables (c.variables_of-secrets.ensures n secret e refl) (c.variables_of-masks.ensures n mask e refl) in
-    no_mark_lem n _ _ _ (omega (arith, value_count n e)) _ (sym kind ∙ c.if-not-is_tested.false) told c.if-set-lt-SETS.false
+pub returns-in-None : goal.returns-in-None
+unfolding report_of mark_number
+returns-in-None c n e =
+    tested_mark n _ _ _ (omega (arith, value_count n e)) _
+    (sym (tested_there _ n e _ (omega arith) c.is_tested.ensures) ∙ c.if-not-is_tested.false)
+    (c.in-None.ensures.reported n.variables (c.classes_of-classes.ensures n e))

@@ -10,9 +10,9 @@ use Rattle.suspects.specs.Suspects.{reports_in}
 use Rattle.marks.specs.Marks.{flat_marks}
 use Rattle.marks.proofs.layer_marks.Given as goal
 
-abbrev pub invariant-loop-from : goal.invariant-loop-from
-invariant-loop-from l =
-    (l.from ≤ l.count) × ((n : Records.Netlist) → l.netlist ≡ flat_of n → l.marks ≡ flat_marks (take l.from (reports_in n l.layer l.work)))
+abbrev pub invariant-loop-node : goal.invariant-loop-node
+invariant-loop-node l =
+    (l.from ≤ l.netlist.count) × ((n : Records.Netlist) → l.netlist ≡ flat_of n → l.marks ≡ flat_marks (take l.from (reports_in n l.layer l.work)))
 
-abbrev pub decreases-loop-from : goal.decreases-loop-from
-decreases-loop-from l = l.count - l.from
+abbrev pub decreases-loop-node : goal.decreases-loop-node
+decreases-loop-node l = l.netlist.count - l.from

@@ -10,15 +10,15 @@ use Rattle.pair_tests.specs.Tests.{report_of_parts}
 use Rattle.pair_tests.proofs.Scratch.{scratch_report}
 use Rattle.pair_tests.proofs.pair_set.Goals as goal
 
-pub returns : goal.returns
+pub returns-clause-reported : goal.returns-clause-reported
 unfolding report_of_parts
-returns c =
+returns-clause-reported c =
     λ variables by.
     let args = c.args in
     let first = c.take_family.ensures in
     let second = c.take_family-2.ensures in
     let made = c.multiply.ensures in
-    c.first_suspect.ensures variables by.secrets by.masks
+    c.first_suspect.ensures.reported variables by
     ∙ ap (λ (bytes : List ℕ). reported variables (family_at bytes 2))
     (made
     ∙ ap (λ (bytes : List ℕ). with_family bytes 2 (product (family_at bytes 0) (family_at bytes 1)))

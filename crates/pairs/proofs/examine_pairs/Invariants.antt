@@ -5,9 +5,9 @@ use mathlib.Core.List.{List}
 use Rattle.pairs.specs.Underway.{Underway}
 use Rattle.pairs.proofs.examine_pairs.Given as goal
 
-abbrev pub invariant-loop-netlist : goal.invariant-loop-netlist
-invariant-loop-netlist l =
-    (before : List ℕ) → Underway l.bytes l.entries l.limit before l.netlist l.work l.initial.progress → Underway l.bytes l.entries l.limit before l.netlist l.work l.progress
+abbrev pub invariant-loop-work : goal.invariant-loop-work
+invariant-loop-work l =
+    (before : List ℕ) → Underway l.bytes l.entries l.limit before l.examined.netlist l.work l.initial.progress → Underway l.bytes l.entries l.limit before l.examined.netlist l.work l.progress
 
-abbrev pub decreases-loop-netlist : goal.decreases-loop-netlist
-decreases-loop-netlist l = l.progress.nodes - l.progress.next
+abbrev pub decreases-loop-work : goal.decreases-loop-work
+decreases-loop-work l = l.progress.nodes - l.progress.next

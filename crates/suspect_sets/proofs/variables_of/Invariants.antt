@@ -1,18 +1,15 @@
 -- `suspect_sets::variables_of` meets its contract. The loop's invariant: the set is that of the variables passed,
--- and below 2 to the power of their number. The measure is what is left of them. Assumes nothing.
-use Prim.Native.Nat.{◌-◌, ◌^◌, ◌<◌, ◌≤◌}
+-- and below 2 to the power of their number. Assumes nothing.
+use Prim.Native.Nat.{◌^◌, ◌<◌}
 use mathlib.Core.Path.{◌≡◌}
 use lib.ListN.{take}
 use Rattle.rules.specs.Records as Records
-use Rattle.rules.specs.Records.{Class, public, class_byte, number, most_variables}
+use Rattle.rules.specs.Records.{Class, class_byte}
 use Rattle.netlists.specs.Netlists.{flat_of}
 use Rattle.suspect_sets.specs.Sets.{variables_of}
 use Rattle.suspect_sets.proofs.variables_of.Given as goal
 
 abbrev pub invariant-loop-v : goal.invariant-loop-v
 invariant-loop-v l =
-    (l.v ≤ l.count) × (l.set < 2 ^ l.v)
+    (l.set < 2 ^ l.v)
     × ((n : Records.Netlist) (c : Class) → l.netlist ≡ flat_of n → l.class ≡ class_byte c → l.set ≡ variables_of c (take l.v n.variables))
-
-abbrev pub decreases-loop-v : goal.decreases-loop-v
-decreases-loop-v l = l.count - l.v

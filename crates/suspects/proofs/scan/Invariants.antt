@@ -1,25 +1,18 @@
 -- `suspects::scan` meets its contract. The nodes' loop: the nodes passed, from the first one scanned on,
--- report nothing. The loop in it: the sets at the places passed are not suspect members of the node's family,
--- and all are passed where it has none in common with the map (`none_suspect`). Each measure is what is left to pass.
+-- report nothing. The loop in it: the sets at the places passed are not suspect members of the node's family.
 -- Assumes nothing.
-use Prim.Native.Nat.{◌-◌, ◌≤◌}
+use Prim.Native.Nat.{ℕ, ◌<◌}
 use mathlib.Core.Path.{◌≡◌}
+use mathlib.Core.Bool.{false}
 use Rattle.rules.specs.Records as Records
-use Rattle.rules.specs.Records.{secret, mask, input, kind_of, class_byte, most_variables, most_nodes, most_sets}
 use Rattle.netlists.specs.Netlists.{flat_of}
-use Rattle.suspects.proofs.Search.{Searched, Passed}
+use Rattle.set_order.specs.Order.{set_at}
+use Rattle.suspects.proofs.Search.{suspect_in, Passed}
 use Rattle.suspects.proofs.scan.Given as goal
 
-abbrev pub invariant-loop-place : goal.invariant-loop-place
-invariant-loop-place l =
-    (n : Records.Netlist) → l.netlist ≡ flat_of n → Searched n l.layer l.work l.i l.place
+abbrev pub invariant-loop-set : goal.invariant-loop-set
+invariant-loop-set l =
+    (n : Records.Netlist) → l.netlist ≡ flat_of n → (k : ℕ) → k < l.set-index → suspect_in n l.layer l.work l.i (set_at k) ≡ false
 
-abbrev pub decreases-loop-place : goal.decreases-loop-place
-decreases-loop-place l = most_sets - l.place
-
-abbrev pub invariant-nodes : goal.invariant-nodes
-invariant-nodes l =
-    (l.from ≤ l.i) × (l.i ≤ l.count) × ((n : Records.Netlist) → l.netlist ≡ flat_of n → Passed n l.layer l.work l.from l.i)
-
-abbrev pub decreases-nodes : goal.decreases-nodes
-decreases-nodes l = l.count - l.i
+abbrev pub invariant-loop-i : goal.invariant-loop-i
+invariant-loop-i l = (n : Records.Netlist) → l.netlist ≡ flat_of n → Passed n l.layer l.work l.from l.i
