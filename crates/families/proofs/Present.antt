@@ -1,17 +1,17 @@
 -- The list of the sets present in a part: each is there once, in rising order, and no other.
 -- And how a part is walked byte by byte: its list by one set more, and by a byte with no bit set; its number of
 -- sets by the bits of a byte. By induction on the sets passed. A list and a product that are computed. Assumes nothing.
-use Prim.Native.Nat.{ℕ, zero, suc, ◌+◌, ◌*◌, ◌-◌, ◌/◌, ◌%◌, ◌^◌, ◌<◌, ◌≤◌}
+use Prim.Native.Nat.{ℕ, zero, suc, ◌+◌, ◌*◌, ◌/◌, ◌%◌, ◌^◌, ◌<◌, ◌≤◌}
 use mathlib.Core.Path.{◌≡◌, refl, sym, ap, ◌∙◌}
 use mathlib.Core.Logic.{◌⊎◌, inl, inr}
 use mathlib.Core.Bool.{Bool, true, false, cond, ◌||◌, or_comm, or_assoc, or-false}
 use mathlib.Core.List.{List, [], ◌∷◌, ◌++◌}
-use native.Mathlib.Nat.{add-sub_of_le, add-zero, add-suc, zero-div, eq-or-lt_of_le}
+use native.Mathlib.Nat.{add-zero, add-suc, zero-div, eq-or-lt_of_le}
 use native.Mathlib.Numerals.{add-one}
 use native.Mathlib.Omega.{arith}
 use lib.Dec.{eqb}
-use lib.ListN.{length, get_or, set, take, drop, replicate, length-append, length-drop, length-replicate, get_or-replicate, get_or-append, get_or-eq_default}
-use lib.Seq.{set_at, take_at, drop-cons, append_snoc, get_or_at, get_or-drop, get_or-append-add}
+use lib.ListN.{length, get_or, set, take, drop, length-append, length-drop, get_or-append, get_or-eq_default}
+use lib.Seq.{set_at, take_at, drop-cons, append_snoc, get_or_at}
 use Rattle.rules.specs.Lists.{digit, member, insert, union}
 use Rattle.rules.specs.Records.{odd, most_sets}
 use Rattle.rules.specs.Families.{Family, product}

@@ -29,7 +29,7 @@ fn list_byte(byte: u8, low: usize, sets: &mut [u16], listed: usize) -> usize
 }
 
 // Whether all of the eight bytes from `at` on are 0, so that they hold no set. They are joined before the test:
-// with `all`, or `==` of slices, sparse families took half as long again.
+// with `all` the list of a sparse family took a third longer, and with `==` of slices two thirds.
 fn eight_zeros(work: &[u8], at: usize) -> bool
     requires { at + 8 ≤ length work.now }
     ensures { T result ↔ ((k : ℕ) → k < 8 → get_or work.now (at + k) 0 ≡ 0) }

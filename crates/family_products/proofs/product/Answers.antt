@@ -62,15 +62,6 @@ ends work emptied after into sets others F G i has f g e all a =
 few : (n : ℕ) (work : List ℕ) (part : ℕ) → n ≡ length (family_at work part) → n ≤ most_sets
 few n work part e = rw e (length_at _ _)
 
-pub list_sets-rows-requires : goal.list_sets-rows-requires
-list_sets-rows-requires c = (omega (arith, c.requires), omega arith)
-
-pub list_sets-columns-requires : goal.list_sets-columns-requires
-list_sets-columns-requires c = (omega (arith, c.requires), omega arith)
-
-pub make_empty-requires : goal.make_empty-requires
-make_empty-requires c = c.requires.0
-
 pub slice_bounds-sets-end : goal.slice_bounds-sets-end
 slice_bounds-sets-end c = omega (arith, few _ _ _ c.list_sets-rows.ensures.count)
 

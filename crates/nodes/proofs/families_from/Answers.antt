@@ -32,9 +32,6 @@ module _ {value : Value.Netlist} (f : Formed value) where
 pub loop-i-init : goal.loop-i-init
 loop-i-init c = λ f. sym (first_done f.netlist _ _ (c.requires.2 f.netlist f.is))
 
-pub offset_bounds-netlist-i : goal.offset_bounds-netlist-i
-offset_bounds-netlist-i c = omega (arith, few_nodes c.requires.0.formed)
-
 pub bounds-netlist-i : goal.bounds-netlist-i
 bounds-netlist-i c = omega (arith, few_nodes c.requires.0.formed)
 
