@@ -5,12 +5,13 @@ use Prim.Native.Nat.{ℕ, zero, suc, ◌+◌, ◌*◌, ◌-◌, ◌/◌, ◌%◌
 use mathlib.Core.Path.{◌≡◌, refl, sym, ap, ◌∙◌}
 use mathlib.Core.Logic.{◌⊎◌, inl, inr, ⊎_elim}
 use mathlib.Core.Bool.{Bool, true, false, cond}
-use mathlib.Core.List.{List, [], ◌∷◌, ◌++◌}
+use mathlib.Core.List.{List, [], ◌∷◌, ◌++◌, append_assoc}
 use native.Mathlib.Nat.{eq-or-lt_of_le, le_of_suc-le-suc, add-sub_of_le}
 use native.Mathlib.Omega.{arith}
+use borrow.Rule.Slice.PartMut.{put_mid}
 use lib.Dec.{T}
 use lib.ListN.{length, get_or, take, drop, length-append, length-take, length-drop, get_or-append}
-use lib.Seq.{get_or-append-add, get_or-take, get_or-drop, length-take-le, ext_get_or}
+use lib.Seq.{drop-drop, get_or-append-add, get_or-take, get_or-drop, length-take-le, ext_get_or}
 use Rattle.rules.specs.Lists.{member, insert, union}
 use Rattle.rules.specs.Records.{odd, most_sets}
 use Rattle.rules.specs.Families.{Family}
@@ -101,6 +102,17 @@ sets_same : (bytes other : List ℕ) (part k : ℕ) → ((A : ℕ) → A < k →
 unfolding sets_under
 sets_same bytes other part zero h = refl
 sets_same bytes other part (suc k) h = rw (h k (omega arith), sets_same bytes other part k (λ A l. h A (omega arith)))
+
+-- ---- the bytes of a part
+
+-- there are 128
+pub bytes_length : (bytes : List ℕ) (part k : ℕ) → HasPart bytes part → k ≡ 128 → length (take k (drop (128 * part) bytes)) ≡ 128
+bytes_length bytes part k has e =
+    rw e (length-take-le 128 (drop (128 * part) bytes) (omega (arith, length-drop (128 * part) bytes)))
+
+pub bytes_at : (bytes : List ℕ) (part k j : ℕ) → k ≡ 128 → j < 128
+    → get_or (take k (drop (128 * part) bytes)) j 0 ≡ get_or bytes (128 * part + j) 0
+bytes_at bytes part k j e h = get_or-take k (drop (128 * part) bytes) j 0 (omega arith) ∙ get_or-drop (128 * part) bytes j 0
 
 -- ---- the entries once a family is written to a part
 
@@ -203,6 +215,23 @@ written before after part F has len out byte bit =
 pub with_own : (bytes : List ℕ) (part : ℕ) → HasPart bytes part → ((i : ℕ) → get_or bytes i 0 < 256) → bytes ≡ with_family bytes part (family_at bytes part)
 with_own bytes part has low =
     written bytes bytes part (family_at bytes part) has refl (λ j o. refl) (λ j h. low (128 * part + j)) (λ A h. sym (member_at bytes part A h))
+
+-- bytes in the place of a part's write a family if they are the family's,
+pub put_family : (bytes ys : List ℕ) (part k : ℕ) (F : Family) → k ≡ 128 → ys ≡ family_bytes F → put_mid (128 * part) k bytes ys ≡ with_family bytes part F
+unfolding with_family
+put_family bytes ys part k F e y =
+    rw (e, y, drop-drop 128 (128 * part) bytes) (sym (append_assoc (take (128 * part) bytes) (family_bytes F) (drop (128 * part + 128) bytes)))
+
+-- and those of a part are its family's
+pub own_bytes : (bytes : List ℕ) (part k : ℕ) → HasPart bytes part → k ≡ 128 → ((i : ℕ) → get_or bytes i 0 < 256)
+    → take k (drop (128 * part) bytes) ≡ family_bytes (family_at bytes part)
+own_bytes bytes part k has e low =
+    ext_get_or 0 _ _ (bytes_length bytes part k has e ∙ sym (family_length (family_at bytes part)))
+    (λ j l.
+    let h : j < 128 = omega (arith, bytes_length bytes part k has e) in
+    bytes_at bytes part k j e h
+    ∙ ap (λ (xs : List ℕ). get_or xs (128 * part + j) 0) (with_own bytes part has low)
+    ∙ with_in bytes part (family_at bytes part) has j h)
 
 -- a second write to the part
 pub with_twice : (bytes : List ℕ) (part : ℕ) (F G : Family) → HasPart bytes part

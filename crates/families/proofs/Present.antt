@@ -1,17 +1,17 @@
 -- The list of the sets present in a part: each is there once, in rising order, and no other.
 -- And how a part is walked byte by byte: its list by one set more, and by a byte with no bit set; its number of
 -- sets by the bits of a byte. By induction on the sets passed. A list and a product that are computed. Assumes nothing.
-use Prim.Native.Nat.{ℕ, zero, suc, ◌+◌, ◌*◌, ◌-◌, ◌/◌, ◌%◌, ◌^◌, ◌<◌, ◌≤◌}
+use Prim.Native.Nat.{ℕ, zero, suc, ◌+◌, ◌*◌, ◌/◌, ◌%◌, ◌^◌, ◌<◌, ◌≤◌}
 use mathlib.Core.Path.{◌≡◌, refl, sym, ap, ◌∙◌}
 use mathlib.Core.Logic.{◌⊎◌, inl, inr}
 use mathlib.Core.Bool.{Bool, true, false, cond, ◌||◌, or_comm, or_assoc, or-false}
 use mathlib.Core.List.{List, [], ◌∷◌, ◌++◌}
-use native.Mathlib.Nat.{add-sub_of_le, add-zero, add-suc, zero-div, eq-or-lt_of_le}
+use native.Mathlib.Nat.{add-zero, add-suc, zero-div, eq-or-lt_of_le}
 use native.Mathlib.Numerals.{add-one}
 use native.Mathlib.Omega.{arith}
 use lib.Dec.{eqb}
-use lib.ListN.{length, get_or, set, take, drop, replicate, length-append, length-drop, length-replicate, get_or-replicate, get_or-append, get_or-eq_default}
-use lib.Seq.{set_at, take_at, drop-cons, append_snoc, get_or_at, get_or-drop, get_or-append-add}
+use lib.ListN.{length, get_or, set, take, drop, length-append, length-drop, get_or-append, get_or-eq_default}
+use lib.Seq.{set_at, take_at, drop-cons, append_snoc, get_or_at}
 use Rattle.rules.specs.Lists.{digit, member, insert, union}
 use Rattle.rules.specs.Records.{odd, most_sets}
 use Rattle.rules.specs.Families.{Family, product}
@@ -101,26 +101,16 @@ module _ (bytes : List ℕ) (part : ℕ) (slice rest : List ℕ) (listed : ℕ) 
   unfolding list_at
   front_listed = ap (take listed) front ∙ take_at (list_at bytes part) rest listed long
 
-  -- its entries are sets if the others are
-  pub front_sets : Sets rest → Sets slice
-  unfolding list_at
-  front_sets others i = rw front (go (lt_or_le i (length (list_at bytes part))))
-    where
-      go : (i < length (list_at bytes part)) ⊎ (length (list_at bytes part) ≤ i) → get_or (list_at bytes part ++ rest) i 0 < most_sets
-      go (inl h) =
-          rw (get_or-append (list_at bytes part) rest 0 i h)
-          (below_at bytes part _ (rw member_reversed at (entry_member (list_at bytes part) 0 i h)))
-      go (inr h) = rw (← (add-sub_of_le h), get_or-append-add (list_at bytes part) rest (i - length (list_at bytes part)) 0) (others _)
-
--- an array of no sets but set 0, of which some entries are left
-pub zeros_sets : (n k : ℕ) → Sets (drop k (replicate n 0))
-zeros_sets n k i = rw (get_or-drop {A = ℕ} k (replicate n 0) i 0) (go (lt_or_le (k + i) n))
+-- its entries are sets
+pub listed_sets : (bytes : List ℕ) (part : ℕ) → Sets (reversed (family_at bytes part))
+listed_sets bytes part i = go (lt_or_le i (length xs))
   where
-    go : (k + i < n) ⊎ (n ≤ k + i) → get_or (replicate n 0) (k + i) 0 < most_sets
-    go (inl h) = rw (get_or-replicate {A = ℕ} n (k + i) 0 0 h) (omega arith)
-    go (inr h) =
-        let beyond : length (replicate {A = ℕ} n 0) ≤ k + i = omega (arith, length-replicate {A = ℕ} n 0) in
-        rw (get_or-eq_default {A = ℕ} (replicate n 0) 0 beyond) (omega arith)
+    xs : List ℕ
+    xs = reversed (family_at bytes part)
+
+    go : (i < length xs) ⊎ (length xs ≤ i) → get_or xs i 0 < most_sets
+    go (inl h) = below_at bytes part _ (rw member_reversed at (entry_member xs 0 i h))
+    go (inr h) = rw (get_or-eq_default {A = ℕ} xs 0 h) (omega arith)
 
 -- ---- byte by byte
 

@@ -5,9 +5,9 @@
 // `family_products`, `nodes`, `suspects` and what stands on them.
 #![tactic(auto)]
 
-ghost use Rattle.std.specs.Prelude.{◌≡◌, ◌||◌, [], ◌∷◌, ℕ, ◌/◌, ◌^◌, ◌<◌, eqb, length};
+ghost use Rattle.std.specs.Prelude.{◌≡◌, [], ◌∷◌, ◌<◌, length};
 ghost use Rattle.rules.specs.Lists.{member, insert, union};
-ghost use Rattle.rules.specs.Records.{odd, most_sets};
+ghost use Rattle.rules.specs.Records.{most_sets};
 ghost use Rattle.families.specs.Parts.{HasPart, family_at, with_family};
 ghost use Rattle.families.specs.Present.{bits_below};
 
@@ -43,10 +43,8 @@ pub fn size(work: &[u8], part: usize) -> usize
 {
     let from = PART * part;
     let mut sets = 0;
-    let mut counted = 0;
-    while counted < PART {
-        sets += ones(work[from + counted]) as u16;
-        counted += 1;
+    for byte in &work[from..from + PART] {
+        sets += ones(*byte) as u16;
     }
     sets as usize
 }
@@ -57,19 +55,7 @@ pub fn make_empty(work: &mut [u8], part: usize)
     ensures { work.new ≡ with_family work.old part [] }
 {
     let from = PART * part;
-    let mut emptied = 0;
-    while emptied < PART {
-        work[from + emptied] = 0;
-        emptied += 1;
-    }
-}
-
-// A byte with bit `k` set, and the others as they were.
-fn with_bit(byte: u8, k: usize) -> u8
-    requires { k < 8 }
-    ensures { (j : ℕ) → j < 8 → odd (result / 2 ^ j) ≡ (eqb j k || odd (byte / 2 ^ j)) }
-{
-    byte | (1u8 << k)
+    work[from..from + PART].fill(0);
 }
 
 // Puts a set into a part, if it is not there yet.
@@ -78,8 +64,7 @@ pub fn insert(work: &mut [u8], part: usize, set: usize)
     ensures { work.new ≡ with_family work.old part
         (insert set (family_at work.old part)) }
 {
-    let at = PART * part + set / 8;
-    work[at] = with_bit(work[at], set % 8);
+    work[PART * part + set / 8] |= 1 << (set % 8);
 }
 
 // Puts all sets of a lower part into a part, beside those that it holds.
@@ -88,12 +73,8 @@ pub fn unite(work: &mut [u8], into: usize, from: usize)
     ensures { work.new ≡ with_family work.old into
         (union (family_at work.old from) (family_at work.old into)) }
 {
-    let a = PART * into;
-    let b = PART * from;
-    let mut j = 0;
-    while j < PART {
-        work[a + j] = work[a + j] | work[b + j];
-        j += 1;
+    for j in 0..PART {
+        work[PART * into + j] |= work[PART * from + j];
     }
 }
 
@@ -111,6 +92,5 @@ pub fn copy(work: &mut [u8], into: usize, from: usize)
     requires { HasPart work.old into × (from < into) }
     ensures { work.new ≡ with_family work.old into (family_at work.old from) }
 {
-    make_empty(work, into);
-    unite(work, into, from);
+    work.copy_within(PART * from..PART * from + PART, PART * into);
 }

@@ -13,33 +13,30 @@ use families::PART;
 // Returns how many are listed then.
 fn list_byte(byte: u8, low: usize, sets: &mut [u16], listed: usize) -> usize
     requires { (low + 8 ≤ most_sets) × (listed + 8 ≤ length sets.old) }
-    ensures by_index { (bytes start : List ℕ) (part : ℕ) → BitsOf byte bytes part low →
+    ensures sets { (bytes start : List ℕ) (part : ℕ) → BitsOf byte bytes part low →
         Listed bytes part low start sets.old listed →
         Listed bytes part (low + 8) start sets.new result }
     ensures few { result ≤ listed + 8 }
 {
     let mut at = listed;
-    let mut k = 0;
-    while k < 8 {
+    for k in 0..8 {
         if (byte >> k) % 2 == 1 {
             sets[at] = (low + k) as u16;
             at += 1;
         }
-        k += 1;
     }
     at
 }
 
-// Whether all of the eight bytes from `at` on are 0, so that they hold no set.
+// Whether all of the eight bytes from `at` on are 0, so that they hold no set. They are joined before the test:
+// with `all` the list of a sparse family took a third longer, and with `==` of slices two thirds.
 fn eight_zeros(work: &[u8], at: usize) -> bool
     requires { at + 8 ≤ length work.now }
     ensures { T result ↔ ((k : ℕ) → k < 8 → get_or work.now (at + k) 0 ≡ 0) }
 {
     let mut joined = 0;
-    let mut k = 0;
-    while k < 8 {
-        joined = joined | work[at + k];
-        k += 1;
+    for byte in &work[at..at + 8] {
+        joined |= *byte;
     }
     joined == 0
 }
@@ -48,20 +45,17 @@ fn eight_zeros(work: &[u8], at: usize) -> bool
 // Returns how many are listed then.
 fn list_eight(work: &[u8], part: usize, eight: usize, sets: &mut [u16], before: usize) -> usize
     requires { HasPart work.now part × (eight < 16) × (before + 64 ≤ length sets.old) }
-    ensures by_index { (start : List ℕ) → Listed work.now part (64 * eight) start sets.old before →
+    ensures sets { (start : List ℕ) → Listed work.now part (64 * eight) start sets.old before →
         Listed work.now part (64 * eight + 64) start sets.new result }
     ensures few { result ≤ before + 64 }
 {
     let from = PART * part + 8 * eight;
     let low = 64 * eight;
     let mut listed = before;
-    let mut passed = 0;
-    while passed < 8 {
-        let byte = work[from + passed];
-        if byte != 0 {
-            listed = list_byte(byte, low + 8 * passed, sets, listed);
+    for (passed, byte) in work[from..from + 8].iter().enumerate() {
+        if *byte != 0 {
+            listed = list_byte(*byte, low + 8 * passed, sets, listed);
         }
-        passed += 1;
     }
     listed
 }
@@ -75,12 +69,10 @@ pub fn list_sets(work: &[u8], part: usize, sets: &mut [u16]) -> usize
 {
     let from = PART * part;
     let mut listed = 0;
-    let mut eight = 0;
-    while eight < 16 {
+    for eight in 0..16 {
         if !eight_zeros(work, from + 8 * eight) {
             listed = list_eight(work, part, eight, sets, listed);
         }
-        eight += 1;
     }
     listed
 }

@@ -3,7 +3,7 @@
 // Used by `nodes` and `pair_tests`, and by test programs.
 #![tactic(auto)]
 
-ghost use Rattle.std.specs.Prelude.{◌≡◌, map, ◌+◌, ◌*◌, ◌^◌, ◌<◌, ◌≤◌, length, take};
+ghost use Rattle.std.specs.Prelude.{◌≡◌, map, ◌+◌, ◌*◌, ◌^◌, ◌<◌, ◌≤◌, length};
 ghost use Rattle.std.specs.Int.Bits.{bit_xor};
 ghost use Rattle.rules.specs.Lists.{insert, union};
 ghost use Rattle.rules.specs.Records.{most_sets};
@@ -25,26 +25,16 @@ fn try_pair(work: &mut [u8], into: usize, set: u16, other: u16, tried: usize) ->
     tried + 1
 }
 
-// Tries one set with each of the first `count` others, and returns the count with these pairs.
-fn try_row(
-    work: &mut [u8],
-    into: usize,
-    set: u16,
-    others: &[u16],
-    count: usize,
-    before: usize,
-) -> usize
-    requires { HasPart work.old into × (set < most_sets) × (count ≤ length others.now) × Sets others.now
-        × (before + count ≤ 2 ^ 32) }
+// Tries one set with each of the others, and returns the count with these pairs.
+fn try_row(work: &mut [u8], into: usize, set: u16, others: &[u16], before: usize) -> usize
+    requires { HasPart work.old into × (set < most_sets) × Sets others.now × (before + length others.now ≤ 2 ^ 32) }
     ensures made { work.new ≡ with_family work.old into
-        (union (map (bit_xor set) (take count others.now)) (family_at work.old into)) }
-    ensures tried { result ≡ before + count }
+        (union (map (bit_xor set) others.now) (family_at work.old into)) }
+    ensures tried { result ≡ before + length others.now }
 {
     let mut tried = before;
-    let mut j = 0;
-    while j < count {
-        tried = try_pair(work, into, set, others[j], tried);
-        j += 1;
+    for other in others {
+        tried = try_pair(work, into, set, *other, tried);
     }
     tried
 }
@@ -64,10 +54,8 @@ pub fn product(work: &mut [u8], into: usize, first: usize, second: usize) -> usi
     let columns = list_sets(work, second, &mut others);
     families::make_empty(work, into);
     let mut pairs = 0;
-    let mut i = 0;
-    while i < rows {
-        pairs = try_row(work, into, sets[i], &others, columns, pairs);
-        i += 1;
+    for set in &sets[..rows] {
+        pairs = try_row(work, into, *set, &others[..columns], pairs);
     }
     pairs
 }

@@ -1,13 +1,13 @@
 -- The families of all nodes in the work bytes. Once the first k nodes are done the bytes are those of their families
 -- and, behind them, what stood there. The rules see of their operands' families only which sets are in them,
 -- so the families of node k as worked out from the bytes have the bytes that the rules say. Assumes nothing.
-use Prim.Native.Nat.{ℕ, ◌+◌, ◌*◌, ◌≤◌, ◌<◌}
+use Prim.Native.Nat.{ℕ, ◌+◌, ◌*◌, ◌<◌}
 use mathlib.Core.Path.{◌≡◌, refl, sym, ap, ap₂, ◌∙◌}
 use mathlib.Core.List.{List, [], ◌∷◌, ◌++◌, append_assoc, append-nil}
 use native.Mathlib.Nat.{zero-add, le_refl}
 use native.Mathlib.Omega.{arith}
 use lib.Dec.{T}
-use lib.ListN.{length, get_or, take, drop, length-append, length-drop, take-append-drop}
+use lib.ListN.{length, get_or, take, drop, length-append, take-append-drop}
 use lib.Seq.{take_all, take_at, drop-append-add, drop-drop, get_or-take}
 use Rattle.rules.specs.Lists.{member, insert, union}
 use Rattle.rules.specs.Tables.{table}
@@ -129,18 +129,6 @@ pub first_done : (n : Netlist) (before : List ℕ) (k : ℕ) → HoldsFirst n k 
 unfolding nodes_done families
 first_done n before k held =
     rw (← table_take families_rule n.nodes k, ← held) (take-append-drop (256 * k) before)
-
-pub done_length : (n : Netlist) (before : List ℕ) (k : ℕ) → k ≤ length n.nodes → 256 * k ≤ length before
-    → length (nodes_done n before k) ≡ length before
-unfolding nodes_done
-done_length n before k h room =
-    omega (
-      arith,
-      length-append (work_bytes (first_families n k)) (drop (256 * k) before),
-      length-drop (256 * k) before,
-      work_length (first_families n k),
-      first_length families_rule n.nodes k h,
-    )
 
 module _ (n : Netlist) (formed : WellFormed n) where
   first_at : (k a : ℕ) → a < k → get_or (first_families n k) a constant ≡ families_at n a

@@ -90,11 +90,8 @@ pub fn families_from(netlist: Netlist, work: &mut [u8], from: usize)
     ensures { (n : Records.Netlist) → netlist ≡ flat_of n →
         work.new ≡ work_bytes (families n) ++ drop (length (work_bytes (families n))) work.old }
 {
-    let count = netlist.count;
-    let mut i = from;
-    while i < count {
+    for i in from..netlist.count {
         node_families(work, i, netlist.nodes[i]);
-        i += 1;
     }
 }
 

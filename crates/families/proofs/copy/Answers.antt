@@ -1,23 +1,19 @@
--- `families::copy` meets its contract: the part is emptied, and then all sets of a lower part are put into it,
--- which emptying left as it was (`with_other`). Assumes nothing.
-use mathlib.Core.Path.{◌∙◌}
-use mathlib.Core.Bool.{or-false}
-use mathlib.Core.List.{[]}
+-- `families::copy` meets its contract: the bytes of the lower part, which are its family's, are those of the part.
+-- Assumes nothing.
+use Prim.Native.Nat.{ℕ, ◌+◌, ◌*◌, ◌-◌, ◌<◌}
+use mathlib.Core.Path.{◌≡◌, ◌∙◌}
 use native.Mathlib.Omega.{arith}
-use Rattle.rules.specs.Lists.{member, union}
-use Rattle.rule_laws.proofs.Lists.{member_union}
-use Rattle.families.specs.Parts.{family_at}
-use Rattle.families.proofs.Parts.{with_same, with_other}
+use borrow.Author.Rules.{rules}
+use lib.ListN.{get_or}
+use Rattle.families.specs.Parts.{with_family}
+use Rattle.families.proofs.Parts.{own_bytes}
 use Rattle.families.proofs.copy.Goals as goal
 
 pub returns : goal.returns
-unfolding member
+unfolding with_family
 returns c =
-    let united = c.before.before in
-    let emptied = united.before.before.before.before in
-    let start = emptied.before.before.before in
-    let work = start.args.work.now in
-    let lower = family_at work start.args.from in
-    united.unite.ensures
-    ∙ with_other work emptied.make_empty.new.work start.args.into [] start.requires.0 emptied.make_empty.ensures start.args.from (λ same. omega arith)
-    ∙ with_same work start.args.into (union lower []) lower (λ A h. member_union A lower [] ∙ or-false (member A lower))
+    let work = c.args.work.now in
+    let from = c.args.from in
+    let all : 128 * from + 128 - 128 * from ≡ 128 = omega arith in
+    let low : (i : ℕ) → get_or work i 0 < 256 = λ i. search rules in
+    c.copy_within.ensures.after ∙ rw (own_bytes work from _ (omega arith) all low, all)

@@ -7,4 +7,4 @@ use Rattle.families.proofs.holds.Goals as goal
 
 pub returns : goal.returns
 unfolding holds_at
-returns c = sym (member_at c.before.args.work.now c.before.args.part c.before.args.set c.before.requires.1)
+returns c = sym (member_at c.args.work.now c.args.part c.args.set c.requires.1)

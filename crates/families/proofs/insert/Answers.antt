@@ -1,22 +1,32 @@
 -- `families::insert` meets its contract: one byte of the part is written, and has one more bit, that of the set;
 -- every other byte of the part has the bits that it had, and no other set is in that byte at that bit. Assumes nothing.
 use Prim.Native.Nat.{ℕ, ◌+◌, ◌*◌, ◌/◌, ◌%◌, ◌^◌, ◌<◌}
-use mathlib.Core.Path.{◌≡◌, refl, ap₂, ◌∙◌}
+use mathlib.Core.Path.{◌≡◌, refl, ap, ap₂, ◌∙◌}
 use mathlib.Core.Logic.{⊎_elim}
-use mathlib.Core.Bool.{Bool, true, false, ◌||◌}
+use mathlib.Core.Bool.{Bool, true, false, ◌||◌, or_comm}
 use mathlib.Core.List.{List}
+use native.Mathlib.Nat.{one-mul, mod-eq_of_lt}
 use native.Mathlib.Omega.{arith}
+use borrow.Author.Rules.{rules}
 use borrow.Author.Tests.{eqb-true, eqb-false, eq-eqb, ne_eqb}
+use lib.Bits.{bit_or, or_lt}
 use lib.Dec.{eqb, eqb→eq}
 use lib.ListN.{get_or, set, length-set}
+use lib.Pow.{pow-lt}
 use lib.Seq.{get_or-set_same, get_or-set_other}
 use Rattle.rules.specs.Lists.{insert}
 use Rattle.rules.specs.Records.{odd, most_sets}
 use Rattle.rule_laws.proofs.Tests.{same_test, pass}
 use Rattle.rule_laws.proofs.Lists.{member_insert}
 use Rattle.families.specs.Parts.{HasPart, family_at, with_family}
-use Rattle.families.proofs.Filling.{ByteOf, fill_end, bit_at}
+use Rattle.families.proofs.Filling.{ByteOf, fill_end, bit_at, bit_or_lem, bit_power}
 use Rattle.families.proofs.insert.Goals as goal
+
+-- of a byte joined with 2 to the power k, bit k is set, and every other bit is as it was
+with_bit : (byte k j : ℕ) → k < 8 → odd (bit_or byte (1 * 2 ^ k % 256) / 2 ^ j) ≡ (eqb j k || odd (byte / 2 ^ j))
+with_bit byte k j h =
+    rw (one-mul (2 ^ k), mod-eq_of_lt (pow-lt h))
+    (bit_or_lem byte (2 ^ k) j ∙ or_comm (odd (byte / 2 ^ j)) (odd (2 ^ k / 2 ^ j)) ∙ ap (λ (b : Bool). b || odd (byte / 2 ^ j)) (bit_power k j))
 
 -- bit A mod 8 set in byte A / 8
 one_more : (work : List ℕ) (part A byte : ℕ) → HasPart work part → A < most_sets → ((i : ℕ) → get_or work i 0 < 256) → byte < 256
@@ -51,9 +61,9 @@ one_more work part A byte has l bytes b bits =
 
 pub returns : goal.returns
 returns c =
-    let start = c.before.before.before in
-    let args = start.args in
-    one_more args.work.now args.part args.set c.with_bit.result start.requires.0 start.requires.1
-    (λ i. (c.before.slice_known-2-1.given i).fits)
-    c.with_bit.type_inv
-    c.with_bit.ensures
+    let args = c.args in
+    let byte = get_or args.work.now (128 * args.part + args.set / 8) 0 in
+    let low : (i : ℕ) → get_or args.work.now i 0 < 256 = λ i. search rules in
+    one_more args.work.now args.part args.set _ c.requires.0 c.requires.1 low
+    (or_lt 8 byte (1 * 2 ^ (args.set % 8) % 256) (low _) (omega arith))
+    (λ k h. with_bit byte (args.set % 8) k (omega arith))

@@ -9,8 +9,4 @@ use Rattle.families.proofs.single.Goals as goal
 pub returns : goal.returns
 unfolding member insert
 returns c =
-    let inserted = c.before.before in
-    let emptied = inserted.before.before.before.before in
-    let start = emptied.before.before.before in
-    inserted.insert.ensures
-    ∙ with_one start.args.work.now emptied.make_empty.new.work start.args.into [] start.requires.0 emptied.make_empty.ensures start.args.set
+    c.insert.ensures ∙ with_one c.args.work.now c.make_empty.new.work c.args.into [] c.requires.0 c.make_empty.ensures c.args.set

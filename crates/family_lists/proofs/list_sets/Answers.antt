@@ -1,8 +1,7 @@
 -- `family_lists::list_sets` meets its contract. The loop's invariant: the sets of the bytes passed that the
--- part holds are listed. Eight bytes that are 0 have none (`listed_zeros`). The measure is what is left of the
--- sixteen times eight. Assumes nothing.
+-- part holds are listed. Eight bytes that are 0 have none (`listed_zeros`). Assumes nothing.
 use Prim.Native.Nat.{◌+◌, ◌*◌}
-use mathlib.Core.Path.{◌≡◌, refl, ◌∙◌}
+use mathlib.Core.Path.{◌≡◌, refl}
 use native.Mathlib.Omega.{arith}
 use Rattle.rules.specs.Records.{most_sets}
 use Rattle.rule_laws.proofs.Tests.{pass}
@@ -14,36 +13,30 @@ use Rattle.family_lists.proofs.list_sets.Goals.{else-not-eight_zeros, then-not-e
 
 pub loop-eight-init : goal.loop-eight-init
 unfolding sets_under reversed
-loop-eight-init c = (omega arith, refl, omega arith, record { count = refl; sets = refl })
+loop-eight-init c = record { few = omega arith; sets = record { count = refl; sets = refl } }
 
 pub loop-eight-preserved : goal.loop-eight-preserved
 loop-eight-preserved c =
     let args = c.args in
     let eight = c.loop-eight.eight in
-    let (few, long, most, so_far) = c.loop-eight.invariant in
+    let so_far = c.loop-eight.invariant.sets in
     let next : 64 * (eight + 1) ≡ 64 * eight + 64 = omega arith in
     elim c.if-not-eight_zeros.branch [
-      | then-not-eight_zeros w ↦ rw (w.sets-is, w.listed-is, next) (
-        omega arith,
-        w.list_eight-listed.auto.sets ∙ long,
-        omega (arith, w.list_eight-listed.ensures.few),
-        w.list_eight-listed.ensures.by_index args.sets.now so_far,
-      )
-      | else-not-eight_zeros w ↦ rw (w.sets-is, w.listed-is, next) (
-        omega arith,
-        long,
-        omega arith,
-        listed_zeros args.work.now args.part eight args.sets.now _ _ (c.eight_zeros.ensures.0 (pass w.if-not-eight_zeros.false)) so_far 8 (omega arith),
-      )
+      | then-not-eight_zeros w ↦ rw (w.sets-is, w.listed-is, next) record {
+        few = omega (arith, w.list_eight-listed.ensures.few);
+        sets = w.list_eight-listed.ensures.sets args.sets.now so_far;
+      }
+      | else-not-eight_zeros w ↦ rw (w.sets-is, w.listed-is, next) record {
+        few = omega arith;
+        sets =
+            listed_zeros args.work.now args.part eight args.sets.now _ _ (c.eight_zeros.ensures.0 (pass w.if-not-eight_zeros.false)) so_far 8 (omega arith);
+      }
     ]
-
-pub shape_of-sets : goal.shape_of-sets
-shape_of-sets c = c.loop-eight.invariant.1
 
 pub returns : goal.returns
 unfolding family_at list_at
 returns c = let all : 64 * c.loop-eight.eight ≡ most_sets = omega arith in
-    let done = rw all at c.loop-eight.invariant.3 in
+    let done = rw all at c.loop-eight.invariant.sets in
     record {
       sets = done.sets;
       count = done.count;

@@ -1,15 +1,15 @@
 -- `family_products::product` meets its contract. The loop's invariant: the part has the product of the sets passed
 -- with the second family, all else is as it was after emptying, and the pairs counted are those of the rows passed.
--- The lists of both families are theirs (`front_listed`). The measure is what is left of the rows. Assumes nothing.
+-- The lists of both families are theirs (`front_listed`). Assumes nothing.
 use Prim.Native.Nat.{ℕ, ◌+◌, ◌*◌, ◌<◌, ◌≤◌}
-use mathlib.Core.Path.{◌≡◌, refl, sym, ap, ap₂, ◌∙◌}
+use mathlib.Core.Path.{◌≡◌, sym, ap₂, ◌∙◌}
 use mathlib.Core.List.{List, [], map}
 use native.Mathlib.Nat.{suc-mul, mul-le-mul}
 use native.Mathlib.Numerals.{add-one}
 use native.Mathlib.Omega.{arith}
 use lib.Bits.{bit_xor}
 use lib.ListN.{length, get_or, take}
-use lib.Seq.{take-suc}
+use lib.Seq.{take-suc, take_all, length-take-le}
 use Rattle.rules.specs.Records.{most_sets}
 use Rattle.rules.specs.Lists.{union}
 use Rattle.rules.specs.Families.{Family, product}
@@ -17,7 +17,7 @@ use Rattle.rule_laws.proofs.Lists.{member_union, member_shift}
 use Rattle.families.specs.Parts.{HasPart, family_at, with_family}
 use Rattle.families.specs.Present.{reversed}
 use Rattle.families.proofs.Parts.{length_at, with_same, with_twice, with_more}
-use Rattle.families.proofs.Present.{reversed_last, reversed_twice, member_reversed, front_listed, front_sets, zeros_sets}
+use Rattle.families.proofs.Present.{reversed_last, reversed_twice, member_reversed, front_listed, listed_sets}
 use Rattle.family_products.proofs.product.Invariants.{partial}
 use Rattle.family_products.proofs.product.Goals as goal
 
@@ -51,82 +51,76 @@ row start work next into sets others i has h e n =
     so_far = product (reversed (take i sets)) (reversed others)
 
 -- after the last row all sets were taken, and what was listed are both families
-ends : (work emptied after : List ℕ) (into : ℕ) (sets others : List ℕ) (F G : Family) (rows columns : ℕ) → HasPart work into
-    → take rows sets ≡ reversed F → take columns others ≡ reversed G → emptied ≡ with_family work into []
-    → after ≡ partial emptied into sets (reversed (take columns others)) rows
+ends : (work emptied after : List ℕ) (into : ℕ) (sets others : List ℕ) (F G : Family) (i : ℕ) → HasPart work into
+    → sets ≡ reversed F → others ≡ reversed G → emptied ≡ with_family work into [] → length sets ≤ i
+    → after ≡ partial emptied into sets (reversed others) i
     → after ≡ with_family work into (product F G)
-ends work emptied after into sets others F G rows columns has f g e a =
-    a ∙ rw (f, g, reversed_twice F, reversed_twice G, e) (with_twice work into [] (product F G) has)
+ends work emptied after into sets others F G i has f g e all a =
+    a ∙ rw (take_all i sets all, f, g, reversed_twice F, reversed_twice G, e) (with_twice work into [] (product F G) has)
 
 -- a list of a family's sets has at most 1,024
 few : (n : ℕ) (work : List ℕ) (part : ℕ) → n ≡ length (family_at work part) → n ≤ most_sets
 few n work part e = rw e (length_at _ _)
 
-pub list_sets-rows-requires : goal.list_sets-rows-requires
-list_sets-rows-requires c = (omega (arith, c.requires), omega arith)
+pub slice_bounds-sets-end : goal.slice_bounds-sets-end
+slice_bounds-sets-end c = omega (arith, few _ _ _ c.list_sets-rows.ensures.count)
 
-pub list_sets-columns-requires : goal.list_sets-columns-requires
-list_sets-columns-requires c = (omega (arith, c.requires), omega arith)
+pub slice_bounds-set-items-end : goal.slice_bounds-set-items-end
+slice_bounds-set-items-end c = sym (length-take-le _ _ (omega (arith, few _ _ _ c.list_sets-rows.ensures.count)))
 
-pub make_empty-requires : goal.make_empty-requires
-make_empty-requires c = c.requires.0
+pub loop-set-init : goal.loop-set-init
+loop-set-init c = record {
+  tried = omega arith;
+  made =
+      begins c.args.work.now c.make_empty.new.work c.args.into (take c.list_sets-rows.result c.list_sets-rows.new.sets)
+      (reversed (take c.list_sets-columns.result c.list_sets-columns.new.sets)) c.requires.0 c.make_empty.ensures;
+}
 
-pub loop-i-init : goal.loop-i-init
-loop-i-init c = (
-  omega arith,
-  omega (arith, c.requires.0, c.make_empty.auto.work),
-  refl,
-  omega arith,
-  begins c.args.work.now c.make_empty.new.work c.args.into c.list_sets-rows.new.sets
-      (reversed (take c.list_sets-columns.result c.list_sets-columns.new.sets)) c.requires.0 c.make_empty.ensures,
-)
+pub slice_bounds-others-end : goal.slice_bounds-others-end
+slice_bounds-others-end c = omega (arith, few _ _ _ c.list_sets-columns.ensures.count)
 
-pub offset_bounds-sets-i : goal.offset_bounds-sets-i
-offset_bounds-sets-i c = omega (arith, few _ _ _ c.list_sets-rows.ensures.count)
-
-pub bounds-sets-i : goal.bounds-sets-i
-bounds-sets-i c = omega (arith, few _ _ _ c.list_sets-rows.ensures.count)
+pub slice_bounds-try_row-end : goal.slice_bounds-try_row-end
+slice_bounds-try_row-end c = sym (length-take-le _ _ (omega (arith, few _ _ _ c.list_sets-columns.ensures.count)))
 
 pub try_row-pairs-requires : goal.try_row-pairs-requires
 try_row-pairs-requires c =
-    let (within, has, long, tried, so_far) = c.loop-i.invariant in
     let first = c.list_sets-rows in
     let second = c.list_sets-columns in
     let rows = few _ _ _ first.ensures.count in
-    let columns = few _ _ _ second.ensures.count in (
-      omega (arith, has, long),
-      front_sets _ _ _ _ _ first.ensures.sets first.ensures.count (zeros_sets 1024 first.result) c.loop-i.i,
-      omega (arith, columns, second.auto.sets),
-      front_sets _ _ _ _ _ second.ensures.sets second.ensures.count (zeros_sets 1024 second.result),
-      omega (arith, columns, few-pairs c.loop-i.i second.result (omega (arith, rows)) columns),
+    let columns = few _ _ _ second.ensures.count in
+    let long = length-take-le second.result second.new.sets (omega (arith, columns)) in
+    let turn : c.loop-set.set-index ≤ most_sets = omega (arith, rows, length-take-le first.result first.new.sets (omega (arith, rows))) in (
+      omega (arith, c.requires.0),
+      rw (front_listed _ c.args.first _ _ _ first.ensures.sets first.ensures.count) (listed_sets _ c.args.first c.loop-set.set-index),
+      rw (front_listed _ c.args.second _ _ _ second.ensures.sets second.ensures.count) (listed_sets _ c.args.second),
+      omega (arith, columns, long, few-pairs c.loop-set.set-index second.result turn columns),
     )
 
-pub loop-i-preserved : goal.loop-i-preserved
-loop-i-preserved c =
-    let (within, has, long, tried, so_far) = c.loop-i.invariant in
-    let i = c.loop-i.i in
-    let columns = c.list_sets-columns.result in
-    let rows = few _ _ _ c.list_sets-rows.ensures.count in (
-      omega arith,
-      has,
-      c.try_row-pairs.auto.work ∙ long,
-      rw (add-one i, suc-mul i columns) (c.try_row-pairs.ensures.tried ∙ ap (λ (n : ℕ). n + columns) tried),
-      row c.make_empty.new.work c.loop-i.work c.try_row-pairs.new.work c.args.into c.list_sets-rows.new.sets
-          (take columns c.list_sets-columns.new.sets) i has (omega (arith, rows)) so_far c.try_row-pairs.ensures.made,
-    )
-
-pub shape_of-work : goal.shape_of-work
-shape_of-work c = c.loop-i.invariant.2 ∙ c.make_empty.auto.work
+pub loop-set-preserved : goal.loop-set-preserved
+loop-set-preserved c =
+    let i = c.loop-set.set-index in
+    let rows = c.list_sets-rows in
+    let columns = c.list_sets-columns in
+    let long = length-take-le columns.result columns.new.sets (omega (arith, few _ _ _ columns.ensures.count)) in
+    record {
+      tried = rw (add-one i, suc-mul i columns.result) (c.try_row-pairs.ensures.tried ∙ ap₂ ◌+◌ c.loop-set.invariant.tried long);
+      made =
+          row c.make_empty.new.work c.loop-set.work c.try_row-pairs.new.work c.args.into (take rows.result rows.new.sets)
+          (take columns.result columns.new.sets) i (omega (arith, c.requires.0)) c.loop-set-test.true c.loop-set.invariant.made c.try_row-pairs.ensures.made;
+    }
 
 pub returns : goal.returns
 returns c =
     let first = c.list_sets-rows in
     let second = c.list_sets-columns in
-    let all : c.loop-i.i ≡ first.result = omega arith in
-    let (within, has, long, tried, so_far) = rw all at c.loop-i.invariant in record {
-      made = ends c.args.work.now c.make_empty.new.work c.loop-i.work c.args.into first.new.sets second.new.sets
-          (family_at c.args.work.now c.args.first) (family_at c.args.work.now c.args.second) first.result second.result c.requires.0
+    let long = length-take-le first.result first.new.sets (omega (arith, few _ _ _ first.ensures.count)) in
+    let all : c.loop-set.set-index ≡ first.result = omega (arith, long) in
+    record {
+      made =
+          ends c.args.work.now c.make_empty.new.work c.loop-set.work c.args.into _ _
+          (family_at c.args.work.now c.args.first) (family_at c.args.work.now c.args.second) c.loop-set.set-index c.requires.0
           (front_listed c.args.work.now c.args.first _ _ _ first.ensures.sets first.ensures.count)
-          (front_listed c.args.work.now c.args.second _ _ _ second.ensures.sets second.ensures.count) c.make_empty.ensures so_far;
-      tried = tried ∙ ap₂ ◌*◌ first.ensures.count second.ensures.count;
+          (front_listed c.args.work.now c.args.second _ _ _ second.ensures.sets second.ensures.count) c.make_empty.ensures c.loop-set-test.false
+          c.loop-set.invariant.made;
+      tried = rw all at c.loop-set.invariant.tried ∙ ap₂ ◌*◌ first.ensures.count second.ensures.count;
     }

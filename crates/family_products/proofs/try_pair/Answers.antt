@@ -1,6 +1,5 @@
 -- `family_products::try_pair` meets its contract: the symmetric difference of two sets is a set (`xor_lt`),
 -- and is put into the part. Assumes nothing.
-use mathlib.Core.Path.{refl}
 use native.Mathlib.Omega.{arith}
 use lib.Bits.{xor_lt}
 use Rattle.family_products.proofs.try_pair.Goals as goal
@@ -10,12 +9,3 @@ overflow_cast-set c = omega (arith, xor_lt 10 c.args.set c.args.other c.requires
 
 pub insert-requires : goal.insert-requires
 insert-requires c = omega (arith, xor_lt 10 c.args.set c.args.other c.requires.1 c.requires.2)
-
-pub overflow_add-result : goal.overflow_add-result
-overflow_add-result c = omega (arith, c.requires)
-
-pub returns : goal.returns
-returns c = record {
-  made = c.insert.ensures;
-  tried = refl;
-}

@@ -1,15 +1,16 @@
 -- `family_products::try_row` meets its contract. The loop's invariant: the differences with the sets passed are in the
--- part, all else is as it was, and as many pairs are counted. The measure is what is left of the row. Assumes nothing.
+-- part, all else is as it was, and as many pairs are counted. Assumes nothing.
 use Prim.Native.Nat.{ℕ, ◌+◌, ◌<◌}
-use mathlib.Core.Path.{◌≡◌, refl, sym, ap, ◌∙◌}
+use mathlib.Core.Path.{◌≡◌, sym, ap, ◌∙◌}
 use mathlib.Core.Bool.{Bool, ◌||◌, or_comm, or_assoc, or-false}
 use mathlib.Core.List.{List, [], ◌∷◌, map, map-append}
+use native.Mathlib.Nat.{le_refl}
 use native.Mathlib.Numerals.{add-one}
 use native.Mathlib.Omega.{arith}
 use lib.Bits.{bit_xor}
 use lib.Dec.{eqb}
 use lib.ListN.{length, get_or, take}
-use lib.Seq.{take-suc}
+use lib.Seq.{take-suc, take_all}
 use Rattle.rules.specs.Lists.{member, insert, union}
 use Rattle.rule_laws.proofs.Lists.{member_insert, member_union}
 use Rattle.families.specs.Parts.{HasPart, family_at, with_family}
@@ -39,34 +40,30 @@ row_next start work into A others j has h e =
     (sym (or_assoc (eqb B (bit_xor A (get_or others j 0))) (member B (map (bit_xor A) (take j others))) (member B (family_at start into)))
     ∙ ap (λ (b : Bool). b || member B (family_at start into)) (or_comm (eqb B (bit_xor A (get_or others j 0))) (member B (map (bit_xor A) (take j others))))))
 
-pub loop-j-init : goal.loop-j-init
+pub loop-other-init : goal.loop-other-init
 unfolding union
-loop-j-init c =
+loop-other-init c =
     let args = c.args in
-    (omega arith, refl, omega arith, with_own args.work.now args.into c.requires.0 (λ i. (c.type_inv.work i).fits))
+    record { tried = omega arith; made = with_own args.work.now args.into c.requires.0 (λ i. (c.type_inv.work i).fits) }
 
 pub try_pair-tried-requires : goal.try_pair-tried-requires
-try_pair-tried-requires c =
-    let (few, long, tried, so_far) = c.loop-j.invariant in
-    (omega (arith, c.requires.0, long), c.requires.1, c.requires.3 c.loop-j.j, omega arith)
+try_pair-tried-requires c = (omega (arith, c.requires.0), c.requires.1, c.requires.2 c.loop-other.other-index, omega arith)
 
-pub loop-j-preserved : goal.loop-j-preserved
-loop-j-preserved c =
+pub loop-other-preserved : goal.loop-other-preserved
+loop-other-preserved c =
     let args = c.args in
-    let (few, long, tried, so_far) = c.loop-j.invariant in (
-      omega arith,
-      c.try_pair-tried.auto.work ∙ long,
-      omega (arith, c.try_pair-tried.ensures.tried),
-      c.try_pair-tried.ensures.made ∙ row_next args.work.now c.loop-j.work args.into args.set args.others.now c.loop-j.j c.requires.0 (omega arith) so_far,
-    )
-
-pub shape_of-work : goal.shape_of-work
-shape_of-work c = c.loop-j.invariant.1
+    record {
+      tried = omega (arith, c.try_pair-tried.ensures.tried);
+      made =
+          c.try_pair-tried.ensures.made
+          ∙ row_next args.work.now c.loop-other.work args.into args.set args.others.now c.loop-other.other-index c.requires.0 (omega arith) c.loop-other.invariant.made;
+    }
 
 pub returns : goal.returns
-returns c = let all : c.loop-j.j ≡ c.args.count = omega arith in
-    let inv = rw all at c.loop-j.invariant in
+returns c =
+    let others = c.args.others.now in
+    let all : c.loop-other.other-index ≡ length others = omega arith in
     record {
-      made = inv.3;
-      tried = inv.2;
+      made = rw (take_all (length others) others (le_refl (length others))) at (rw all at c.loop-other.invariant.made);
+      tried = rw all at c.loop-other.invariant.tried;
     }

@@ -1,10 +1,10 @@
 -- `family_products::try_row` meets its contract. The loop's invariant: the differences with the sets passed are in the
--- part, all else is as it was, and as many pairs are counted. The measure is what is left of the row. Assumes nothing.
-use Prim.Native.Nat.{ℕ, ◌+◌, ◌-◌, ◌≤◌}
+-- part, all else is as it was, and as many pairs are counted. Assumes nothing.
+use Prim.Native.Nat.{ℕ, ◌+◌}
 use mathlib.Core.Path.{◌≡◌}
 use mathlib.Core.List.{List, map}
 use lib.Bits.{bit_xor}
-use lib.ListN.{length, take}
+use lib.ListN.{take}
 use Rattle.rules.specs.Lists.{union}
 use Rattle.families.specs.Parts.{family_at, with_family}
 use Rattle.family_products.proofs.try_row.Given as goal
@@ -13,9 +13,8 @@ use Rattle.family_products.proofs.try_row.Given as goal
 abbrev pub partial : List ℕ → (into set : ℕ) → List ℕ → (j : ℕ) → List ℕ
 partial work into A others j = with_family work into (union (map (bit_xor A) (take j others)) (family_at work into))
 
-abbrev pub invariant-loop-j : goal.invariant-loop-j
-invariant-loop-j l =
-    (l.j ≤ l.count) × (length l.work ≡ length l.initial.work) × (l.tried ≡ l.before + l.j) × (l.work ≡ partial l.initial.work l.into l.set l.others l.j)
-
-abbrev pub decreases-loop-j : goal.decreases-loop-j
-decreases-loop-j l = l.count - l.j
+abbrev pub invariant-loop-other : goal.invariant-loop-other
+invariant-loop-other l = record {
+  tried : l.tried ≡ l.before + l.other-index;
+  made : l.work ≡ partial l.initial.work l.into l.set l.others l.other-index;
+}

@@ -1,7 +1,7 @@
 -- `nodes::families_from` meets its contract. The invariant: the first i nodes are done, of the netlist that is checked.
--- The measure is the number of nodes left. Assumes nothing.
-use Prim.Native.Nat.{ℕ, ◌+◌, ◌*◌, ◌≤◌, ◌<◌}
-use mathlib.Core.Path.{◌≡◌, sym, ap, ◌∙◌}
+-- Assumes nothing.
+use Prim.Native.Nat.{ℕ, ◌+◌, ◌≤◌, ◌<◌}
+use mathlib.Core.Path.{◌≡◌, sym, ◌∙◌}
 use mathlib.Core.List.{List, ◌++◌}
 use native.Mathlib.Omega.{arith}
 use lib.ListN.{length, get_or, drop}
@@ -12,7 +12,7 @@ use Rattle.netlists.specs.declared.Netlist as Value
 use Rattle.netlists.specs.Netlists.{blank, flat_of, Formed}
 use Rattle.netlists.proofs.Netlists.{value_count, value_entry, few_nodes, one_netlist, placed_at}
 use Rattle.nodes.specs.Work.{so_far, with_families}
-use Rattle.nodes.proofs.Nodes.{nodes_done, first_done, next_done, all_done, done_length}
+use Rattle.nodes.proofs.Nodes.{nodes_done, first_done, next_done, all_done}
 use Rattle.nodes.proofs.families_from.Goals as goal
 
 module _ {value : Value.Netlist} (f : Formed value) where
@@ -23,10 +23,6 @@ module _ {value : Value.Netlist} (f : Formed value) where
       written (get_or f.netlist.nodes i (input 0)) (value_entry f.netlist f.is i h)
       ∙ rw e (next_done f.netlist f.obeys before i (omega (arith, value_count f.netlist f.is)))
 
-  size : (before work : List ℕ) (i : ℕ) → i ≤ value.count → 256 * value.count ≤ length before → work ≡ nodes_done f.netlist before i
-      → length work ≡ length before
-  size before work i h room e = ap length e ∙ done_length f.netlist before i (omega (arith, value_count f.netlist f.is)) (omega arith)
-
   finished : (before work : List ℕ) (i : ℕ) → i ≤ value.count → value.count ≤ i → work ≡ nodes_done f.netlist before i
       → (n : Netlist) → value ≡ flat_of n → work ≡ work_bytes (families n) ++ drop (length (work_bytes (families n))) before
   finished before work i h l e n same =
@@ -34,10 +30,7 @@ module _ {value : Value.Netlist} (f : Formed value) where
       rw (← one_netlist f n same) (e ∙ rw there (all_done f.netlist before))
 
 pub loop-i-init : goal.loop-i-init
-loop-i-init c = (c.requires.1, λ f. sym (first_done f.netlist _ _ (c.requires.2 f.netlist f.is)))
-
-pub offset_bounds-netlist-i : goal.offset_bounds-netlist-i
-offset_bounds-netlist-i c = omega (arith, few_nodes c.requires.0.formed)
+loop-i-init c = λ f. sym (first_done f.netlist _ _ (c.requires.2 f.netlist f.is))
 
 pub bounds-netlist-i : goal.bounds-netlist-i
 bounds-netlist-i c = omega (arith, few_nodes c.requires.0.formed)
@@ -45,24 +38,12 @@ bounds-netlist-i c = omega (arith, few_nodes c.requires.0.formed)
 pub node_families-requires : goal.node_families-requires
 node_families-requires c =
     let f = c.requires.0.formed in
-    let turn = c.loop-i in (
-      omega (arith, size f _ _ _ turn.invariant.0 c.requires.0.room (turn.invariant.1 f)),
-      placed_at f _ c.loop-i-test.true,
-    )
-
-pub overflow_add-i : goal.overflow_add-i
-overflow_add-i c = omega (arith, few_nodes c.requires.0.formed)
+    (omega (arith, c.requires.0.room), placed_at f _ c.loop-i-test.true)
 
 pub loop-i-preserved : goal.loop-i-preserved
-loop-i-preserved c =
-    (omega arith, λ f. next f _ _ _ _ c.loop-i-test.true (c.loop-i.invariant.1 f) c.node_families.ensures)
-
-pub shape_of-work : goal.shape_of-work
-shape_of-work c =
-    let f = c.requires.0.formed in
-    size f _ _ _ c.loop-i.invariant.0 c.requires.0.room (c.loop-i.invariant.1 f)
+loop-i-preserved c = λ f. next f _ _ _ _ c.loop-i-test.true (c.loop-i.invariant f) c.node_families.ensures
 
 pub returns : goal.returns
 returns c =
     let f = c.requires.0.formed in
-    finished f _ _ _ c.loop-i.invariant.0 c.loop-i-test.false (c.loop-i.invariant.1 f)
+    finished f _ _ _ (omega (arith, c.requires.1)) c.loop-i-test.false (c.loop-i.invariant f)

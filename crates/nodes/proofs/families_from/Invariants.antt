@@ -1,13 +1,9 @@
 -- `nodes::families_from` meets its contract. The invariant: the first i nodes are done, of the netlist that is checked.
--- The measure is the number of nodes left. Assumes nothing.
-use Prim.Native.Nat.{◌-◌, ◌≤◌}
+-- Assumes nothing.
 use mathlib.Core.Path.{◌≡◌}
 use Rattle.netlists.specs.Netlists.{Formed}
 use Rattle.nodes.proofs.Nodes.{nodes_done}
 use Rattle.nodes.proofs.families_from.Given as goal
 
 abbrev pub invariant-loop-i : goal.invariant-loop-i
-invariant-loop-i l = (l.i ≤ l.count) × ((f : Formed l.netlist) → l.work ≡ nodes_done f.netlist l.initial.work l.i)
-
-abbrev pub decreases-loop-i : goal.decreases-loop-i
-decreases-loop-i l = l.count - l.i
+invariant-loop-i l = (f : Formed l.netlist) → l.work ≡ nodes_done f.netlist l.initial.work l.i

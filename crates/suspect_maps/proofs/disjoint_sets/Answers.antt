@@ -10,9 +10,9 @@ use Rattle.suspect_maps.proofs.Maps.{not_apart, apart_below}
 use Rattle.suspect_maps.proofs.disjoint_sets.Goals as goal
 
 pub returns-then-j-high-eq0 : goal.returns-then-j-high-eq0
-returns-then-j-high-eq0 c k h = apart_below _ tt c.before.args.j k c.before.args.variables (omega arith) h c.if-j-high-eq0.true
+returns-then-j-high-eq0 c k h = apart_below _ tt c.args.j k c.args.variables (omega arith) h c.if-j-high-eq0.true
 
 pub returns-else-j-high-eq0 : goal.returns-else-j-high-eq0
 returns-else-j-high-eq0 c k h =
     ap odd (zero-div (2 ^ k))
-    ∙ sym (not_apart c.before.args.j k c.before.args.variables (omega arith) h (omega (arith, c.if-j-high-eq0.false)))
+    ∙ sym (not_apart c.args.j k c.args.variables (omega arith) h (omega (arith, c.if-j-high-eq0.false)))

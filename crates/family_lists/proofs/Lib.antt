@@ -1,0 +1,2 @@
+-- The eight bytes that are listed at a time.
+pub mod Eight
