@@ -6,7 +6,7 @@ ghost use Rattle.std.specs.Prelude.{◌≡◌, false, ℕ, ◌<◌, ◌≤◌, l
 ghost use Rattle.rules.specs.Lists.{member, tabulate};
 ghost use Rattle.rules.specs.Records as Records;
 ghost use Rattle.rules.specs.Records.{Cell, bits, most_nodes, most_body};
-ghost use Rattle.rules.specs.Values.{exclusive_or, value_rule, values, feeding};
+ghost use Rattle.rules.specs.Values.{exclusive_or, value_rule, values, is_point, feeding};
 ghost use Rattle.rules.specs.Slices.{entry};
 ghost use Rattle.netlists.specs.Netlists.{padded, flat_of, Formed, Placed};
 ghost use Rattle.node_values.specs.Marks.{mark_all, handed_on};
@@ -76,12 +76,19 @@ fn mark_all(marks: [bool; MOST_NODES], operands: Operands) -> [bool; MOST_NODES]
     marked
 }
 
+// Whether a node is an input or a register.
+fn is_point(node: Node) -> bool
+    ensures { (cell : Cell) → node ≡ entry cell → result ≡ is_point cell }
+{
+    node.kind == 2 || node.kind == 7
+}
+
 // The marks once node `i`, where it is a gate and marked, has handed its mark on to its operands.
 fn hand_on(marks: [bool; MOST_NODES], i: usize, node: Node) -> [bool; MOST_NODES]
     requires { (i < most_nodes) × Placed most_nodes node }
     ensures { (cell : Cell) → node ≡ entry cell → result ≡ handed_on marks i cell }
 {
-    if !marks[i] || node.kind == 2 || node.kind == 7 {
+    if !marks[i] || is_point(node) {
         return marks;
     }
     let mut handed = marks;

@@ -1,6 +1,6 @@
 -- `node_values::exclusive_or` meets its contract. The invariant: what is summed so far, with the exclusive-or of the
 -- variables from v on, is the whole. Assumes nothing.
-use Prim.Native.Nat.{◌-◌, ◌≤◌}
+use Prim.Native.Nat.{◌-◌}
 use mathlib.Core.Path.{◌≡◌}
 use mathlib.Core.Bool.{xor}
 use Rattle.rules.specs.Records.{bits}

@@ -1,6 +1,5 @@
 -- `node_values::feeding_marks` meets its contract. The invariant: the marks lead to the points that feed the node,
 -- with i nodes to go. Assumes nothing.
-use Prim.Native.Nat.{◌+◌, ◌≤◌}
 use mathlib.Core.Path.{◌≡◌}
 use lib.ListN.{length}
 use Rattle.rules.specs.Records.{most_nodes}

@@ -1,5 +1,5 @@
 -- `node_values::mark_all` meets its contract. Assumes nothing.
-use Rattle.std.proofs.Common.{◌≡◌, ◌+◌, ◌<◌, ◌≤◌, sym, ◌∙◌, ap, ℕ, Bool, true, List, [], set, length, get_or, drop, add-one, arith}
+use Rattle.std.proofs.Common.{◌≡◌, ◌+◌, ◌<◌, ◌≤◌, sym, ◌∙◌, ℕ, Bool, true, List, set, length, get_or, drop, add-one}
 use lib.ListN.{drop_of_length-le}
 use lib.Seq.{drop-cons}
 use Rattle.node_values.specs.Marks.{mark_all}

@@ -1,7 +1,7 @@
 -- `node_values::settled_values` meets its contract. The invariant: the values of the first i nodes stand, of the
 -- netlist that is asked, and beyond them all is 0. A value beyond the table is 0 as well, so the rule gives of either list the
 -- same. Assumes nothing.
-use Prim.Native.Nat.{ℕ, ◌-◌, ◌≤◌}
+use Prim.Native.Nat.{ℕ}
 use mathlib.Core.Path.{◌≡◌}
 use mathlib.Core.Bool.{Bool, false}
 use mathlib.Core.List.{List, []}
