@@ -45,9 +45,6 @@ module _ {value : Value.Netlist} (f : Formed value) where
 pub bounds-marks-node : goal.bounds-marks-node
 bounds-marks-node c = omega (arith, few_nodes c.requires.0)
 
-pub overflow_step-i : goal.overflow_step-i
-overflow_step-i c = omega (arith, few_nodes c.requires.0)
-
 pub loop-i-init : goal.loop-i-init
 loop-i-init c = (
   length-set (replicate most_nodes false) c.args.node true ∙ length-replicate most_nodes false,

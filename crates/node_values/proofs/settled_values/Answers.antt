@@ -64,9 +64,6 @@ module _ {value : Value.Netlist} (f : Formed value) where
 pub loop-i-init : goal.loop-i-init
 loop-i-init c = (length-replicate most_nodes false, λ f. none_first f.netlist _ most_nodes)
 
-pub slice_bounds-value_from-end : goal.slice_bounds-value_from-end
-slice_bounds-value_from-end c = sym c.loop-i.invariant.0
-
 pub offset_bounds-netlist-i : goal.offset_bounds-netlist-i
 offset_bounds-netlist-i c = omega (arith, few_nodes c.requires)
 
