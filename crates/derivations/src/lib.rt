@@ -35,6 +35,7 @@ pub enum Derived {
 
 // Explains a claim: the first rule that works is its step, and then its operands are explained. There are `at` steps so
 // far, and room for `room`; the reply is how many there are then, if they fit.
+// No struct of netlist and work bytes: `Known` has a list, and a ghost field takes only a fact that has one proof.
 #[cycle(explain_cell_explain_operands)]
 fn explain_cell(
     netlist: Netlist,

@@ -79,12 +79,6 @@ one_needed d (inl e) = rw e
 one_needed d (inr (inl e)) = rw e
 one_needed d (inr (inr e)) = rw e
 
-one_held : {value : Netlist} {bound : ℕ} {w : Way} (d : Claim) → (w ≡ Operand d) ⊎ ((w ≡ First d) ⊎ (w ≡ Second d)) → HeldEach value bound w
-    → Held value bound d × (2 * d.node + 1 < highest w)
-one_held d (inl e) h = (rw e at h, rw e (omega arith))
-one_held d (inr (inl e)) h = (rw e at h, rw e (omega arith))
-one_held d (inr (inr e)) h = (rw e at h, rw e (omega arith))
-
 both_held : {value : Netlist} {bound : ℕ} {w : Way} (c d : Claim) → w ≡ Both c d → HeldEach value bound w
     → (Held value bound c × (2 * c.node + 1 < highest w)) × (Held value bound d × (2 * d.node + 1 < highest w))
 both_held c d e h = let (first, second) = rw e at h in ((first, rw e (omega arith)), (second, rw e (omega arith)))
@@ -93,18 +87,6 @@ pub explain_operands-explain_cell-requires : goal.explain_operands-explain_cell-
 explain_operands-explain_cell-requires t c =
     let (known, needs, _, long, few) = c.requires in
     let ((need, falls), _) = both_held _ _ c.in-Both.is needs in
-    (omega (arith, falls), (known, need, long, few))
-
-pub explain_operands-explain_cell-requires-in-Both : goal.explain_operands-explain_cell-requires-in-Both
-explain_operands-explain_cell-requires-in-Both t c =
-    let (known, needs, _, long, few) = c.requires in
-    let (_, (need, falls)) = both_held _ _ c.in-Both.is needs in
-    (omega (arith, falls), (known, need, omega (arith, long, c.explain_cell.auto.steps), few))
-
-pub explain_operands-explain_cell-requires-in-Operand : goal.explain_operands-explain_cell-requires-in-Operand
-explain_operands-explain_cell-requires-in-Operand t c =
-    let (known, needs, _, long, few) = c.requires in
-    let (need, falls) = one_held _ c.in-Operand.is needs in
     (omega (arith, falls), (known, need, long, few))
 
 pub explain_operands-returns-in-Own : goal.explain_operands-returns-in-Own
