@@ -1,39 +1,41 @@
 -- The layers by their numbers, and what the work bytes tell of a claim: an operand's family in a layer is part
 -- 2 × node + layer. Assumes nothing.
-use Prim.Native.Nat.{ℕ, zero, suc, ◌+◌, ◌*◌, ◌<◌}
+use Prim.Native.Nat.{ℕ, ◌+◌, ◌*◌, ◌<◌}
 use mathlib.Core.Path.{◌≡◌, refl, sym, ap, ◌∙◌}
+use mathlib.Core.Bool.{Bool}
 use mathlib.Core.List.{List}
 use native.Mathlib.Nat.{add-zero}
-use native.Mathlib.Omega.{arith}
 use lib.ListN.{get_or}
+use Rattle.rules.specs.Lists.{member}
 use Rattle.rules.specs.Records.{most_nodes}
-use Rattle.rules.specs.Families.{constant}
+use Rattle.rules.specs.Families.{Families, constant}
 use Rattle.families.specs.Parts.{family_at}
 use Rattle.nodes.specs.Work.{so_far, families_in}
 use Rattle.nodes.proofs.Nodes.{so_far_at}
-use Rattle.derivation_rules.specs.Derivations.{settled, glitch, layer_number, family_in, layer_of}
+use Rattle.derivation_rules.specs.Derivations.{Layer, settled, glitch, layer_number, family_in, Claim, claimed}
+use Rattle.derivation_steps.specs.declared.Layer as Value
+use Rattle.derivation_steps.specs.declared.Layer.TheVariants.{Settled, Glitch}
+use Rattle.derivation_steps.specs.contracts.Layer.{the_type}
+use Rattle.derivation_steps.specs.Meaning.{layer_meant}
+use denote.Enum.Declared.{tag_of}
 
-pub layer_number_lem : (layer : ℕ) → layer < 2 → layer_number (layer_of layer) ≡ layer
-unfolding layer_number layer_of
-layer_number_lem zero l = refl
-layer_number_lem (suc zero) l = refl
-layer_number_lem (suc (suc k)) l = absurd (omega arith)
-
-pub settled_layer : (layer : ℕ) → layer ≡ 0 → layer_of layer ≡ settled
-unfolding layer_of
-settled_layer layer e = rw e
-
-pub glitch_layer : (layer : ℕ) → (layer ≡ 0 → ⊥) → layer_of layer ≡ glitch
-unfolding layer_of
-glitch_layer zero some = absurd (some refl)
-glitch_layer (suc k) some = refl
-
-pub part_of : (bytes : List ℕ) (a layer : ℕ) → a < most_nodes → layer < 2
-    → family_in (layer_of layer) (get_or (so_far bytes most_nodes) a constant) ≡ family_at bytes (2 * a + layer)
-unfolding family_in layer_of
-part_of bytes a layer h l = ap (family_in (layer_of layer)) (so_far_at bytes most_nodes a h) ∙ go layer l
+pub part_of : (bytes : List ℕ) (a : ℕ) (ℓ : Layer) → a < most_nodes
+    → family_in ℓ (get_or (so_far bytes most_nodes) a constant) ≡ family_at bytes (2 * a + layer_number ℓ)
+unfolding family_in layer_number
+part_of bytes a ℓ h = ap (family_in ℓ) (so_far_at bytes most_nodes a h) ∙ go ℓ
   where
-    go : (k : ℕ) → k < 2 → family_in (layer_of k) (families_in bytes a) ≡ family_at bytes (2 * a + k)
-    go zero l = ap (family_at bytes) (sym (add-zero (2 * a)))
-    go (suc zero) l = refl
-    go (suc (suc k)) l = absurd (omega arith)
+    go : (ℓ : Layer) → family_in ℓ (families_in bytes a) ≡ family_at bytes (2 * a + layer_number ℓ)
+    go settled = ap (family_at bytes) (sym (add-zero (2 * a)))
+    go glitch = refl
+
+-- what is known of a claim, said of the set
+pub claim_known : (Fs : List Families) {c d : Claim} {told b : Bool} → told ≡ claimed Fs c → c ≡ d → told ≡ b
+    → member d.set (family_in d.layer (get_or Fs d.node constant)) ≡ b
+unfolding claimed
+claim_known Fs is same e = ap (claimed Fs) (sym same) ∙ sym is ∙ e
+
+-- what `as` gives of a layer is its number
+pub layer_as : (layer : Value.Layer) → tag_of the_type layer ≡ layer_number (layer_meant layer)
+unfolding layer_number
+layer_as Settled = refl
+layer_as Glitch = refl

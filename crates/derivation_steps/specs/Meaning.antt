@@ -1,31 +1,45 @@
--- What the types of this crate mean: a claim, what a step needs, and a rule with what it needs; and which numbers can
--- be looked up. Cited by the contracts. Assumes nothing.
-use Rattle.std.specs.Prelude.{ℕ, ◌≤◌, ◌<◌, ◌≡◌, List, [], ◌∷◌, map, length, take}
-use Rattle.rules.specs.Records.{most_body, most_nodes, most_sets}
+-- What the types of this crate mean: a layer, a claim, and a rule with what it needs; the sets that work in rule 6;
+-- and which numbers can be looked up. Cited by the contracts. Assumes nothing.
+use Rattle.std.specs.Prelude.{ℕ, ◌≤◌, ◌<◌, ◌≡◌, Bool, ◌&&◌, List, [], ◌∷◌, length, Result, MatchResult}
+use Rattle.std.specs.Int.Bits.{bit_xor}
+use Rattle.rules.specs.Records.{most_nodes, most_sets}
 use Rattle.rules.specs.Checks.{most_work}
-use Rattle.derivation_rules.specs.Derivations.{Claim, claim, Way, way, layer_of}
-use Rattle.derivation_steps.specs.declared.Claim as Value
-use Rattle.derivation_steps.specs.declared.Way as Chosen
+use Rattle.nodes.specs.Work.{so_far}
+use Rattle.derivation_rules.specs.Derivations as R
+use Rattle.derivation_rules.specs.Derivations.{settled, glitch, claim, claimed, way}
+use Rattle.derivation_steps.specs.declared.Layer.{Layer}
+use Rattle.derivation_steps.specs.declared.Layer.TheVariants.{Settled, Glitch}
+use Rattle.derivation_steps.specs.declared.NoLayer.{NoLayer}
+use Rattle.derivation_steps.specs.declared.Claim.{Claim}
+use Rattle.derivation_steps.specs.declared.Way.{Way}
+use Rattle.derivation_steps.specs.declared.Way.TheVariants.{Own, Operand, Empty, First, Second, Both}
 
-abbrev pub claim_of : Value.Claim → Claim
-claim_of c = claim c.node (layer_of c.layer) c.set
+abbrev pub layer_meant : Layer → R.Layer
+layer_meant Settled = settled
+layer_meant Glitch = glitch
 
-abbrev pub needs_of : Chosen.Way → List Claim
-needs_of w = map claim_of (take w.count w.claims)
+-- the layer of a number, where there is one: 0 or 1
+abbrev pub Numbered : ℕ → Result Layer NoLayer → Type 0
+Numbered number result = MatchResult result (λ layer. (number < 2) × (layer_meant layer ≡ R.layer_of number)) (λ _. 2 ≤ number)
 
-abbrev pub way_of : Chosen.Way → Way
-way_of w = way w.rule (needs_of w)
+abbrev pub claim_of : Claim → R.Claim
+claim_of c = claim c.node (layer_meant c.layer) c.set
 
--- there are no more of them than a node has operands, and each is of one of the two layers
-abbrev pub LayeredEach : List Value.Claim → Type 0
-LayeredEach [] = Unit
-LayeredEach (c ∷ claims) = (c.layer < 2) × LayeredEach claims
+abbrev pub way_of : Way → R.Way
+way_of Own = way 1 []
+way_of (Operand c) = way 2 (claim_of c ∷ [])
+way_of Empty = way 3 []
+way_of (First c) = way 4 (claim_of c ∷ [])
+way_of (Second c) = way 5 (claim_of c ∷ [])
+way_of (Both c d) = way 6 (claim_of c ∷ claim_of d ∷ [])
 
-abbrev pub Layered : Chosen.Way → Type 0
-Layered w = (w.count ≤ most_body) × (length w.claims ≡ most_body) × LayeredEach (take w.count w.claims)
+-- whether a set of the first operand works in rule 6, by work bytes that hold the families
+abbrev pub works_of : (work : List ℕ) → R.Layer → (first second set candidate : ℕ) → Bool
+works_of work ℓ first second A B =
+    claimed (so_far work most_nodes) (claim first ℓ B) && claimed (so_far work most_nodes) (claim second ℓ (bit_xor A B))
 
--- work bytes that have room for the families of every netlist, two operands that are numbers of nodes, one of the
--- two layers, and the number of a set
-abbrev pub InRange : (work : List ℕ) (layer first second set : ℕ) → Type 0
-InRange work layer first second set =
-    (most_work ≤ length work) × (first < most_nodes) × (second < most_nodes) × (layer < 2) × (set < most_sets)
+-- work bytes that have room for the families of every netlist, two operands that are numbers of nodes, and the number
+-- of a set
+abbrev pub InRange : (work : List ℕ) (first second set : ℕ) → Type 0
+InRange work first second set =
+    (most_work ≤ length work) × (first < most_nodes) × (second < most_nodes) × (set < most_sets)

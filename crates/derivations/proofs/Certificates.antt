@@ -78,7 +78,7 @@ fitting_few bytes = go (ltb most_steps (bytes / step_size)) refl
     go false e = (ltb-false _ _ e, omega arith)
 
 module _ (outcome : Outcome Netlist) (i k A : ℕ) (before found : List ℕ) (r : Result ℕ Refusal)
-    (told : Told outcome (record { node = i; layer = k; set = A }) (fitting (length before)) r found) where
+    (told : Told outcome i k A (fitting (length before)) r found) where
   -- a refusal leaves it as it was
   pub slice_kept : (refusal : Refusal) → r ≡ Err refusal → before ≡ filled (λ n. steps_out (derived n i k A)) outcome before
   unfolding filled and_then

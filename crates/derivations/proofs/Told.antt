@@ -2,7 +2,7 @@
 -- holds at its front. Assumes nothing.
 use Rattle.std.specs.Prelude.{Result, Ok}
 use Rattle.rules.specs.declared.Refusal.{Refusal}
-use Prim.Native.Nat.{ℕ, ◌*◌, ◌≤◌, ◌<◌}
+use Prim.Native.Nat.{ℕ, ◌+◌, ◌*◌, ◌≤◌, ◌<◌}
 use mathlib.Core.Path.{◌≡◌, sym, ◌∙◌}
 use mathlib.Core.Logic.{◌⊎◌, inl, inr}
 use mathlib.Core.Bool.{true, false}
@@ -11,11 +11,11 @@ use native.Mathlib.Nat.{zero-add}
 use native.Mathlib.Omega.{arith}
 use borrow.Author.Tests.{lt-ltb, le-ltb}
 use lib.ListN.{length, take}
+use Rattle.std.specs.Prelude.{Option, None, Some}
 use Rattle.rules.specs.Records.{Netlist}
 use Rattle.rules.specs.Checks.{Outcome, answered, refused, and_then, Check, judged, read, node_check, number_check, queried_with}
 use Rattle.rule_laws.proofs.Tests.{lt_or_le}
 use Rattle.query_netlists.proofs.Asking.{rows_refuse, rows_pass}
-use Rattle.derivation_steps.specs.declared.Claim.{Claim}
 use Rattle.derivation_rules.specs.Derivations.{Step, step_size, steps_out, in_family, derived, set_check, steps_check, explainable, derivable}
 use Rattle.derivations.specs.Meaning.{derived_of}
 use Rattle.derivations.specs.Written.{Written, derivable_in, Told}
@@ -58,9 +58,9 @@ module _ (n : Netlist) (i k A room : ℕ) where
 
 -- ---- what is told
 
-module _ (outcome : Outcome Netlist) (c : Claim) (room : ℕ) (slice : List ℕ) where
+module _ (outcome : Outcome Netlist) (i k A room : ℕ) (slice : List ℕ) where
   -- a refusal, which says nothing of the slice
-  pub told_refused : (r : Result ℕ Refusal) (number place : ℕ) → outcome ≡ refused number place → derived_of r ≡ refused number place → Told outcome c room r slice
+  pub told_refused : (r : Result ℕ Refusal) (number place : ℕ) → outcome ≡ refused number place → derived_of r ≡ refused number place → Told outcome i k A room r slice
   unfolding and_then
   told_refused r number place is reply = record {
     reply = rw is reply;
@@ -73,9 +73,9 @@ module _ (outcome : Outcome Netlist) (c : Claim) (room : ℕ) (slice : List ℕ)
 
   -- steps that fit, at the front of the slice
   pub told_steps : (n : Netlist) → outcome ≡ answered n
-      → length (derived n c.node c.layer c.set) ≤ room
-      → take (step_size * length (derived n c.node c.layer c.set)) slice ≡ steps_out (derived n c.node c.layer c.set)
-      → Told outcome c room (Ok (length (derived n c.node c.layer c.set))) slice
+      → length (derived n i k A) ≤ room
+      → take (step_size * length (derived n i k A)) slice ≡ steps_out (derived n i k A)
+      → Told outcome i k A room (Ok (length (derived n i k A))) slice
   unfolding and_then
   told_steps n is fits written = record {
     reply = rw is;
@@ -88,24 +88,23 @@ module _ (outcome : Outcome Netlist) (c : Claim) (room : ℕ) (slice : List ℕ)
 
 -- ---- steps from the front on
 
-module _ {before after : List ℕ} {room next : ℕ} {steps : List Step} (w : Written before after 0 room next steps) where
-  pub over_all : room < next → room < length steps
-  over_all over = go (lt_or_le room (length steps))
+apart : {k : ℕ} → Some k ≡ None → ⊥
+apart e = cc
+
+module _ {before after : List ℕ} {room : ℕ} {next : Option ℕ} {steps : List Step} (w : Written before after 0 room next steps) where
+  pub over_all : next ≡ None → room < length steps
+  over_all none = go (lt_or_le room (length steps))
     where
       go : (room < length steps) ⊎ (length steps ≤ room) → room < length steps
       go (inl l) = l
-      go (inr l) = absurd (omega (arith, (w.fits (omega arith)).0))
+      go (inr l) = absurd (apart (sym (w.fits (omega arith)).0 ∙ none))
 
-  pub fit_all : next ≤ room → length steps ≤ room
-  fit_all fits = go (lt_or_le room (length steps))
+  pub count_all : (count : ℕ) → next ≡ Some count → (length steps ≤ room) × (length steps ≡ count)
+  count_all count is = go (lt_or_le room (length steps))
     where
-      go : (room < length steps) ⊎ (length steps ≤ room) → length steps ≤ room
-      go (inl l) = absurd (omega (arith, w.over (omega arith)))
-      go (inr l) = l
+      go : (room < length steps) ⊎ (length steps ≤ room) → (length steps ≤ room) × (length steps ≡ count)
+      go (inl l) = absurd (apart (sym is ∙ w.over (omega arith)))
+      go (inr l) = let same : 0 + length steps ≡ count = cc (w.fits (omega arith)).0 in (l, omega arith)
 
-  module _ (fits : length steps ≤ room) where
-    pub count_all : next ≡ length steps
-    count_all = omega (arith, (w.fits (omega arith)).0)
-
-    pub bytes_all : take (step_size * length steps) after ≡ steps_out steps
-    bytes_all = let whole = (w.fits (omega arith)).1.bytes in rw zero-add at whole
+  pub bytes_all : length steps ≤ room → take (step_size * length steps) after ≡ steps_out steps
+  bytes_all fits = let whole = (w.fits (omega arith)).1.bytes in rw zero-add at whole

@@ -5,18 +5,18 @@
 // For `desk`, and for callers of the library.
 #![tactic(auto)]
 
-ghost use Rattle.std.specs.Prelude.{◌≡◌, List, ℕ, ◌*◌, ◌<◌, ◌≤◌, length};
+ghost use Rattle.std.specs.Prelude.{◌≡◌, true, false, List, ℕ, ◌*◌, ◌<◌, ◌≤◌, length, MatchOption};
 ghost use Rattle.rules.specs.Records as Records;
 ghost use Rattle.rules.specs.Records.{most_sets};
 ghost use Rattle.rules.specs.Checks.{answered};
 ghost use Rattle.netlists.specs.Netlists.{flat_of};
-ghost use Rattle.derivation_rules.specs.Derivations.{step_size, derivation, explained, layer_of, in_family};
+ghost use Rattle.derivation_rules.specs.Derivations.{step_size, derivation, explained, claim, layer_of, in_family};
 ghost use Rattle.derivation_rules.specs.Derivations.{most_steps, fitting, steps_reply, steps_after, Certificate};
-ghost use Rattle.derivation_steps.specs.Meaning.{needs_of};
+ghost use Rattle.derivation_steps.specs.Meaning.{layer_meant, claim_of, way_of};
 ghost use Rattle.derivations.specs.Meaning.{derived_of};
 ghost use Rattle.derivations.specs.Written.{Known, Held, HeldEach, Written, derivable_in, Told, ReadAs};
 
-use derivation_steps::{Claim, STEP, Way};
+use derivation_steps::{Claim, Layer, STEP, Way};
 use netlists::Netlist;
 use rules::{MOST_WORK, Refusal, Reason};
 
@@ -27,7 +27,8 @@ pub const MOST_STEPS: usize = 512;
 pub const MOST_BYTES: usize = STEP * MOST_STEPS;
 
 // Explains a claim: the first rule that works is its step, and then its operands are explained. There are `at` steps so
-// far, and room for `room`; the reply is how many there are then, or more than `room` once they do not fit.
+// far, and room for `room`; the reply is how many there are then, if they fit.
+// No struct of netlist and work bytes: `Known` has a list, and a ghost field takes only a fact that has one proof.
 #[cycle(explain_cell_explain_operands)]
 fn explain_cell(
     netlist: Netlist,
@@ -36,85 +37,94 @@ fn explain_cell(
     steps: &mut [u8],
     at: usize,
     room: usize,
-) -> usize
+) -> Option<usize>
     requires { Known netlist work.now × Held netlist netlist.count claim ×
         (step_size * room ≤ length steps.old) × (room ≤ most_steps) }
     ensures { (n : Records.Netlist) → netlist ≡ flat_of n →
-        Written steps.old steps.new at room result (derivation n claim.node (layer_of claim.layer) claim.set) }
+        Written steps.old steps.new at room result (derivation n claim.node (layer_meant claim.layer) claim.set) }
 {
     if room <= at {
-        return room + 1;
+        return None;
     }
-    let node = claim.node;
-    let way = derivation_steps::choose(work, netlist.nodes[node], claim.layer, claim.set);
-    derivation_steps::put_step(steps, at, claim, way.rule);
-    explain_operands(netlist, work, node, way, steps, at + 1, room)
+    let way = derivation_steps::choose(work, netlist.nodes[claim.node], claim.layer, claim.set);
+    derivation_steps::put_step(steps, at, claim, way.rule());
+    explain_operands(netlist, work, way, steps, at + 1, room)
 }
 
-// Explains what a step of a node needs of its operands, claim by claim, the first operand's first.
+// Explains what a step needs of the operands, the first one's claim first.
 #[cycle(explain_cell_explain_operands)]
 fn explain_operands(
     netlist: Netlist,
     work: &[u8],
-    node: usize,
     way: Way,
     steps: &mut [u8],
     at: usize,
     room: usize,
-) -> usize
-    requires { Known netlist work.now × HeldEach netlist node way × (node < netlist.count) ×
+) -> Option<usize>
+    requires { Known netlist work.now × HeldEach netlist netlist.count way × (at ≤ room) ×
         (step_size * room ≤ length steps.old) × (room ≤ most_steps) }
     ensures { (n : Records.Netlist) → netlist ≡ flat_of n →
-        Written steps.old steps.new at room result (explained (derivation n) (needs_of way)) }
+        Written steps.old steps.new at room result (explained (derivation n) (way_of way).needs) }
 {
-    let mut next = at;
-    let mut told = 0;
-    while told < way.count {
-        next = explain_cell(netlist, work, way.claims[told], steps, next, room);
-        told += 1;
+    match way {
+        Way::Own | Way::Empty => Some(at),
+        Way::Operand(only) | Way::First(only) | Way::Second(only) => {
+            explain_cell(netlist, work, only, steps, at, room)
+        }
+        Way::Both(first, second) => {
+            let next = explain_cell(netlist, work, first, steps, at, room)?;
+            explain_cell(netlist, work, second, steps, next, room)
+        }
     }
-    next
 }
 
 // How many steps a slice of so many bytes takes: whole ones, and no more than there may be.
 fn fitting(bytes: usize) -> usize
     ensures { result ≡ fitting bytes }
 {
-    let whole = bytes / STEP;
-    if MOST_STEPS < whole {
-        MOST_STEPS
-    } else {
-        whole
-    }
+    (bytes / STEP).min(MOST_STEPS)
 }
 
-// Whether a set is in the family of a node in a layer, by work bytes that hold the families: no layer above 1 has any.
-fn in_family(netlist: Netlist, work: &[u8], claim: Claim) -> bool
-    requires { Known netlist work.now × (claim.node < netlist.count) × (claim.set < most_sets) }
+// The claim that a set is in the family of a node in a layer, if it is, by work bytes that hold the families: no layer
+// above 1 has any.
+fn in_family(netlist: Netlist, work: &[u8], node: usize, layer: usize, set: usize) -> Option<Claim>
+    requires { Known netlist work.now × (node < netlist.count) × (set < most_sets) }
     ensures { (n : Records.Netlist) → netlist ≡ flat_of n →
-        result ≡ in_family n claim.node claim.layer claim.set }
+        MatchOption result (in_family n node layer set ≡ false)
+        (λ found. (in_family n node layer set ≡ true) × (claim_of found ≡ claim node (layer_of layer) set)) }
 {
-    claim.layer < 2 && derivation_steps::has(work, claim)
+    let Ok(layer) = Layer::try_from(layer) else {
+        return None;
+    };
+    let claim = Claim { node, layer, set };
+    derivation_steps::has(work, claim).then_some(claim)
 }
 
-// Explains a claim in a slice that has room for so many steps: refusals 12 and 13 of its node and its set, then 16,
-// and last 15. The steps of a refusal may stand there, as many as fit.
-fn explain(netlist: Netlist, work: &[u8], claim: Claim, steps: &mut [u8], room: usize) -> Result<usize, Refusal>
+// Explains a set of a node's family in a slice that has room for so many steps: refusals 12 and 13 of its node and its
+// set, then 16, and last 15. The steps of a refusal may stand there, as many as fit.
+fn explain(
+    netlist: Netlist,
+    work: &[u8],
+    node: usize,
+    layer: usize,
+    set: usize,
+    steps: &mut [u8],
+    room: usize,
+) -> Result<usize, Refusal>
     requires { Known netlist work.now × (step_size * room ≤ length steps.old) × (room ≤ most_steps) }
     ensures { (n : Records.Netlist) → netlist ≡ flat_of n →
-        Told (derivable_in n claim.node claim.layer claim.set room) claim room result steps.new }
+        Told (derivable_in n node layer set room) node layer set room result steps.new }
 {
-    if let Err(refusal) = query_netlists::judge(netlist, claim.node, claim.set) {
+    if let Err(refusal) = query_netlists::judge(netlist, node, set) {
         return Err(refusal);
     }
-    if !in_family(netlist, work, claim) {
-        return Err(Reason::NotInFamily.at(claim.set));
+    let Some(claim) = in_family(netlist, work, node, layer, set) else {
+        return Err(Reason::NotInFamily.at(set));
+    };
+    match explain_cell(netlist, work, claim, steps, 0, room) {
+        Some(count) => Ok(count),
+        None => Err(Reason::TooManySteps.at(room)),
     }
-    let count = explain_cell(netlist, work, claim, steps, 0, room);
-    if room < count {
-        return Err(Reason::TooManySteps.at(room));
-    }
-    Ok(count)
 }
 
 // What `derive` does, for whoever holds the netlist with its families: `work` has room for every netlist
@@ -138,9 +148,8 @@ pub fn derive_held(
     ensures most { (count : ℕ) → derived_of result ≡ answered count → count ≤ most_steps }
 {
     let mut found = [0u8; MOST_BYTES];
-    let claim = Claim { node, layer, set };
     let room = fitting(steps.len());
-    let reply = explain(netlist, work, claim, &mut found, room);
+    let reply = explain(netlist, work, node, layer, set, &mut found, room);
     if let Ok(count) = reply {
         let end = STEP * count;
         steps[..end].copy_from_slice(&found[..end]);

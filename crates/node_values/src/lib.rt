@@ -2,11 +2,11 @@
 // netlist by value and touches no lent slice. Used by `queries`.
 #![tactic(auto)]
 
-ghost use Rattle.std.specs.Prelude.{◌≡◌, false, ℕ, ◌<◌, ◌≤◌, length, get_or};
+ghost use Rattle.std.specs.Prelude.{◌≡◌, false, ℕ, ◌<◌, ◌≤◌, length, get_or, take};
 ghost use Rattle.rules.specs.Lists.{member, tabulate};
 ghost use Rattle.rules.specs.Records as Records;
-ghost use Rattle.rules.specs.Records.{Cell, listed, first_of, bits, most_nodes, most_body};
-ghost use Rattle.rules.specs.Values.{exclusive_or, value_rule, values, feeding};
+ghost use Rattle.rules.specs.Records.{Cell, bits, most_nodes, most_body};
+ghost use Rattle.rules.specs.Values.{exclusive_or, value_rule, values, is_point, feeding};
 ghost use Rattle.rules.specs.Slices.{entry};
 ghost use Rattle.netlists.specs.Netlists.{padded, flat_of, Formed, Placed};
 ghost use Rattle.node_values.specs.Marks.{mark_all, handed_on};
@@ -23,12 +23,10 @@ fn exclusive_or(variables: usize, set: usize, assignment: usize) -> bool
     let mut s = set;
     let mut x = assignment;
     let mut sum = false;
-    let mut v = 0;
-    while v < variables {
-        sum = sum ^ (s % 2 == 1 && x % 2 == 1);
-        s = s / 2;
-        x = x / 2;
-        v += 1;
+    for v in 0..variables {
+        sum ^= s % 2 == 1 && x % 2 == 1;
+        s /= 2;
+        x /= 2;
     }
     sum
 }
@@ -39,15 +37,14 @@ fn value_from(values: &[bool], node: Node, variables: usize, assignment: usize) 
     ensures { (cell : Cell) → node ≡ entry cell →
         result ≡ value_rule (bits variables assignment) values.now cell }
 {
-    let kind = node.kind;
     let first = values[node.first as usize];
     let second = values[node.second as usize];
-    match kind {
+    match node.kind {
         2 => exclusive_or(variables, node.set as usize, assignment),
         3 => !first,
         4 => first ^ second,
-        5 => first & second,
-        6 => first | second,
+        5 => first && second,
+        6 => first || second,
         _ => first,
     }
 }
@@ -58,13 +55,9 @@ pub fn settled_values(netlist: Netlist, assignment: usize) -> [bool; MOST_NODES]
     ensures { (n : Records.Netlist) → netlist ≡ flat_of n →
         result ≡ padded most_nodes false (values n (bits (length n.variables) assignment)) }
 {
-    let variables = netlist.variables;
-    let count = netlist.count;
     let mut values = [false; MOST_NODES];
-    let mut i = 0;
-    while i < count {
-        values[i] = value_from(&values, netlist.nodes[i], variables, assignment);
-        i += 1;
+    for i in 0..netlist.count {
+        values[i] = value_from(&values, netlist.nodes[i], netlist.variables, assignment);
     }
     values
 }
@@ -74,15 +67,20 @@ pub fn settled_values(netlist: Netlist, assignment: usize) -> [bool; MOST_NODES]
 // The marks with those of some operands.
 fn mark_all(marks: [bool; MOST_NODES], operands: Operands) -> [bool; MOST_NODES]
     requires { (operands.count ≤ most_body) × ((j : ℕ) → get_or operands.at j 0 < most_nodes) }
-    ensures { result ≡ mark_all (listed operands.count (first_of operands.count operands.at)) marks }
+    ensures { result ≡ mark_all (take operands.count operands.at) marks }
 {
     let mut marked = marks;
-    let mut j = 0;
-    while j < operands.count {
-        marked[operands.at[j] as usize] = true;
-        j += 1;
+    for operand in &operands.at[..operands.count] {
+        marked[*operand as usize] = true;
     }
     marked
+}
+
+// Whether a node is an input or a register.
+fn is_point(node: Node) -> bool
+    ensures { (cell : Cell) → node ≡ entry cell → result ≡ is_point cell }
+{
+    node.kind == 2 || node.kind == 7
 }
 
 // The marks once node `i`, where it is a gate and marked, has handed its mark on to its operands.
@@ -90,14 +88,7 @@ fn hand_on(marks: [bool; MOST_NODES], i: usize, node: Node) -> [bool; MOST_NODES
     requires { (i < most_nodes) × Placed most_nodes node }
     ensures { (cell : Cell) → node ≡ entry cell → result ≡ handed_on marks i cell }
 {
-    let kind = node.kind;
-    if !marks[i] {
-        return marks;
-    }
-    if kind == 2 {
-        return marks;
-    }
-    if kind == 7 {
+    if !marks[i] || is_point(node) {
         return marks;
     }
     let mut handed = marks;
@@ -114,9 +105,7 @@ pub fn feeding_marks(netlist: Netlist, node: usize) -> [bool; MOST_NODES]
 {
     let mut marks = [false; MOST_NODES];
     marks[node] = true;
-    let mut i = node + 1;
-    while 0 < i {
-        i -= 1;
+    for i in (0..node + 1).rev() {
         marks = hand_on(marks, i, netlist.nodes[i]);
     }
     marks

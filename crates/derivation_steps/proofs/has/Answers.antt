@@ -2,10 +2,12 @@
 use mathlib.Core.Path.{sym, ap, ◌∙◌}
 use Rattle.rules.specs.Lists.{member}
 use Rattle.derivation_rules.specs.Derivations.{claimed}
-use Rattle.derivation_steps.proofs.Claims.{part_of}
+use Rattle.derivation_steps.specs.Meaning.{layer_meant}
+use Rattle.derivation_steps.proofs.Claims.{part_of, layer_as}
 use Rattle.derivation_steps.proofs.has.Goals as goal
 
 pub returns : goal.returns
 unfolding claimed
 returns c =
-    c.holds.ensures ∙ ap (member _) (sym (part_of _ _ _ c.requires.1 c.requires.2))
+    let a = c.args in
+    rw layer_as at c.holds.ensures ∙ ap (member _) (sym (part_of a.work.now a.claim.node (layer_meant a.claim.layer) c.requires.1))

@@ -20,7 +20,7 @@ use Rattle.derivations.proofs.derive_held.Goals.{After-explain-reply}
 -- what was told of the claim, for as many steps as the slice takes
 told : (c : After-explain-reply) (n : R.Netlist) → let a = c.args in
     a.netlist ≡ flat_of n
-    → Told (derivable_in n a.node a.layer a.set (fitting (length a.steps.now))) (record { node = a.node; layer = a.layer; set = a.set })
+    → Told (derivable_in n a.node a.layer a.set (fitting (length a.steps.now))) a.node a.layer a.set
     (fitting (length a.steps.now)) c.explain-reply.result c.explain-reply.new.steps
 told c n e = rw c.fitting-room.ensures at (c.explain-reply.ensures n e)
 

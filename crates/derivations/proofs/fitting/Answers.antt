@@ -1,12 +1,17 @@
 -- `fitting` meets its contract. Assumes nothing.
-use borrow.Author.Tests.{lt-ltb, le-ltb}
-use Rattle.derivation_rules.specs.Derivations.{fitting}
+use Rattle.std.proofs.Common.{ℕ, ◌≡◌, Bool, true, false, cond, arith, refl, min, ◌∙◌}
+use borrow.Author.Tests.{ltb-true, ltb-false}
+use lib.Dec.{ltb}
+use Rattle.derivation_rules.specs.Derivations.{most_steps, fitting}
 use Rattle.derivations.proofs.fitting.Goals as goal
 
-pub returns-then-whole-gt-MOST_STEPS : goal.returns-then-whole-gt-MOST_STEPS
-unfolding fitting
-returns-then-whole-gt-MOST_STEPS c = rw (lt-ltb _ _ c.if-whole-gt-MOST_STEPS.true)
+lower : (whole : ℕ) → min whole most_steps ≡ cond (ltb most_steps whole) most_steps whole
+lower whole = go (ltb most_steps whole) refl
+  where
+    go : (b : Bool) → ltb most_steps whole ≡ b → min whole most_steps ≡ cond b most_steps whole
+    go true e = omega (arith, ltb-true most_steps whole e)
+    go false e = omega (arith, ltb-false most_steps whole e)
 
-pub returns-else-whole-gt-MOST_STEPS : goal.returns-else-whole-gt-MOST_STEPS
+pub returns : goal.returns
 unfolding fitting
-returns-else-whole-gt-MOST_STEPS c = rw (le-ltb _ _ c.if-whole-gt-MOST_STEPS.false)
+returns c = c.min.ensures ∙ lower _

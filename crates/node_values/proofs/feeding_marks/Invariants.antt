@@ -1,6 +1,5 @@
 -- `node_values::feeding_marks` meets its contract. The invariant: the marks lead to the points that feed the node,
--- with i nodes to go. The measure is i. Assumes nothing.
-use Prim.Native.Nat.{◌+◌, ◌≤◌}
+-- with i nodes to go. Assumes nothing.
 use mathlib.Core.Path.{◌≡◌}
 use lib.ListN.{length}
 use Rattle.rules.specs.Records.{most_nodes}
@@ -9,7 +8,4 @@ use Rattle.node_values.proofs.Marks.{Leads}
 use Rattle.node_values.proofs.feeding_marks.Given as goal
 
 abbrev pub invariant-loop-i : goal.invariant-loop-i
-invariant-loop-i l = (l.i ≤ l.node + 1) × (length l.marks ≡ most_nodes) × ((f : Formed l.netlist) → Leads f.netlist l.node l.marks l.i)
-
-abbrev pub decreases-loop-i : goal.decreases-loop-i
-decreases-loop-i l = l.i
+invariant-loop-i l = (length l.marks ≡ most_nodes) × ((f : Formed l.netlist) → Leads f.netlist l.node l.marks l.i)

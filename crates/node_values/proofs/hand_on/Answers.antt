@@ -1,21 +1,18 @@
 -- `node_values::hand_on` meets its contract: the code's tests of the mark and of the record's kind are those of the
 -- definition, and a gate's operands are marked. Assumes nothing.
 use Prim.Native.Nat.{ℕ}
-use mathlib.Core.Path.{◌≡◌, refl, ap, ◌∙◌}
+use mathlib.Core.Path.{◌≡◌, refl, sym, ◌∙◌}
 use mathlib.Core.Bool.{Bool, true, false, cond, ◌&&◌}
 use mathlib.Core.List.{List}
 use native.Mathlib.Omega.{arith}
-use borrow.Author.Tests.{ne_eqb}
-use lib.ListN.{length, get_or, set}
-use Rattle.rules.specs.declared.Node.{Node}
-use Rattle.rules.specs.Records.{listed, first_of, Cell, kind_of, operands, most_body}
+use lib.ListN.{length, get_or, set, take}
+use Rattle.rules.specs.Records.{Cell, operands, most_body}
 use Rattle.rules.specs.Values.{is_point}
-use Rattle.rules.specs.Slices.{entry}
-use Rattle.rule_laws.proofs.Operands.{listed_first, few_operands}
 use Rattle.netlists.specs.Netlists.{padded}
-use Rattle.netlists.proofs.Netlists.{padded_length, padded_same, padded_first, placed_operand}
+use Rattle.netlists.proofs.Netlists.{padded_same, padded_first, placed_operand}
 use Rattle.node_values.specs.Marks.{mark_all, handed_on}
 use Rattle.node_values.proofs.hand_on.Goals as goal
+use Rattle.node_values.proofs.hand_on.Goals.{then-not-marks-i-via-then-not-marks-i, then-not-marks-i-via-else-not-marks-i+then-is_point}
 
 module _ (marks : List Bool) (i : ℕ) (cell : Cell) where
   unmarked : get_or marks i false ≡ false → marks ≡ handed_on marks i cell
@@ -34,39 +31,16 @@ module _ (marks : List Bool) (i : ℕ) (cell : Cell) where
   unfolding handed_on
   of-gate e f = rw (e, f)
 
--- the kind of a node's record is the node's
-own_kind : {node : Node} (cell : Cell) → node ≡ entry cell → node.kind ≡ kind_of cell
-unfolding entry
-own_kind cell e = ap (λ (n : Node). n.kind) e
-
-input-point : {node : Node} (cell : Cell) → node ≡ entry cell → node.kind ≡ 2 → is_point cell ≡ true
-unfolding is_point
-input-point cell e k = rw (← own_kind cell e, k)
-
-register-point : {node : Node} (cell : Cell) → node ≡ entry cell → node.kind ≡ 7 → is_point cell ≡ true
-unfolding is_point
-register-point cell e k = rw (← own_kind cell e, k)
-
-no-point : {node : Node} (cell : Cell) → node ≡ entry cell → (node.kind ≡ 2 → ⊥) → (node.kind ≡ 7 → ⊥) → is_point cell ≡ false
-unfolding is_point
-no-point {node} cell e p q = rw (← own_kind cell e, ne_eqb node.kind 2 p, ne_eqb node.kind 7 q)
-
 pub returns-then-not-marks-i : goal.returns-then-not-marks-i
-returns-then-not-marks-i c cell e = unmarked _ _ cell c.if-not-marks-i.true
-
-pub returns-then-kind-eq2 : goal.returns-then-kind-eq2
-returns-then-kind-eq2 c cell e = of-point _ _ cell (input-point cell e c.if-kind-eq2.true)
-
-pub returns-then-kind-eq7 : goal.returns-then-kind-eq7
-returns-then-kind-eq7 c cell e = of-point _ _ cell (register-point cell e c.if-kind-eq7.true)
+returns-then-not-marks-i c cell e = elim c.then-not-marks-i.branch [
+  | then-not-marks-i-via-then-not-marks-i w ↦ unmarked _ _ cell w.if-not-marks-i.true
+  | then-not-marks-i-via-else-not-marks-i+then-is_point w ↦ of-point _ _ cell (sym (w.is_point.ensures cell e) ∙ w.if-is_point.true)
+]
 
 -- the operands of a node, taken from its fields by their count
 taken : (nodes : List ℕ) (count : ℕ) (cell : Cell) → (count ≡ length (operands cell)) × (nodes ≡ padded most_body 0 (operands cell))
-    → listed count (first_of count nodes) ≡ operands cell
-taken nodes count cell (many, e) =
-    rw (e, many)
-    (listed_first (length (operands cell)) (padded most_body 0 (operands cell)) (omega (arith, few_operands cell, padded_length most_body 0 (operands cell) (few_operands cell)))
-    ∙ padded_first most_body 0 (operands cell))
+    → take count nodes ≡ operands cell
+taken nodes count cell (many, e) = rw (e, many) (padded_first most_body 0 (operands cell))
 
 pub mark_all-requires : goal.mark_all-requires
 mark_all-requires c =
@@ -78,4 +52,4 @@ mark_all-requires c =
 pub returns : goal.returns
 returns c cell e =
     rw (c.mark_all.ensures, taken _ _ cell (c.operands_of.ensures.count_value cell e))
-    (of-gate _ _ cell c.if-not-marks-i.false (no-point cell e c.if-kind-eq2.false c.if-kind-eq7.false))
+    (of-gate _ _ cell c.if-not-marks-i.false (sym (c.is_point.ensures cell e) ∙ c.if-is_point.false))

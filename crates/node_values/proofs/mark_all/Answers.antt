@@ -1,48 +1,22 @@
--- `node_values::mark_all` meets its contract. The loop's invariant: with the nodes from j on marked too, all are.
--- The measure is the number of nodes left. Assumes nothing.
-use Prim.Native.Nat.{ℕ, suc, ◌<◌}
-use mathlib.Core.Path.{◌≡◌, refl, sym, ap, ◌∙◌}
-use mathlib.Core.Bool.{Bool, true}
-use mathlib.Core.List.{List, []}
-use native.Mathlib.Numerals.{add-one}
-use native.Mathlib.Omega.{arith}
-use lib.ListN.{get_or, drop, set}
-use lib.Seq.{drop-cons, drop-length}
-use Rattle.rules.specs.Records.{listed, first_of}
-use Rattle.rule_laws.proofs.Operands.{listed_length, first_at}
+-- `node_values::mark_all` meets its contract. Assumes nothing.
+use Rattle.std.proofs.Common.{◌≡◌, ◌+◌, ◌<◌, ◌≤◌, sym, ◌∙◌, ℕ, Bool, true, List, set, length, get_or, drop, add-one}
+use lib.ListN.{drop_of_length-le}
+use lib.Seq.{drop-cons}
 use Rattle.node_values.specs.Marks.{mark_all}
-use Rattle.node_values.proofs.mark_all.Invariants.{rest}
 use Rattle.node_values.proofs.mark_all.Goals as goal
 
-next : (count : ℕ) (nodes : List ℕ) (j : ℕ) (marks : List Bool) → j < count
-    → mark_all (rest count nodes j) marks ≡ mark_all (rest count nodes (suc j)) (set marks (get_or nodes j 0) true)
+next : (nodes : List ℕ) (k : ℕ) (marks : List Bool) → k < length nodes
+    → mark_all (drop k nodes) marks ≡ mark_all (drop (k + 1) nodes) (set marks (get_or nodes k 0) true)
 unfolding mark_all
-next count nodes j marks h =
-    ap (λ (l : List ℕ). mark_all l marks)
-    (drop-cons (listed count (first_of count nodes)) j 0 (omega (arith, listed_length count (first_of count nodes))))
-    ∙ ap (λ (a : ℕ). mark_all (rest count nodes (suc j)) (set marks a true)) (first_at count nodes j h)
+next nodes k marks h = rw (add-one, drop-cons nodes k 0 h)
 
 -- where none are left, all are marked
-all-marked : (count : ℕ) (nodes : List ℕ) (j : ℕ) (marks before : List Bool) → j ≡ count → mark_all (rest count nodes j) marks ≡ before → marks ≡ before
+all_marked : (nodes : List ℕ) (k : ℕ) (marks : List Bool) → length nodes ≤ k → mark_all (drop k nodes) marks ≡ marks
 unfolding mark_all
-all-marked count nodes j marks before all e =
-    let none : rest count nodes j ≡ [] =
-    ap (λ (k : ℕ). drop k (listed count (first_of count nodes))) (all ∙ sym (listed_length count (first_of count nodes)))
-    ∙ drop-length (listed count (first_of count nodes)) in
-    rw none at e
+all_marked nodes k marks h = rw (drop_of_length-le nodes h)
 
-pub loop-j-init : goal.loop-j-init
-loop-j-init c = (omega arith, c.requires.0, c.requires.1, refl)
-
-pub bounds-marked-operands : goal.bounds-marked-operands
-bounds-marked-operands c = c.loop-j.invariant.2 c.loop-j.j
-
-pub loop-j-preserved : goal.loop-j-preserved
-loop-j-preserved c =
-    let inv = c.loop-j.invariant in
-    (omega arith, inv.1, inv.2, rw add-one (sym (next _ _ _ _ c.loop-j-test.true) ∙ inv.3))
+pub loop-operand-preserved : goal.loop-operand-preserved
+loop-operand-preserved c = sym (next _ _ _ c.loop-operand-test.true) ∙ c.loop-operand.invariant
 
 pub returns : goal.returns
-returns c =
-    let all : c.loop-j.j ≡ c.args.operands.count = omega arith in
-    all-marked _ _ _ _ _ all c.loop-j.invariant.3
+returns c = sym (all_marked _ _ _ c.loop-operand-test.false) ∙ c.loop-operand.invariant

@@ -1,6 +1,6 @@
 -- `node_values::settled_values` meets its contract. The invariant: the values of the first i nodes stand, of the
 -- netlist that is asked, and beyond them all is 0. A value beyond the table is 0 as well, so the rule gives of either list the
--- same. The measure is the number of nodes left. Assumes nothing.
+-- same. Assumes nothing.
 use Prim.Native.Nat.{ℕ, ◌+◌, ◌≤◌, ◌<◌}
 use mathlib.Core.Path.{◌≡◌, refl, sym, ◌∙◌}
 use mathlib.Core.Bool.{Bool, false}
@@ -62,10 +62,7 @@ module _ {value : Value.Netlist} (f : Formed value) where
       rw (← one_netlist f n same, ← all_first own (under own x) i all) e
 
 pub loop-i-init : goal.loop-i-init
-loop-i-init c = (omega arith, length-replicate most_nodes false, λ f. none_first f.netlist _ most_nodes)
-
-pub slice_bounds-value_from-end : goal.slice_bounds-value_from-end
-slice_bounds-value_from-end c = sym c.loop-i.invariant.1
+loop-i-init c = (length-replicate most_nodes false, λ f. none_first f.netlist _ most_nodes)
 
 pub offset_bounds-netlist-i : goal.offset_bounds-netlist-i
 offset_bounds-netlist-i c = omega (arith, few_nodes c.requires)
@@ -77,20 +74,16 @@ pub value_from-requires : goal.value_from-requires
 value_from-requires c =
     let p = placed_later (few_nodes c.requires) (placed_later (omega arith) (placed_at c.requires _ c.loop-i-test.true)) in
     let lower = placed_operand p (omega arith) in
-    rw (c.loop-i.invariant.1, p.is) (unfold entry in (lower 0, lower 1))
+    rw (c.loop-i.invariant.0, p.is) (unfold entry in (lower 0, lower 1))
 
 pub bounds-values-i : goal.bounds-values-i
 bounds-values-i c = omega (arith, few_nodes c.requires)
 
-pub overflow_add-i : goal.overflow_add-i
-overflow_add-i c = omega (arith, few_nodes c.requires)
-
 pub loop-i-preserved : goal.loop-i-preserved
 loop-i-preserved c = (
-  omega arith,
-  simp length-set c.loop-i.invariant.1,
-  λ f. next f _ _ _ _ c.loop-i-test.true (c.loop-i.invariant.2 f) c.value_from.ensures,
+  simp length-set c.loop-i.invariant.0,
+  λ f. next f _ _ _ _ c.loop-i-test.true (c.loop-i.invariant.1 f) c.value_from.ensures,
 )
 
 pub returns : goal.returns
-returns c = finished c.requires _ _ _ c.loop-i-test.false (c.loop-i.invariant.2 c.requires)
+returns c = finished c.requires _ _ _ c.loop-i-test.false (c.loop-i.invariant.1 c.requires)

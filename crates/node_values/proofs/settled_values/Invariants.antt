@@ -1,7 +1,7 @@
 -- `node_values::settled_values` meets its contract. The invariant: the values of the first i nodes stand, of the
 -- netlist that is asked, and beyond them all is 0. A value beyond the table is 0 as well, so the rule gives of either list the
--- same. The measure is the number of nodes left. Assumes nothing.
-use Prim.Native.Nat.{ℕ, ◌-◌, ◌≤◌}
+-- same. Assumes nothing.
+use Prim.Native.Nat.{ℕ}
 use mathlib.Core.Path.{◌≡◌}
 use mathlib.Core.Bool.{Bool, false}
 use mathlib.Core.List.{List, []}
@@ -26,7 +26,4 @@ valuesDone n x i = padded most_nodes false (first n (under n x) i)
 
 abbrev pub invariant-loop-i : goal.invariant-loop-i
 invariant-loop-i l =
-    (l.i ≤ l.count) × (length l.values ≡ most_nodes) × ((f : Formed l.netlist) → l.values ≡ valuesDone f.netlist l.assignment l.i)
-
-abbrev pub decreases-loop-i : goal.decreases-loop-i
-decreases-loop-i l = l.count - l.i
+    (length l.values ≡ most_nodes) × ((f : Formed l.netlist) → l.values ≡ valuesDone f.netlist l.assignment l.i)

@@ -46,11 +46,17 @@ pub returns-in-4 : goal.returns-in-4
 unfolding xor
 returns-in-4 c = by_record _ _ _ _ (rw c.in-4.is)
 
-pub returns-in-5 : goal.returns-in-5
-returns-in-5 c = by_record _ _ _ _ (rw c.in-5.is)
+pub returns-then-first : goal.returns-then-first
+returns-then-first c = by_record _ _ _ _ (rw (c.in-5.is, c.if-first.true))
 
-pub returns-in-6 : goal.returns-in-6
-returns-in-6 c = by_record _ _ _ _ (rw c.in-6.is)
+pub returns-else-first : goal.returns-else-first
+returns-else-first c = by_record _ _ _ _ (rw (c.in-5.is, c.if-first.false))
+
+pub returns-then-first-2 : goal.returns-then-first-2
+returns-then-first-2 c = by_record _ _ _ _ (rw (c.in-6.is, c.if-first-2.true))
+
+pub returns-else-first-2 : goal.returns-else-first-2
+returns-else-first-2 c = by_record _ _ _ _ (rw (c.in-6.is, c.if-first-2.false))
 
 pub returns-in_default : goal.returns-in_default
 returns-in_default c =
