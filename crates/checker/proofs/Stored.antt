@@ -9,12 +9,14 @@ use native.Mathlib.Omega.{arith}
 use native.Mathlib.Numerals.{add-one}
 use lib.ListN.{length, get_or, drop, set, length-set}
 use lib.Seq.{drop-cons, set_at, append_snoc}
+use Rattle.std.specs.Prelude.{Ok, Err}
+use Rattle.rules.specs.declared.Refusal.{Refusal}
 use Rattle.rules.specs.declared.NodeRecord.{NodeRecord}
 use Rattle.rules.specs.Lists.{tabulate}
 use Rattle.rules.specs.Records.{input, Netlist, empty, most_nodes}
-use Rattle.rules.specs.Families.{layer_marks}
-use Rattle.rules.specs.Slices.{node_record, node_records, filled, nodes_after}
-use Rattle.rules.specs.Checks.{Outcome, answered, refused, admitted}
+use Rattle.rules.specs.Families.{layer_marks, findings}
+use Rattle.rules.specs.Slices.{node_record, node_records, filled, nodes_after, reply}
+use Rattle.rules.specs.Checks.{Outcome, answered, refused, and_then, admitted}
 use Rattle.rule_laws.proofs.Packing.{tabulate_length, tabulate_same}
 use Rattle.rule_laws.proofs.Exit.{records_length}
 use Rattle.rule_laws.proofs.Reading.{read_well_formed}
@@ -24,7 +26,7 @@ use Rattle.netlists.proofs.Netlists.{flat_entry_at, value_count}
 use Rattle.marks.specs.Marks.{marks_in, marks_of}
 use Rattle.marks.proofs.Layers.{flat_at}
 use Rattle.checker.specs.declared.Examined.{Examined}
-use Rattle.checker.specs.Work.{record_in, unwritten, stored}
+use Rattle.checker.specs.Work.{replied, record_in, unwritten, stored}
 
 module _ (records : ℕ → NodeRecord) (before : List NodeRecord) where
   pub stored_none : stored records before 0 ≡ before
@@ -77,14 +79,23 @@ kept_fits bytes entries work = go (admitted bytes entries work) refl
         (says.room.enough_entries, (read_well_formed bytes n says.is_read).few_nodes)
     go (refused number place) e = (zero-le, zero-le)
 
--- the slice at exit, where what is kept is stored
-pub kept_stored : (bytes : List ℕ) (before : List NodeRecord) (work : ℕ) (examined : Examined)
-    → examined.netlist ≡ flat_of (kept (admitted bytes (length before) work)) → examined.marks ≡ marks_of (kept (admitted bytes (length before) work))
-    → stored (record_in examined) before examined.netlist.count ≡ nodes_after bytes before work
-unfolding kept filled nodes_after node_records tabulate
-kept_stored bytes before work examined is-flat is-marked = go (admitted bytes (length before) work) refl is-flat is-marked
-  where
-    go : (o : Outcome Netlist) → admitted bytes (length before) work ≡ o → examined.netlist ≡ flat_of (kept o) → examined.marks ≡ marks_of (kept o)
-        → stored (record_in examined) before examined.netlist.count ≡ filled node_records o before
-    go (answered n) e f m = netlist_stored examined n f m before (admitted_says bytes (length before) work n e).room.enough_entries
-    go (refused number place) e f m = netlist_stored examined empty f m before zero-le
+-- the slice at exit: where something is examined its records are stored, and on a refusal it is as it was
+module _ (bytes : List ℕ) (before : List NodeRecord) (work : ℕ) where
+  pub examined_stored : (examined : Examined) → replied (Ok examined) ≡ reply bytes (length before) work
+      → examined.netlist ≡ flat_of (kept (admitted bytes (length before) work)) → examined.marks ≡ marks_of (kept (admitted bytes (length before) work))
+      → stored (record_in examined) before examined.netlist.count ≡ nodes_after bytes before work
+  unfolding kept filled nodes_after node_records tabulate
+  examined_stored examined says is-flat is-marked = go (admitted bytes (length before) work) refl is-flat is-marked
+    where
+      go : (o : Outcome Netlist) → admitted bytes (length before) work ≡ o → examined.netlist ≡ flat_of (kept o) → examined.marks ≡ marks_of (kept o)
+          → stored (record_in examined) before examined.netlist.count ≡ filled node_records o before
+      go (answered n) e f m = netlist_stored examined n f m before (admitted_says bytes (length before) work n e).room.enough_entries
+      go (refused number place) e f m = netlist_stored examined empty f m before zero-le
+
+  pub refused_unstored : (r : Refusal) → replied (Err r) ≡ reply bytes (length before) work → before ≡ nodes_after bytes before work
+  unfolding filled nodes_after reply and_then
+  refused_unstored r says = go (admitted bytes (length before) work) says
+    where
+      go : (o : Outcome Netlist) → replied (Err r) ≡ and_then o (λ n. answered (findings n)) → before ≡ filled node_records o before
+      go (answered n) e = cc
+      go (refused number place) e = refl

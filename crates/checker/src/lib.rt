@@ -13,31 +13,19 @@ ghost use Rattle.rules.specs.Demands.{GlitchClear, NothingSuspect, OneProbe};
 ghost use Rattle.rules.specs.Paper.{reply_of};
 ghost use Rattle.netlists.specs.Netlists.{flat_of, Formed, Ready, kept};
 ghost use Rattle.marks.specs.Marks.{marks_of};
-ghost use Rattle.checker.specs.Work.{NothingKept, Examines, ReadsMarks};
+ghost use Rattle.checker.specs.Work.{replied, kept_netlist, kept_marks, Examines, ReadsMarks};
 ghost use Rattle.checker.specs.Work.{JudgesSlices, record_in, stored};
 
 use marks::Marks;
 use netlists::Netlist;
-use rules::{Answer, NodeRecord, Refusal, Reason};
+use rules::{Answer, NodeRecord, Reason, Refusal};
 
-// What an examination gives: the reply, and the netlist and its marks by value.
-// On a refusal these are empty, of no node.
+// What an examination gives: the answer, and the netlist and its marks by value.
 #[derive(Clone, Copy)]
 pub struct Examined {
-    pub reply: Result<Answer, Refusal>,
+    pub answer: Answer,
     pub netlist: Netlist,
     pub marks: Marks,
-}
-
-// What an examination gives that refuses: the empty netlist and no mark.
-pub fn refused(refusal: Refusal) -> Examined
-    ensures { (result.reply ≡ Err refusal) × NothingKept result }
-{
-    Examined {
-        reply: Err(refusal),
-        netlist: netlists::no_records(),
-        marks: marks::no_marks(),
-    }
 }
 
 // What an examination gives of a netlist with its marks: the answer, each half of which is read from the marks,
@@ -53,7 +41,7 @@ pub fn read_marks(netlist: Netlist, marks: Marks) -> Examined
         glitch: marks::lowest_marked(marks.glitch, netlist.count),
     };
     Examined {
-        reply: Ok(answer),
+        answer,
         netlist,
         marks,
     }
@@ -64,7 +52,7 @@ pub fn read_marks(netlist: Netlist, marks: Marks) -> Examined
 fn answer(netlist: Netlist, work: &mut [u8]) -> Examined
     requires { Ready netlist (length work.old) }
     ensures { (n : Records.Netlist) → netlist ≡ flat_of n →
-        Examines (answered n) result work.old work.new }
+        Examines (answered n) (Ok result) work.old work.new }
 {
     nodes::all_families(netlist, work);
     read_marks(netlist, marks::all_marks(netlist, work))
@@ -85,39 +73,22 @@ pub fn slices_fit(count: usize, entries: usize, work: usize) -> Result<(), Refus
     Ok(())
 }
 
-// The answer for a netlist that was read, or refusal 10 for too few entries or 11 for too few work bytes,
-// which then are as they were.
-fn admit(netlist: Netlist, entries: usize, work: &mut [u8]) -> Examined
-    requires { Formed netlist }
-    ensures { (n : Records.Netlist) → netlist ≡ flat_of n →
-        Examines (slices_fit entries (length work.old) n) result work.old work.new }
-{
-    match slices_fit(netlist.count, entries, work.len()) {
-        Err(refusal) => refused(refusal),
-        Ok(()) => answer(netlist, work),
-    }
-}
-
 // Checks netlist bytes as `check` does with a slice of `entries` node records: the same reply, and the same work bytes
-// at exit. In place of node records it gives the netlist and its marks by value; on a refusal they are empty.
-pub fn examine(bytes: &[u8], entries: usize, work: &mut [u8]) -> Examined
-    ensures reply { reply_of result.reply ≡ reply bytes.now entries (length work.old) }
-    ensures netlist { result.netlist ≡
+// at exit. In place of node records it gives the netlist and its marks by value.
+pub fn examine(bytes: &[u8], entries: usize, work: &mut [u8]) -> Result<Examined, Refusal>
+    ensures reply { replied result ≡ reply bytes.now entries (length work.old) }
+    ensures netlist { kept_netlist result ≡
         flat_of (kept (admitted bytes.now entries (length work.old))) }
-    ensures marks { result.marks ≡
+    ensures marks { kept_marks result ≡
         marks_of (kept (admitted bytes.now entries (length work.old))) }
     ensures work { work.new ≡ work_after bytes.now entries work.old }
-    ensures clear { GlitchClear (reply_of result.reply) ↔
+    ensures clear { GlitchClear (replied result) ↔
         NothingSuspect bytes.now entries (length work.old) }
-    ensures probe { GlitchClear (reply_of result.reply) → OneProbe bytes.now }
+    ensures probe { GlitchClear (replied result) → OneProbe bytes.now }
 {
-    let file = read_bytes::read(bytes);
-    let outcome = file.outcome;
-    let netlist = file.netlist;
-    match outcome {
-        Err(refusal) => refused(refusal),
-        Ok(()) => admit(netlist, entries, work),
-    }
+    let netlist = read_bytes::read(bytes)?;
+    slices_fit(netlist.count, entries, work.len())?;
+    Ok(answer(netlist, work))
 }
 
 // ---- the entry point, over the lent slice of node records
@@ -151,7 +122,7 @@ pub fn check(bytes: &[u8], nodes: &mut [NodeRecord], work: &mut [u8]) -> Result<
         NothingSuspect bytes.now (length nodes.old) (length work.old) }
     ensures probe { GlitchClear (reply_of result) → OneProbe bytes.now }
 {
-    let examined = examine(bytes, nodes.len(), work);
+    let examined = examine(bytes, nodes.len(), work)?;
     store(nodes, examined);
-    examined.reply
+    Ok(examined.answer)
 }
