@@ -33,8 +33,7 @@ pub fn say_field(x: usize) {
 pub fn put_first(to: i32, text: &[u8; ROOM], count: usize)
     requires { count ≤ most_text }
 {
-    let whole: &[u8] = text;
-    io::write_all(to, &whole[..count]);
+    io::write_all(to, &text[..count]);
 }
 
 // Prints the first `count` bytes of a text.
@@ -63,12 +62,10 @@ pub fn say_answer(answer: Answer, classes: [u8; MOST_VARIABLES]) {
     say(b"\n");
     let first = desk_text::settled_fields(&mut text, answer);
     say_first(&text, first);
-    let settled = answer.settled;
-    say_suspect(settled, classes);
+    say_suspect(answer.settled, classes);
     let second = desk_text::glitch_fields(&mut text, answer);
     say_first(&text, second);
-    let glitch = answer.glitch;
-    say_suspect(glitch, classes);
+    say_suspect(answer.glitch, classes);
 }
 
 // Prints how a run of edits ended, of which so many were made: at fault, or with this answer, for a block
@@ -79,10 +76,9 @@ pub fn say_closing(faulty: bool, answer: Answer, made: usize, classes: [u8; MOST
     say_first(&text, count);
     if faulty {
         say(b" # not every line was obeyed\n");
-        return;
+    } else {
+        say_suspect(answer.glitch, classes);
     }
-    let glitch = answer.glitch;
-    say_suspect(glitch, classes);
 }
 
 // The reason of a refusal, in words.
@@ -127,10 +123,9 @@ fn say_line(line: usize) {
 
 // Prints a refusal with its reason, and with the line of the block's text that the record stands on, unless that is 0.
 pub fn say_refused(refusal: Refusal, line: usize) {
-    let reason = refusal.reason;
     say_refusal_fields(refusal);
     say(b" # ");
-    say_reason(reason);
+    say_reason(refusal.reason);
     say_line(line);
 }
 
@@ -156,29 +151,18 @@ fn say_class(class: u8) {
     }
 }
 
-// Prints a variable if the set holds it, behind a blank if others stand there, and returns
-// whether any stands there now.
-fn say_variable(held: bool, others: bool, class: u8, v: usize) -> bool {
-    if !held {
-        return others;
-    }
-    if others {
-        say(b" ");
-    }
-    say_class(class);
-    say_number(v);
-    true
-}
-
 // Prints a set as its variables, by class and number, as in `s0 m1`.
 pub fn say_set(classes: [u8; MOST_VARIABLES], set: usize) {
-    let mut rest = set;
     let mut others = false;
-    let mut v = 0;
-    while v < MOST_VARIABLES {
-        others = say_variable(rest % 2 == 1, others, classes[v], v);
-        rest /= 2;
-        v += 1;
+    for (v, class) in classes.iter().enumerate() {
+        if (set >> v) % 2 == 1 {
+            if others {
+                say(b" ");
+            }
+            say_class(*class);
+            say_number(v);
+            others = true;
+        }
     }
     if !others {
         say(b"the empty set");
@@ -189,26 +173,16 @@ pub fn say_set(classes: [u8; MOST_VARIABLES], set: usize) {
 
 // Prints a byte; `?` for one that is no printable character of ASCII.
 fn say_byte(byte: u8) {
-    let mut shown = byte;
-    if byte < 32 {
-        shown = b'?';
+    match byte {
+        b' '..=b'~' => say(&[byte]),
+        _ => say(b"?"),
     }
-    if byte > 126 {
-        shown = b'?';
-    }
-    let one = [shown; 1];
-    say(&one);
 }
 
 // Prints what was found, at most `SHOWN` bytes of it, and ends the line.
 pub fn say_found(word: &[u8]) {
-    let mut k = 0;
-    while k < word.len() {
-        if k >= SHOWN {
-            break;
-        }
-        say_byte(word[k]);
-        k += 1;
+    for byte in word.iter().take(SHOWN) {
+        say_byte(*byte);
     }
     say(b"\n");
 }
