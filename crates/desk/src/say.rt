@@ -1,6 +1,7 @@
 // What several commands print, and the program for them: answers, refusals, sets, and what was expected
 // where something else was found.
-ghost use Rattle.std.specs.Prelude.{◌≤◌};
+ghost use Rattle.std.specs.Prelude.{◌≤◌, List, ℕ};
+ghost use Rattle.std.specs.Fn.{FnOnceReturnsAtMut};
 ghost use Rattle.rules.specs.Listing.{most_text};
 
 use desk_text::ROOM;
@@ -29,18 +30,24 @@ pub fn say_field(x: usize) {
     say_number(x);
 }
 
-// Writes the first `count` bytes of a text to standard output or standard error.
-pub fn put_first(to: i32, text: &[u8; ROOM], count: usize)
-    requires { count ≤ most_text }
+// Writes the text that `put` puts at the front of bytes that have room for it, to standard output or standard error.
+pub fn write_text<F: FnOnce(&mut [u8; ROOM]) -> usize>(to: i32, put: F)
+    requires can { F.IsAlwaysCallable put }
+    requires few { (before : List ℕ) (count : ℕ) (after : List ℕ) →
+        FnOnceReturnsAtMut F.FnOnce put before count after → count ≤ most_text }
 {
+    let mut text = [0u8; ROOM];
+    let count = put(&mut text);
     io::write_all(to, &text[..count]);
 }
 
-// Prints the first `count` bytes of a text.
-pub fn say_first(text: &[u8; ROOM], count: usize)
-    requires { count ≤ most_text }
+// Prints the text that `put` puts there.
+pub fn say_text<F: FnOnce(&mut [u8; ROOM]) -> usize>(put: F)
+    requires can { F.IsAlwaysCallable put }
+    requires few { (before : List ℕ) (count : ℕ) (after : List ℕ) →
+        FnOnceReturnsAtMut F.FnOnce put before count after → count ≤ most_text }
 {
-    put_first(STDOUT, text, count);
+    write_text(STDOUT, put);
 }
 
 // ---- answers and refusals
@@ -56,24 +63,18 @@ fn say_suspect(half: Half, classes: [u8; MOST_VARIABLES]) {
 
 // Prints the lines `vars`, `settled` and `glitch` of an answer, for a block whose variables have these classes.
 pub fn say_answer(answer: Answer, classes: [u8; MOST_VARIABLES]) {
-    let mut text = [0u8; ROOM];
-    let counts = desk_text::counts_fields(&mut text, answer);
-    say_first(&text, counts);
+    say_text(|text| desk_text::counts_fields(text, answer));
     say(b"\n");
-    let first = desk_text::settled_fields(&mut text, answer);
-    say_first(&text, first);
+    say_text(|text| desk_text::settled_fields(text, answer));
     say_suspect(answer.settled, classes);
-    let second = desk_text::glitch_fields(&mut text, answer);
-    say_first(&text, second);
+    say_text(|text| desk_text::glitch_fields(text, answer));
     say_suspect(answer.glitch, classes);
 }
 
 // Prints how a run of edits ended, of which so many were made: at fault, or with this answer, for a block
 // whose variables have these classes.
 pub fn say_closing(faulty: bool, answer: Answer, made: usize, classes: [u8; MOST_VARIABLES]) {
-    let mut text = [0u8; ROOM];
-    let count = desk_text::edits_fields(&mut text, faulty, answer, made);
-    say_first(&text, count);
+    say_text(|text| desk_text::edits_fields(text, faulty, answer, made));
     if faulty {
         say(b" # not every line was obeyed\n");
     } else {
@@ -107,9 +108,7 @@ fn say_reason(reason: Reason) {
 
 // A refusal's fields, with which its line begins.
 fn say_refusal_fields(refusal: Refusal) {
-    let mut text = [0u8; ROOM];
-    let count = desk_text::refusal_fields(&mut text, refusal);
-    say_first(&text, count);
+    say_text(|text| desk_text::refusal_fields(text, refusal));
 }
 
 // Ends a line: with the number of the line in a block's text, unless that is 0.

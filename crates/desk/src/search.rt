@@ -5,9 +5,8 @@ ghost use Rattle.pair_search.specs.Pairs.{pairs_reply};
 ghost use Rattle.pairs.specs.Meaning.{pairs_reply_of};
 ghost use Rattle.desk.specs.Examined.{Leaves, Seen};
 
-use crate::say::{put_first, say, say_answer, say_first, say_refused, say_set};
+use crate::say::{say, say_answer, say_refused, say_set, say_text, write_text};
 use checker::Examined;
-use desk_text::ROOM;
 use pair_search::{Found, Search};
 use pairs::{PairsReply, Progress};
 use rules::{MOST_VARIABLES, MOST_WORK};
@@ -28,10 +27,8 @@ fn tell(text: &[u8]) {
 // Tells how far a search is, if that is to be shown, in the place of what was told before.
 fn tell_progress(shown: bool, progress: Progress) {
     if shown && progress.next >= FIRST {
-        let mut text = [0u8; ROOM];
-        let count = desk_text::progress_fields(&mut text, progress);
         tell(b"\r");
-        put_first(STDERR, &text, count);
+        write_text(STDERR, |text| desk_text::progress_fields(text, progress));
     }
 }
 
@@ -63,9 +60,7 @@ fn searched(examined: Examined, work: &[u8; MOST_WORK], limit: usize, shown: boo
 
 // The line of a search: its fields, and for people the set of a suspect pair.
 fn say_search(search: Search, classes: [u8; MOST_VARIABLES]) {
-    let mut text = [0u8; ROOM];
-    let count = desk_text::search_fields(&mut text, search);
-    say_first(&text, count);
+    say_text(|text| desk_text::search_fields(text, search));
     if let Found::Pair(_, _, set) = search.found {
         say(b" # ");
         say_set(classes, set);

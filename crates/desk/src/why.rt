@@ -4,10 +4,10 @@ ghost use Rattle.derivation_rules.specs.Derivations.{most_steps};
 ghost use Rattle.derivations.specs.Written.{Known};
 
 use crate::node_words::{node_of, say_node};
-use crate::say::{say, say_first, say_refused, say_set};
+use crate::say::{say, say_refused, say_set, say_text};
 use crate::steps::step_at;
 use derivations::{Derived, MOST_BYTES, MOST_STEPS};
-use desk_text::{ROOM, Step};
+use desk_text::Step;
 use netlists::Netlist;
 use rules::{Answer, Half, MOST_WORK};
 
@@ -89,9 +89,7 @@ fn say_rule(rule: u8) {
 
 // The line of a step: its fields, and for people the node, the layer, the set and the rule.
 fn say_step(netlist: Netlist, step: Step, depth: usize) {
-    let mut text = [0u8; ROOM];
-    let count = desk_text::step_fields(&mut text, step);
-    say_first(&text, count);
+    say_text(|text| desk_text::step_fields(text, step));
     say(b" # ");
     indent(depth);
     say_node(node_of(netlist, usize::from(step.node)));
@@ -119,9 +117,7 @@ fn say_steps(netlist: Netlist, steps: &[u8; MOST_BYTES], count: usize)
 
 // The closing line: how many steps there were.
 fn say_step_count(count: usize) {
-    let mut text = [0u8; ROOM];
-    let long = desk_text::steps_fields(&mut text, count);
-    say_first(&text, long);
+    say_text(|text| desk_text::steps_fields(text, count));
     say(b"\n");
 }
 
@@ -142,9 +138,7 @@ pub fn why(netlist: Netlist, work: &[u8; MOST_WORK], node: usize, layer: usize, 
 
 // Prints that there is no suspect to explain.
 fn say_clear(answer: Answer) {
-    let mut text = [0u8; ROOM];
-    let count = desk_text::glitch_fields(&mut text, answer);
-    say_first(&text, count);
+    say_text(|text| desk_text::glitch_fields(text, answer));
     say(b" # no node is suspect, so there is nothing to explain\n");
     say_step_count(0);
 }
