@@ -131,7 +131,7 @@ pub fn say_refused(refusal: Refusal, line: usize) {
 // Prints the refusal of a new node. Refusal 1 then is of every kind that is no node's, and not of those above
 // 7 alone, so its reason is another.
 pub fn say_refused_node(refusal: Refusal) {
-    if refusals::number_of(refusal) == 1 {
+    if let Reason::UnknownKind = refusal.reason {
         say_refusal_fields(refusal);
         say(b" # the record is no node\n");
     } else {

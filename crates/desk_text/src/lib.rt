@@ -85,6 +85,7 @@ fn put_half(text: &mut [u8; ROOM], name: &[u8], half: Half) -> usize
 }
 
 // The half of settled signals: `settled clear` or `settled NODE SET`.
+// Kept beside `glitch_fields`: each promises (docs/PROMISES.md) which half stands behind which name.
 pub fn settled_fields(text: &mut [u8; ROOM], answer: Answer) -> usize
     ensures appended { Appended text.old text.new 0 result (half_text (word "settled") (finding_of answer.settled)) }
     ensures most { result ≤ most_text }

@@ -41,6 +41,7 @@ fn put_node(out: &mut [u8], at: usize, node: Node) -> usize
 // ---- all records
 
 // The records of the variables, at the front.
+// One function of a closure for this loop and the next would need the closure's contract, and so is no plainer.
 fn put_variables(out: &mut [u8], netlist: Netlist) -> usize
     requires { (most_bytes ≤ length out.old) × (netlist.variables ≤ most_variables) }
     ensures appended { (n : Records.Netlist) → netlist ≡ flat_of n →

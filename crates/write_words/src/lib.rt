@@ -84,6 +84,7 @@ fn put_node(text: &mut [u8], at: usize, node: Node) -> usize
 // ---- all lines
 
 // The lines of the variables, at the front.
+// One function of a closure for this loop and the next would need the closure's contract, and so is no plainer.
 fn put_variables(text: &mut [u8], netlist: Netlist) -> usize
     requires { Room text.old 0 most_words × (netlist.variables ≤ most_variables) }
     ensures appended { (n : Records.Netlist) → netlist ≡ flat_of n →
