@@ -12,26 +12,22 @@ pub fn node_of(netlist: Netlist, i: usize) -> Node
     ensures { (i < most_nodes → result ≡ slice_index_or netlist.nodes i blank) × (most_nodes ≤ i → result ≡ blank) }
 {
     if i < MOST_NODES {
-        return netlist.nodes[i];
+        netlist.nodes[i]
+    } else {
+        netlists::blank_node()
     }
-    netlists::blank_node()
 }
 
 // The name of a kind.
 pub fn say_kind(kind: u8) {
-    let name = listing_lines::name_of(kind);
-    let letters = name.letters;
-    let size = name.size;
-    say(&letters[..size]);
+    say(listing_lines::name_of(kind));
 }
 
 // Prints a node in words: its kind and its operands.
 pub fn say_node(node: Node) {
     say_kind(node.kind);
     let operands = netlists::operands_of(node);
-    let mut j = 0;
-    while j < operands.count {
-        say_field(operands.at[j] as usize);
-        j += 1;
+    for operand in &operands.at[..operands.count] {
+        say_field(usize::from(*operand));
     }
 }

@@ -9,26 +9,10 @@ use crate::steps::step_at;
 use derivations::MOST_BYTES;
 use marks::Marks;
 use netlists::Netlist;
-use rules::{Answer, Half, MOST_NODES, MOST_WORK, Node};
-use std::num::wrapping_add_usize;
+use rules::{Answer, Half, MOST_NODES, MOST_WORK, Node, Refusal};
 
-// By which operands of each node the derivation goes: a number with a bit for each operand, the lowest for the first.
-// Of a derivation that is refused the number and the place, or 0.
-#[derive(Clone, Copy)]
-struct Path {
-    chosen: [u8; MOST_NODES],
-    number: usize,
-    place: usize,
-}
-
-// No path, since there is no suspect, or since its derivation is refused.
-fn no_path(number: usize, place: usize) -> Path {
-    Path {
-        chosen: [0u8; MOST_NODES],
-        number,
-        place,
-    }
-}
+// By which operands of each node a derivation goes: a number with a bit for each operand, the lowest for the first.
+type Path = [u8; MOST_NODES];
 
 // ---- the path of a derivation
 
@@ -42,53 +26,42 @@ fn chosen_by(rule: u8) -> u8 {
     }
 }
 
-// The path with the operands that a rule goes by at a node. A number that is no node's changes nothing.
-fn with_step(path: Path, node: usize, rule: u8) -> Path {
-    let mut longer = path;
-    if node < MOST_NODES {
-        longer.chosen[node] = longer.chosen[node] | chosen_by(rule);
-    }
-    longer
-}
-
-// The path of the first `count` steps.
+// The path of the first `count` steps. A number that is no node's adds nothing.
 fn path_of(steps: &[u8; MOST_BYTES], count: usize) -> Path
     requires { count ≤ most_steps }
 {
-    let mut path = no_path(0, 0);
-    let mut k = 0;
-    while k < count {
+    let mut path = [0; MOST_NODES];
+    for k in 0..count {
         let step = step_at(steps, k);
-        path = with_step(path, step.node as usize, step.rule);
-        k += 1;
+        if let Some(chosen) = path.get_mut(usize::from(step.node)) {
+            *chosen |= chosen_by(step.rule);
+        }
     }
     path
 }
 
 // The path of the derivation of the first glitch suspect, in a netlist whose families are in the work bytes;
-// none where no node is suspect, or where the derivation is refused.
-fn suspect_path(netlist: Netlist, work: &[u8; MOST_WORK], glitch: Half) -> Path
+// the empty one where no node is suspect.
+fn suspect_path(netlist: Netlist, work: &[u8; MOST_WORK], glitch: Half) -> Result<Path, Refusal>
     requires { Known netlist work.now }
 {
     let Half::Suspect(node, set) = glitch else {
-        return no_path(0, 0);
+        return Ok([0; MOST_NODES]);
     };
     let mut steps = [0u8; MOST_BYTES];
     match derivations::derive_held(netlist, work, node, 1, set, &mut steps) {
-        Ok(count) => path_of(&steps, count),
-        Err(refusal) => no_path(refusals::number_of(refusal), refusal.place),
+        Ok(count) => Ok(path_of(&steps, count)),
+        Err(refusal) => Err(refusal),
     }
 }
 
 // Says why there is no path where its derivation is refused, to whoever reads the graph's text.
-fn say_no_path(number: usize, place: usize) {
-    if number > 0 {
-        say(b"    // no path: refused ");
-        say_number(number);
-        say(b" ");
-        say_number(place);
-        say(b"\n");
-    }
+fn say_no_path(refusal: Refusal) {
+    say(b"    // no path: refused ");
+    say_number(refusals::number_of(refusal));
+    say(b" ");
+    say_number(refusal.place);
+    say(b"\n");
 }
 
 // ---- nodes and their operands
@@ -111,11 +84,10 @@ fn say_shape(kind: u8) {
 // A mark, if there is one: its layer, and the set with its variables.
 fn say_mark(netlist: Netlist, layer: &[u8], mark: u16) {
     if mark > 0 {
-        let classes = netlist.classes;
         say(layer);
-        say_number(mark as usize);
+        say_number(usize::from(mark));
         say(b": ");
-        say_set(classes, mark as usize);
+        say_set(netlist.classes, usize::from(mark));
     }
 }
 
@@ -129,14 +101,13 @@ fn say_node_line(netlist: Netlist, i: usize, node: Node, settled: u16, glitch: u
     say(b" ");
     say_kind(node.kind);
     if node.kind == 2 {
-        let classes = netlist.classes;
         say(b"\\n");
-        say_set(classes, node.set as usize);
+        say_set(netlist.classes, usize::from(node.set));
     }
     say_mark(netlist, b"\\nsettled ", settled);
     say_mark(netlist, b"\\nglitch ", glitch);
     say(b"\"");
-    if (settled > 0) | (glitch > 0) {
+    if settled > 0 || glitch > 0 {
         say(b" color=red fontcolor=red penwidth=2");
     }
     say(b"]\n");
@@ -145,7 +116,7 @@ fn say_node_line(netlist: Netlist, i: usize, node: Node, settled: u16, glitch: u
 // The line of an operand: an edge, thick where the path goes by it.
 fn say_operand(from: u8, i: usize, thick: bool) {
     say(b"    ");
-    say_name(from as usize);
+    say_name(usize::from(from));
     say(b" -> ");
     say_name(i);
     if thick {
@@ -157,130 +128,90 @@ fn say_operand(from: u8, i: usize, thick: bool) {
 // The lines of a node's operands, of which the path goes by the chosen ones.
 fn say_operands(i: usize, node: Node, chosen: u8) {
     let operands = netlists::operands_of(node);
-    let mut j = 0;
-    while j < operands.count {
-        say_operand(operands.at[j], i, (chosen >> j) % 2 == 1);
-        j += 1;
+    for (j, operand) in operands.at[..operands.count].iter().enumerate() {
+        say_operand(*operand, i, (chosen >> j) % 2 == 1);
     }
 }
 
 // The lines of all nodes, each with those of its operands.
 fn say_nodes(netlist: Netlist, marks: Marks, path: Path) {
-    let mut i = 0;
-    while i < MOST_NODES {
-        if i >= netlist.count {
-            break;
-        }
+    for i in 0..netlist.count.min(MOST_NODES) {
         let node = netlist.nodes[i];
         say_node_line(netlist, i, node, marks.settled[i], marks.glitch[i]);
-        say_operands(i, node, path.chosen[i]);
-        i += 1;
+        say_operands(i, node, path[i]);
     }
 }
 
 // ---- ranks
 
-// The most registers on any path into a node, itself included, where these are the stages of the lower nodes.
-fn stage_of(node: Node, stages: [usize; MOST_NODES]) -> usize {
+// The most registers on any path into each node, itself included.
+type Stages = [usize; MOST_NODES];
+
+// The stage of a node, where these are the stages of the lower nodes; an operand that is no node's has stage 0.
+fn stage_of(node: Node, stages: &Stages) -> usize {
     let operands = netlists::operands_of(node);
     let mut stage = 0;
-    let mut j = 0;
-    while j < operands.count {
-        let lower = stage_at(stages, operands.at[j]);
-        if stage < lower {
-            stage = lower;
+    for operand in &operands.at[..operands.count] {
+        if let Some(lower) = stages.get(usize::from(*operand)) {
+            stage = stage.max(*lower);
         }
-        j += 1;
     }
     if node.kind == 7 {
-        return wrapping_add_usize(stage, 1);
+        stage.wrapping_add(1)
+    } else {
+        stage
     }
-    stage
-}
-
-// The stage of a lower node; 0 for a number that is no node's.
-fn stage_at(stages: [usize; MOST_NODES], i: u8) -> usize {
-    let at = i as usize;
-    if at < MOST_NODES { stages[at] } else { 0 }
 }
 
 // The stage of each node.
-fn stages_of(netlist: Netlist) -> [usize; MOST_NODES] {
-    let mut stages = [0usize; MOST_NODES];
-    let mut i = 0;
-    while i < MOST_NODES {
-        let node = netlist.nodes[i];
-        stages[i] = stage_of(node, stages);
-        i += 1;
+fn stages_of(netlist: Netlist) -> Stages {
+    let mut stages = [0; MOST_NODES];
+    for (i, node) in netlist.nodes.iter().enumerate() {
+        stages[i] = stage_of(*node, &stages);
     }
     stages
 }
 
 // Whether a node stands in the rank of this kind and stage: inputs in that of stage 0, a stage's registers in its own.
-fn in_rank(
-    netlist: Netlist,
-    stages: [usize; MOST_NODES],
-    i: usize,
-    kind: u8,
-    stage: usize,
-) -> bool {
-    if i >= netlist.count {
-        return false;
-    }
-    if i >= MOST_NODES {
-        return false;
-    }
-    let node = netlist.nodes[i];
-    (node.kind == kind) & (stages[i] == stage)
+fn in_rank(netlist: Netlist, stages: &Stages, i: usize, kind: u8, stage: usize) -> bool {
+    i < netlist.count.min(MOST_NODES) && netlist.nodes[i].kind == kind && stages[i] == stage
 }
 
-// How many nodes stand in a rank.
-fn rank_size(netlist: Netlist, stages: [usize; MOST_NODES], kind: u8, stage: usize) -> usize {
-    let mut size = 0;
-    let mut i = 0;
-    while i < MOST_NODES {
-        if in_rank(netlist, stages, i, kind, stage) {
-            size = wrapping_add_usize(size, 1);
-        }
-        i += 1;
-    }
-    size
+// Whether any node stands in a rank.
+fn any_in_rank(netlist: Netlist, stages: &Stages, kind: u8, stage: usize) -> bool {
+    (0..MOST_NODES).any(|i| in_rank(netlist, stages, i, kind, stage))
 }
 
 // The nodes of a rank, and its end.
-fn say_rank(netlist: Netlist, stages: [usize; MOST_NODES], kind: u8, stage: usize) {
-    let mut i = 0;
-    while i < MOST_NODES {
+fn say_rank(netlist: Netlist, stages: &Stages, kind: u8, stage: usize) {
+    for i in 0..MOST_NODES {
         if in_rank(netlist, stages, i, kind, stage) {
             say(b" ");
             say_name(i);
         }
-        i += 1;
     }
     say(b" }\n");
 }
 
 // A line for each stage that has registers.
-fn say_register_ranks(netlist: Netlist, stages: [usize; MOST_NODES]) {
-    let mut stage = 1;
-    while stage <= MOST_NODES {
-        if rank_size(netlist, stages, 7, stage) == 0 {
+fn say_register_ranks(netlist: Netlist, stages: &Stages) {
+    for stage in 1..=MOST_NODES {
+        if !any_in_rank(netlist, stages, 7, stage) {
             break;
         }
         say(b"    { rank=same");
         say_rank(netlist, stages, 7, stage);
-        stage += 1;
     }
 }
 
 // The ranks: one of the inputs, and one of each stage's registers.
 fn say_ranks(netlist: Netlist) {
     let stages = stages_of(netlist);
-    if rank_size(netlist, stages, 2, 0) > 0 {
+    if any_in_rank(netlist, &stages, 2, 0) {
         say(b"    { rank=source");
-        say_rank(netlist, stages, 2, 0);
+        say_rank(netlist, &stages, 2, 0);
     }
-    say_register_ranks(netlist, stages);
+    say_register_ranks(netlist, &stages);
 }
 
 // ---- the graph
@@ -289,12 +220,13 @@ fn say_ranks(netlist: Netlist) {
 pub fn picture(answer: Answer, netlist: Netlist, marks: Marks, work: &[u8; MOST_WORK])
     requires { Known netlist work.now }
 {
-    let glitch = answer.glitch;
     say(b"digraph block {\n    rankdir=LR\n");
     say(b"    node [fontname=\"Helvetica\" fontsize=12]\n    edge [arrowsize=0.7]\n");
-    let path = suspect_path(netlist, work, glitch);
-    say_nodes(netlist, marks, path);
-    say_no_path(path.number, path.place);
+    let path = suspect_path(netlist, work, answer.glitch);
+    say_nodes(netlist, marks, path.unwrap_or([0; MOST_NODES]));
+    if let Err(refusal) = path {
+        say_no_path(refusal);
+    }
     say_ranks(netlist);
     say(b"}\n");
 }

@@ -1,6 +1,7 @@
 // What several commands print, and the program for them: answers, refusals, sets, and what was expected
 // where something else was found.
-ghost use Rattle.std.specs.Prelude.{◌≤◌};
+ghost use Rattle.std.specs.Prelude.{◌≤◌, List, ℕ};
+ghost use Rattle.std.specs.Fn.{FnOnceReturnsAtMut};
 ghost use Rattle.rules.specs.Listing.{most_text};
 
 use desk_text::ROOM;
@@ -29,19 +30,24 @@ pub fn say_field(x: usize) {
     say_number(x);
 }
 
-// Writes the first `count` bytes of a text to standard output or standard error.
-pub fn put_first(to: i32, text: &[u8; ROOM], count: usize)
-    requires { count ≤ most_text }
+// Writes the text that `put` puts at the front of bytes that have room for it, to standard output or standard error.
+pub fn write_text<F: FnOnce(&mut [u8; ROOM]) -> usize>(to: i32, put: F)
+    requires can { F.IsAlwaysCallable put }
+    requires few { (before : List ℕ) (count : ℕ) (after : List ℕ) →
+        FnOnceReturnsAtMut F.FnOnce put before count after → count ≤ most_text }
 {
-    let whole: &[u8] = text;
-    io::write_all(to, &whole[..count]);
+    let mut text = [0u8; ROOM];
+    let count = put(&mut text);
+    io::write_all(to, &text[..count]);
 }
 
-// Prints the first `count` bytes of a text.
-pub fn say_first(text: &[u8; ROOM], count: usize)
-    requires { count ≤ most_text }
+// Prints the text that `put` puts there.
+pub fn say_text<F: FnOnce(&mut [u8; ROOM]) -> usize>(put: F)
+    requires can { F.IsAlwaysCallable put }
+    requires few { (before : List ℕ) (count : ℕ) (after : List ℕ) →
+        FnOnceReturnsAtMut F.FnOnce put before count after → count ≤ most_text }
 {
-    put_first(STDOUT, text, count);
+    write_text(STDOUT, put);
 }
 
 // ---- answers and refusals
@@ -57,32 +63,23 @@ fn say_suspect(half: Half, classes: [u8; MOST_VARIABLES]) {
 
 // Prints the lines `vars`, `settled` and `glitch` of an answer, for a block whose variables have these classes.
 pub fn say_answer(answer: Answer, classes: [u8; MOST_VARIABLES]) {
-    let mut text = [0u8; ROOM];
-    let counts = desk_text::counts_fields(&mut text, answer);
-    say_first(&text, counts);
+    say_text(|text| desk_text::counts_fields(text, answer));
     say(b"\n");
-    let first = desk_text::settled_fields(&mut text, answer);
-    say_first(&text, first);
-    let settled = answer.settled;
-    say_suspect(settled, classes);
-    let second = desk_text::glitch_fields(&mut text, answer);
-    say_first(&text, second);
-    let glitch = answer.glitch;
-    say_suspect(glitch, classes);
+    say_text(|text| desk_text::settled_fields(text, answer));
+    say_suspect(answer.settled, classes);
+    say_text(|text| desk_text::glitch_fields(text, answer));
+    say_suspect(answer.glitch, classes);
 }
 
 // Prints how a run of edits ended, of which so many were made: at fault, or with this answer, for a block
 // whose variables have these classes.
 pub fn say_closing(faulty: bool, answer: Answer, made: usize, classes: [u8; MOST_VARIABLES]) {
-    let mut text = [0u8; ROOM];
-    let count = desk_text::edits_fields(&mut text, faulty, answer, made);
-    say_first(&text, count);
+    say_text(|text| desk_text::edits_fields(text, faulty, answer, made));
     if faulty {
         say(b" # not every line was obeyed\n");
-        return;
+    } else {
+        say_suspect(answer.glitch, classes);
     }
-    let glitch = answer.glitch;
-    say_suspect(glitch, classes);
 }
 
 // The reason of a refusal, in words.
@@ -111,9 +108,7 @@ fn say_reason(reason: Reason) {
 
 // A refusal's fields, with which its line begins.
 fn say_refusal_fields(refusal: Refusal) {
-    let mut text = [0u8; ROOM];
-    let count = desk_text::refusal_fields(&mut text, refusal);
-    say_first(&text, count);
+    say_text(|text| desk_text::refusal_fields(text, refusal));
 }
 
 // Ends a line: with the number of the line in a block's text, unless that is 0.
@@ -127,17 +122,16 @@ fn say_line(line: usize) {
 
 // Prints a refusal with its reason, and with the line of the block's text that the record stands on, unless that is 0.
 pub fn say_refused(refusal: Refusal, line: usize) {
-    let reason = refusal.reason;
     say_refusal_fields(refusal);
     say(b" # ");
-    say_reason(reason);
+    say_reason(refusal.reason);
     say_line(line);
 }
 
 // Prints the refusal of a new node. Refusal 1 then is of every kind that is no node's, and not of those above
 // 7 alone, so its reason is another.
 pub fn say_refused_node(refusal: Refusal) {
-    if refusals::number_of(refusal) == 1 {
+    if let Reason::UnknownKind = refusal.reason {
         say_refusal_fields(refusal);
         say(b" # the record is no node\n");
     } else {
@@ -156,29 +150,18 @@ fn say_class(class: u8) {
     }
 }
 
-// Prints a variable if the set holds it, behind a blank if others stand there, and returns
-// whether any stands there now.
-fn say_variable(held: bool, others: bool, class: u8, v: usize) -> bool {
-    if !held {
-        return others;
-    }
-    if others {
-        say(b" ");
-    }
-    say_class(class);
-    say_number(v);
-    true
-}
-
 // Prints a set as its variables, by class and number, as in `s0 m1`.
 pub fn say_set(classes: [u8; MOST_VARIABLES], set: usize) {
-    let mut rest = set;
     let mut others = false;
-    let mut v = 0;
-    while v < MOST_VARIABLES {
-        others = say_variable(rest % 2 == 1, others, classes[v], v);
-        rest /= 2;
-        v += 1;
+    for (v, class) in classes.iter().enumerate() {
+        if (set >> v) % 2 == 1 {
+            if others {
+                say(b" ");
+            }
+            say_class(*class);
+            say_number(v);
+            others = true;
+        }
     }
     if !others {
         say(b"the empty set");
@@ -189,26 +172,16 @@ pub fn say_set(classes: [u8; MOST_VARIABLES], set: usize) {
 
 // Prints a byte; `?` for one that is no printable character of ASCII.
 fn say_byte(byte: u8) {
-    let mut shown = byte;
-    if byte < 32 {
-        shown = b'?';
+    match byte {
+        b' '..=b'~' => say(&[byte]),
+        _ => say(b"?"),
     }
-    if byte > 126 {
-        shown = b'?';
-    }
-    let one = [shown; 1];
-    say(&one);
 }
 
 // Prints what was found, at most `SHOWN` bytes of it, and ends the line.
 pub fn say_found(word: &[u8]) {
-    let mut k = 0;
-    while k < word.len() {
-        if k >= SHOWN {
-            break;
-        }
-        say_byte(word[k]);
-        k += 1;
+    for byte in word.iter().take(SHOWN) {
+        say_byte(*byte);
     }
     say(b"\n");
 }

@@ -5,9 +5,8 @@ ghost use Rattle.pair_search.specs.Pairs.{pairs_reply};
 ghost use Rattle.pairs.specs.Meaning.{pairs_reply_of};
 ghost use Rattle.desk.specs.Examined.{Leaves, Seen};
 
-use crate::say::{put_first, say, say_answer, say_first, say_refused, say_set};
+use crate::say::{say, say_answer, say_refused, say_set, say_text, write_text};
 use checker::Examined;
-use desk_text::ROOM;
 use pair_search::{Found, Search};
 use pairs::{PairsAnswer, Progress};
 use rules::{MOST_VARIABLES, MOST_WORK};
@@ -27,11 +26,9 @@ fn tell(text: &[u8]) {
 
 // Tells how far a search is, if that is to be shown, in the place of what was told before.
 fn tell_progress(shown: bool, progress: Progress) {
-    if shown & (progress.next >= FIRST) {
-        let mut text = [0u8; ROOM];
-        let count = desk_text::progress_fields(&mut text, progress);
+    if shown && progress.next >= FIRST {
         tell(b"\r");
-        put_first(STDERR, &text, count);
+        write_text(STDERR, |text| desk_text::progress_fields(text, progress));
     }
 }
 
@@ -51,10 +48,9 @@ fn searched(examined: Examined, work: &[u8; MOST_WORK], limit: usize, shown: boo
     ensures { (bytes before : List ℕ) → Leaves bytes before examined work.now →
         pairs_reply_of result ≡ pairs_reply bytes most_nodes (length before) limit }
 {
-    let netlist = examined.netlist;
     let mut progress = pairs::begin_pairs(examined);
     while !pairs::is_done(progress) {
-        progress = pairs::further(netlist, work, limit, progress);
+        progress = pairs::further(examined.netlist, work, limit, progress);
         tell_progress(shown, progress);
     }
     pairs::reply_after(progress)
@@ -64,11 +60,8 @@ fn searched(examined: Examined, work: &[u8; MOST_WORK], limit: usize, shown: boo
 
 // The line of a search: its fields, and for people the set of a suspect pair.
 fn say_search(search: Search, classes: [u8; MOST_VARIABLES]) {
-    let mut text = [0u8; ROOM];
-    let count = desk_text::search_fields(&mut text, search);
-    say_first(&text, count);
-    let found = search.found;
-    if let Found::Pair(_, _, set) = found {
+    say_text(|text| desk_text::search_fields(text, search));
+    if let Found::Pair(_, _, set) = search.found {
         say(b" # ");
         say_set(classes, set);
     }
@@ -80,17 +73,14 @@ fn say_search(search: Search, classes: [u8; MOST_VARIABLES]) {
 pub fn pairs(examined: Examined, work: &[u8; MOST_WORK], limit: usize, shown: bool)
     requires { Seen examined work.now }
 {
-    let netlist = examined.netlist;
-    let classes = netlist.classes;
+    let classes = examined.netlist.classes;
     let reply = searched(examined, work, limit, shown);
     wipe_progress(shown);
     match reply {
         Err(refusal) => say_refused(refusal, 0),
         Ok(both) => {
-            let answer = both.answer;
-            let search = both.search;
-            say_answer(answer, classes);
-            say_search(search, classes);
+            say_answer(both.answer, classes);
+            say_search(both.search, classes);
         }
     }
 }

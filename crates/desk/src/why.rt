@@ -1,52 +1,59 @@
 // `why`: a derivation, a line a step.
-ghost use Rattle.std.specs.Prelude.{◌≡◌, ◌+◌, ◌-◌, ◌<◌, ◌≤◌, set};
+ghost use Rattle.std.specs.Prelude.{◌≡◌, ◌+◌, ◌-◌, ◌<◌, ◌≤◌};
 ghost use Rattle.derivation_rules.specs.Derivations.{most_steps};
 ghost use Rattle.derivations.specs.Written.{Known};
 
 use crate::node_words::{node_of, say_node};
-use crate::say::{say, say_first, say_refused, say_set};
-use crate::steps::{Step, step_at};
+use crate::say::{say, say_refused, say_set, say_text};
+use crate::steps::step_at;
 use derivations::{MOST_BYTES, MOST_STEPS};
-use desk_text::ROOM;
+use desk_text::Step;
 use netlists::Netlist;
 use rules::{Answer, Half, MOST_WORK};
-use std::num::wrapping_add_usize;
-
-// The most steps that wait to be told: one more than there may be steps.
-const MOST_WAITING: usize = MOST_STEPS + 1;
 
 // ---- how deep a step stands
 
-// Of the steps that wait to be told, `depths` has the depths, the next one's last. Puts one more behind the first
-// `waiting`, and returns how many wait then.
-fn wait(depths: &mut [usize; MOST_WAITING], waiting: usize, depth: usize) -> usize
-    requires { waiting ≤ most_steps }
-    ensures value { result ≡ waiting + 1 }
-    ensures depths { depths.new ≡ set depths.old waiting depth }
-{
-    depths[waiting] = depth;
-    waiting + 1
+// The depths of the steps that wait to be told, the next one's last: of at most one more than there may be steps.
+#[derive(Drop)]
+struct Waiting {
+    depths: [usize; MOST_STEPS + 1],
+    count: usize,
 }
 
-// Lets the steps wait that a step of this depth and rule needs, one level below it: one by rules 2, 4 and 5,
-// two by rule 6, and else none.
-fn wait_operands(
-    depths: &mut [usize; MOST_WAITING],
-    waiting: usize,
-    depth: usize,
-    rule: u8,
-) -> usize
-    requires { waiting < most_steps }
-    ensures { result ≤ waiting + 2 }
-{
-    let below = wrapping_add_usize(depth, 1);
-    match rule {
-        2 | 4 | 5 => wait(depths, waiting, below),
-        6 => {
-            let first = wait(depths, waiting, below);
-            wait(depths, first, below)
+impl Waiting {
+    // Lets one more step wait.
+    fn push(&mut self, depth: usize)
+        requires { self.old.count ≤ most_steps }
+        ensures { self.new.count ≡ self.old.count + 1 }
+    {
+        self.depths[self.count] = depth;
+        self.count += 1;
+    }
+
+    // Takes the next step's depth. Of steps that are no derivation's there may be no next; the depth is then left open.
+    fn pop(&mut self) -> usize
+        requires { self.old.count ≤ most_steps + 1 }
+        ensures { self.new.count ≡ self.old.count - 1 }
+    {
+        self.count = self.count.saturating_sub(1);
+        self.depths[self.count]
+    }
+
+    // Lets the steps wait that a step of this depth and rule needs, one level below it: one by rules 2, 4 and 5,
+    // two by rule 6, and else none.
+    fn push_operands(&mut self, depth: usize, rule: u8)
+        requires { self.old.count < most_steps }
+        ensures { self.new.count ≤ self.old.count + 2 }
+    {
+        let below = depth.wrapping_add(1);
+        match rule {
+            2 | 4 | 5 => self.push(below),
+            6 => {
+                self.push(below);
+                self.push(below);
+            }
+            _ => {}
         }
-        _ => waiting,
     }
 }
 
@@ -54,10 +61,8 @@ fn wait_operands(
 
 // Two blanks for each level.
 fn indent(depth: usize) {
-    let mut k = 0;
-    while k < depth {
+    for _ in 0..depth {
         say(b"  ");
-        k += 1;
     }
 }
 
@@ -84,25 +89,13 @@ fn say_rule(rule: u8) {
 
 // The line of a step: its fields, and for people the node, the layer, the set and the rule.
 fn say_step(netlist: Netlist, step: Step, depth: usize) {
-    let mut text = [0u8; ROOM];
-    let count = desk_text::step_fields(
-        &mut text, step.node, step.layer, step.rule, step.low, step.high,
-    );
-    let classes = netlist.classes;
-    say_first(&text, count);
+    say_text(|text| desk_text::step_fields(text, step));
     say(b" # ");
     indent(depth);
-    say_node(node_of(netlist, step.node as usize));
+    say_node(node_of(netlist, usize::from(step.node)));
     say_layer(step.layer);
-    say_set(classes, step.low as usize + 256 * (step.high as usize));
+    say_set(netlist.classes, usize::from(step.set));
     say_rule(step.rule);
-}
-
-// How many steps wait behind the next; of steps that are no derivation's there may be no next.
-fn one_less(waiting: usize) -> usize
-    ensures { result ≡ waiting - 1 }
-{
-    if waiting == 0 { 0 } else { waiting - 1 }
 }
 
 // Prints the first `count` steps, a line each. A step's indentation is its depth: that of the step
@@ -110,24 +103,21 @@ fn one_less(waiting: usize) -> usize
 fn say_steps(netlist: Netlist, steps: &[u8; MOST_BYTES], count: usize)
     requires { count ≤ most_steps }
 {
-    let mut depths = [0usize; MOST_WAITING];
-    let mut waiting: usize = 1;
-    let mut k = 0;
-    while k < count {
-        waiting = one_less(waiting);
-        let depth = depths[waiting];
+    let mut waiting = Waiting {
+        depths: [0; MOST_STEPS + 1],
+        count: 1,
+    };
+    for k in 0..count {
+        let depth = waiting.pop();
         let step = step_at(steps, k);
         say_step(netlist, step, depth);
-        waiting = wait_operands(&mut depths, waiting, depth, step.rule);
-        k += 1;
+        waiting.push_operands(depth, step.rule);
     }
 }
 
 // The closing line: how many steps there were.
 fn say_step_count(count: usize) {
-    let mut text = [0u8; ROOM];
-    let long = desk_text::steps_fields(&mut text, count);
-    say_first(&text, long);
+    say_text(|text| desk_text::steps_fields(text, count));
     say(b"\n");
 }
 
@@ -148,9 +138,7 @@ pub fn why(netlist: Netlist, work: &[u8; MOST_WORK], node: usize, layer: usize, 
 
 // Prints that there is no suspect to explain.
 fn say_clear(answer: Answer) {
-    let mut text = [0u8; ROOM];
-    let count = desk_text::glitch_fields(&mut text, answer);
-    say_first(&text, count);
+    say_text(|text| desk_text::glitch_fields(text, answer));
     say(b" # no node is suspect, so there is nothing to explain\n");
     say_step_count(0);
 }
@@ -160,8 +148,7 @@ fn say_clear(answer: Answer) {
 pub fn why_first(answer: Answer, netlist: Netlist, work: &[u8; MOST_WORK])
     requires { Known netlist work.now }
 {
-    let glitch = answer.glitch;
-    match glitch {
+    match answer.glitch {
         Half::Clear => say_clear(answer),
         Half::Suspect(node, set) => why(netlist, work, node, 1, set),
     }

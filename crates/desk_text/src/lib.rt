@@ -3,7 +3,7 @@
 // The bytes beyond are as they were. Nothing is printed here, and nothing but those bytes is written to. For `desk`.
 #![tactic(auto)]
 
-ghost use Rattle.std.specs.Prelude.{◌≡◌, ◌∷◌, ◌++◌, map, ◌+◌, ◌*◌, ◌≤◌, length};
+ghost use Rattle.std.specs.Prelude.{◌∷◌, ◌++◌, map, ◌+◌, ◌*◌, ◌≤◌, length};
 ghost use Rattle.rules.specs.Listing.{word, decimal, most_text};
 ghost use Rattle.rules.specs.Paper.{number_of, place_of, finding_of};
 ghost use Rattle.listing_lines.specs.Text.{Room, Appended};
@@ -30,10 +30,8 @@ fn put_numbers(text: &mut [u8], at: usize, numbers: &[usize]) -> usize
     ensures few { result ≤ at + 21 * length numbers.now }
 {
     let mut end = at;
-    let mut k = 0;
-    while k < numbers.len() {
-        end = put_field(text, end, numbers[k]);
-        k += 1;
+    for number in numbers {
+        end = put_field(text, end, *number);
     }
     end
 }
@@ -87,12 +85,12 @@ fn put_half(text: &mut [u8; ROOM], name: &[u8], half: Half) -> usize
 }
 
 // The half of settled signals: `settled clear` or `settled NODE SET`.
+// Kept beside `glitch_fields`: each promises (docs/PROMISES.md) which half stands behind which name.
 pub fn settled_fields(text: &mut [u8; ROOM], answer: Answer) -> usize
     ensures appended { Appended text.old text.new 0 result (half_text (word "settled") (finding_of answer.settled)) }
     ensures most { result ≤ most_text }
 {
-    let settled = answer.settled;
-    put_half(text, b"settled", settled)
+    put_half(text, b"settled", answer.settled)
 }
 
 // The half of glitching signals: `glitch clear` or `glitch NODE SET`.
@@ -100,8 +98,7 @@ pub fn glitch_fields(text: &mut [u8; ROOM], answer: Answer) -> usize
     ensures appended { Appended text.old text.new 0 result (half_text (word "glitch") (finding_of answer.glitch)) }
     ensures most { result ≤ most_text }
 {
-    let glitch = answer.glitch;
-    put_half(text, b"glitch", glitch)
+    put_half(text, b"glitch", answer.glitch)
 }
 
 // ---- two probes
@@ -126,8 +123,7 @@ pub fn search_fields(text: &mut [u8; ROOM], search: Search) -> usize
     ensures appended { Appended text.old text.new 0 result (pairs_text (searched_of search)) }
     ensures most { result ≤ most_text }
 {
-    let found = search.found;
-    let end = put_found(text, found);
+    let end = put_found(text, search.found);
     put_numbers(text, end, &[search.looked])
 }
 
@@ -137,22 +133,33 @@ pub fn progress_fields(text: &mut [u8; ROOM], progress: Progress) -> usize
         (progress_text progress.search.looked progress.next progress.nodes) }
     ensures most { result ≤ most_text }
 {
-    let search = progress.search;
-    let looked = put_fields(text, 0, b"pairs looked at:", &[search.looked]);
+    let looked = put_fields(text, 0, b"pairs looked at:", &[progress.search.looked]);
     let passed = put_fields(text, looked, b", those of", &[progress.next]);
     put_fields(text, passed, b" nodes of", &[progress.nodes])
 }
 
 // ---- a derivation
 
-// A step by its five bytes: `NODE LAYER RULE SET`.
-pub fn step_fields(text: &mut [u8; ROOM], node: u8, layer: u8, rule: u8, low: u8, high: u8) -> usize
-    ensures appended { Appended text.old text.new 0 result (step_text node layer rule (low + 256 * high)) }
+// A step, by numbers: its node, layer and rule, and its set.
+#[derive(Clone, Copy)]
+pub struct Step {
+    pub node: u8,
+    pub layer: u8,
+    pub rule: u8,
+    pub set: u16,
+}
+
+// A step: `NODE LAYER RULE SET`.
+pub fn step_fields(text: &mut [u8; ROOM], step: Step) -> usize
+    ensures appended { Appended text.old text.new 0 result (step_text step.node step.layer step.rule step.set) }
     ensures most { result ≤ most_text }
 {
-    let set = (low as usize) + 256 * (high as usize);
-    let end = put_decimal(text, 0, node as usize);
-    put_numbers(text, end, &[layer as usize, rule as usize, set])
+    let end = put_decimal(text, 0, step.node as usize);
+    put_numbers(
+        text,
+        end,
+        &[step.layer as usize, step.rule as usize, step.set as usize],
+    )
 }
 
 // How many steps a derivation has: `steps COUNT`.
@@ -170,11 +177,7 @@ pub fn value_fields(text: &mut [u8; ROOM], value: bool) -> usize
     ensures appended { Appended text.old text.new 0 result (value_text value) }
     ensures most { result ≤ most_text }
 {
-    if value {
-        put_word(text, 0, b"value 1")
-    } else {
-        put_word(text, 0, b"value 0")
-    }
+    put_fields(text, 0, b"value", &[usize::from(value)])
 }
 
 // The feeding points of a node, by its marks: `feeding`, and the numbers of the marked nodes.
@@ -183,12 +186,10 @@ pub fn feeding_fields(text: &mut [u8; ROOM], marks: [bool; MOST_NODES]) -> usize
     ensures most { result ≤ most_text }
 {
     let mut end = put_word(text, 0, b"feeding");
-    let mut i = 0;
-    while i < MOST_NODES {
-        if marks[i] {
+    for (i, marked) in marks.iter().enumerate() {
+        if *marked {
             end = put_field(text, end, i);
         }
-        i += 1;
     }
     end
 }
@@ -241,7 +242,6 @@ pub fn edits_fields(text: &mut [u8; ROOM], faulty: bool, answer: Answer, made: u
     ensures appended { Appended text.old text.new 0 result (edits_text faulty (finding_of answer.glitch) made) }
     ensures most { result ≤ most_text }
 {
-    let glitch = answer.glitch;
-    let end = put_ended(text, faulty, glitch);
+    let end = put_ended(text, faulty, answer.glitch);
     put_numbers(text, end, &[made])
 }

@@ -5,7 +5,6 @@ use Rattle.rules.specs.declared.Half.TheVariants.{Clear, Suspect}
 use Rattle.rules.specs.Records.{most_nodes, most_sets}
 use Rattle.rules.specs.Families.{Finding, clear, suspect_at}
 use Rattle.rules.specs.Listing.{word, decimal, line}
-use Rattle.listing_lines.specs.declared.Name.{Name}
 
 -- there is room for a text of at most so many bytes at `at`
 abbrev pub Room : (slice : List ℕ) (at most : ℕ) → Type 0
@@ -18,13 +17,6 @@ pub record Appended (before after : List ℕ) (at next : ℕ) (text : List ℕ) 
   pub bytes : take next after ≡ take at before ++ text
   pub beyond : drop next after ≡ drop next before
   pub long : length after ≡ length before
-
--- the letters of a name, of which there are at most so many
-abbrev pub most_name : ℕ
-most_name = 6
-
-abbrev pub spelled : Name → List ℕ
-spelled name = take name.size name.letters
 
 -- a half names a node and a set of a netlist that obeys the record rules
 unfoldable pub Short : Half → Type 0

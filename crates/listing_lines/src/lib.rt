@@ -9,7 +9,7 @@ ghost use Rattle.std.specs.Prelude.{◌≡◌, [], ◌∷◌, ◌++◌, ◌+◌,
 ghost use Rattle.rules.specs.Records.{Cell, kind_of, most_variables, most_nodes, most_sets};
 ghost use Rattle.rules.specs.Listing.{word, decimal, line, kind_name, half_line, most_line, most_text};
 ghost use Rattle.rules.specs.Paper.{number_of, place_of, finding_of};
-ghost use Rattle.listing_lines.specs.Text.{Room, Appended, Short, found_text, most_name, spelled};
+ghost use Rattle.listing_lines.specs.Text.{Room, Appended, Short, found_text};
 
 use rules::{Half, Refusal};
 
@@ -29,12 +29,9 @@ pub fn put_word(text: &mut [u8], at: usize, letters: &[u8]) -> usize
     requires { Room text.old at (length letters.now) }
     ensures { Appended text.old text.new at result letters.now }
 {
-    let mut k = 0;
-    while k < letters.len() {
-        text[at + k] = letters[k];
-        k += 1;
-    }
-    at + k
+    let end = at + letters.len();
+    text[at..end].copy_from_slice(letters);
+    end
 }
 
 // A number in base ten: the digit of its last place behind those of the rest.
@@ -43,10 +40,10 @@ pub fn put_decimal(text: &mut [u8], at: usize, number: usize) -> usize
     ensures { Appended text.old text.new at result (decimal number) }
 {
     if number < 10 {
-        return put_byte(text, at, 48 + (number as u8));
+        return put_byte(text, at, b'0' + number as u8);
     }
     let last = put_decimal(text, at, number / 10);
-    put_byte(text, last, 48 + ((number % 10) as u8))
+    put_byte(text, last, b'0' + (number % 10) as u8)
 }
 
 // A blank and a number.
@@ -54,61 +51,25 @@ pub fn put_field(text: &mut [u8], at: usize, number: usize) -> usize
     requires { Room text.old at (1 + length (decimal number)) }
     ensures { Appended text.old text.new at result (32 ∷ decimal number) }
 {
-    let behind = put_byte(text, at, 32);
+    let behind = put_byte(text, at, b' ');
     put_decimal(text, behind, number)
 }
 
 // ---- kinds of nodes
 
-// A name: the first letters of these.
-#[derive(Clone, Copy)]
-pub struct Name {
-    pub size: usize,
-    pub letters: [u8; 6],
-}
-
 // The name of a kind of node, by its number; a kind that is no node's has that of a register.
-pub fn name_of(kind: u8) -> Name
-    ensures result_value { (cell : Cell) → kind ≡ kind_of cell → spelled result ≡ kind_name cell }
-    ensures short { (result.size ≤ 3) × (kind ≡ 2 → result.size ≡ 2) × (length result.letters ≡ most_name) }
+pub fn name_of(kind: u8) -> &'static [u8]
+    ensures named { (cell : Cell) → kind ≡ kind_of cell → result.now ≡ kind_name cell }
+    ensures short { (length result.now ≤ 3) × (kind ≡ 2 → length result.now ≡ 2) }
 {
     match kind {
-        2 => Name {
-            size: 2,
-            letters: *b"in    ",
-        },
-        3 => Name {
-            size: 3,
-            letters: *b"not   ",
-        },
-        4 => Name {
-            size: 3,
-            letters: *b"xor   ",
-        },
-        5 => Name {
-            size: 3,
-            letters: *b"and   ",
-        },
-        6 => Name {
-            size: 2,
-            letters: *b"or    ",
-        },
-        _ => Name {
-            size: 3,
-            letters: *b"reg   ",
-        },
+        2 => b"in",
+        3 => b"not",
+        4 => b"xor",
+        5 => b"and",
+        6 => b"or",
+        _ => b"reg",
     }
-}
-
-// A name.
-pub fn put_name(text: &mut [u8], at: usize, name: Name) -> usize
-    requires { Room text.old at name.size × (name.size ≤ length name.letters) }
-    ensures appended { Appended text.old text.new at result (spelled name) }
-    ensures place { result ≡ at + name.size }
-{
-    let letters = name.letters;
-    let size = name.size;
-    put_word(text, at, &letters[..size])
 }
 
 // ---- lines
@@ -122,7 +83,7 @@ pub fn put_refusal(text: &mut [u8], refusal: Refusal) -> usize
     let number = put_word(text, 0, b"refused");
     let place = put_field(text, number, refusals::number_of(refusal));
     let end = put_field(text, place, refusal.place);
-    put_byte(text, end, 10)
+    put_byte(text, end, b'\n')
 }
 
 // The line of the counts.
@@ -136,7 +97,7 @@ pub fn put_counts(text: &mut [u8], variables: usize, count: usize) -> usize
     let middle = put_field(text, first, variables);
     let second = put_word(text, middle, b" nodes");
     let end = put_field(text, second, count);
-    put_byte(text, end, 10)
+    put_byte(text, end, b'\n')
 }
 
 // The line of a node: number, kind name, number of sets in the settled family, number in the glitch family.
@@ -155,11 +116,11 @@ pub fn put_node(
     ensures few { result ≤ at + most_line }
 {
     let blank = put_decimal(text, at, i);
-    let name = put_byte(text, blank, 32);
-    let first = put_name(text, name, name_of(kind));
+    let name = put_byte(text, blank, b' ');
+    let first = put_word(text, name, name_of(kind));
     let second = put_field(text, first, settled);
     let end = put_field(text, second, glitch);
-    put_byte(text, end, 10)
+    put_byte(text, end, b'\n')
 }
 
 // What a half says, with a blank before it, and the end of its line.
@@ -173,7 +134,7 @@ fn put_finding(text: &mut [u8], at: usize, half: Half) -> usize
         Half::Suspect(node, set) => {
             let behind = put_field(text, at, node);
             let end = put_field(text, behind, set);
-            put_byte(text, end, 10)
+            put_byte(text, end, b'\n')
         }
     }
 }

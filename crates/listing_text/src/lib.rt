@@ -4,7 +4,7 @@
 // `listing_text_c`, for callers in C and Rust.
 #![tactic(auto)]
 
-ghost use Rattle.std.specs.Prelude.{◌≡◌, List, ◌++◌, ℕ, ◌+◌, ◌*◌, ◌≤◌, length};
+ghost use Rattle.std.specs.Prelude.{◌≡◌, ◌↔◌, IsTrue, List, ◌++◌, ℕ, ◌+◌, ◌*◌, ◌≤◌, length};
 ghost use Rattle.rules.specs.Records as Records;
 ghost use Rattle.rules.specs.Records.{WellFormed, most_variables, most_nodes};
 ghost use Rattle.rules.specs.Families.{families, findings};
@@ -13,7 +13,6 @@ ghost use Rattle.rules.specs.Listing.{node_lines, netlist_text, listing, shown, 
 ghost use Rattle.rules.specs.Paper.{finding_of, findings_of};
 ghost use Rattle.netlists.specs.Netlists.{flat_of};
 ghost use Rattle.listing_lines.specs.Text.{Room, Appended, Short};
-ghost use Rattle.listing_text.specs.Fits.{is_short, fits};
 
 use listing_lines::{put_counts, put_halves, put_node, put_refusal};
 use netlists::Netlist;
@@ -21,9 +20,6 @@ use rules::{Answer, Half, MOST_NODES, MOST_VARIABLES, MOST_WORK, Refusal};
 
 // How many bytes have room for every listing: 203 lines of at most 18 bytes, or one refusal.
 pub const MOST_TEXT: usize = 18 * (MOST_NODES + 3);
-
-// How many sets ten variables have.
-const MOST_SETS: usize = 1024;
 
 // ---- a block whose answer and families are at hand
 
@@ -36,15 +32,11 @@ fn put_nodes(text: &mut [u8], at: usize, netlist: Netlist, work: &[u8]) -> usize
         Appended text.old text.new at result (node_lines 0 n.nodes (families n)) }
     ensures few { result ≤ at + most_line * netlist.count }
 {
-    let count = netlist.count;
     let mut end = at;
-    let mut i = 0;
-    while i < count {
-        let node = netlist.nodes[i];
+    for (i, node) in netlist.nodes[..netlist.count].iter().enumerate() {
         let settled = families::size(work, 2 * i);
         let glitch = families::size(work, 2 * i + 1);
         end = put_node(text, end, i, node.kind, settled, glitch);
-        i += 1;
     }
     end
 }
@@ -66,21 +58,23 @@ fn put_answer(text: &mut [u8], netlist: Netlist, work: &[u8], settled: Half, gli
 
 // Whether a half names a node and a set that there may be.
 fn is_short(half: Half) -> bool
-    ensures { result ≡ is_short half }
+    ensures { IsTrue result ↔ Short half }
 {
     match half {
         Half::Clear => true,
-        Half::Suspect(node, set) => (node < MOST_NODES) & (set < MOST_SETS),
+        Half::Suspect(node, set) => node < MOST_NODES && set < families::SETS,
     }
 }
 
 // Whether the numbers are such that each line has at most 18 bytes, as those of every block are.
 fn fits(netlist: Netlist, settled: Half, glitch: Half) -> bool
-    ensures { result ≡ fits netlist settled glitch }
+    ensures { IsTrue result ↔ ((netlist.variables ≤ most_variables) × (netlist.count ≤ most_nodes)
+        × Short settled × Short glitch) }
 {
-    let counts = (netlist.variables <= MOST_VARIABLES) & (netlist.count <= MOST_NODES);
-    let halves = is_short(settled) & is_short(glitch);
-    counts & halves
+    netlist.variables <= MOST_VARIABLES
+        && netlist.count <= MOST_NODES
+        && is_short(settled)
+        && is_short(glitch)
 }
 
 // The listing of a block whose answer is at hand, and whose families are in the work bytes:
@@ -98,12 +92,10 @@ pub fn listing_of(
         Appended text.old text.new 0 result (netlist_text n) }
     ensures most { result ≤ most_text }
 {
-    let settled = answer.settled;
-    let glitch = answer.glitch;
-    if !fits(netlist, settled, glitch) {
+    if !fits(netlist, answer.settled, answer.glitch) {
         return 0;
     }
-    put_answer(text, netlist, work, settled, glitch)
+    put_answer(text, netlist, work, answer.settled, answer.glitch)
 }
 
 // ---- netlist bytes
@@ -114,11 +106,9 @@ fn put_listing(text: &mut [u8; MOST_TEXT], bytes: &[u8]) -> usize
 {
     let mut work = [0u8; MOST_WORK];
     let examined = checker::examine(bytes, MOST_NODES, &mut work);
-    let reply = examined.reply;
-    let netlist = examined.netlist;
-    match reply {
+    match examined.reply {
         Err(refusal) => put_refusal(text, refusal),
-        Ok(answer) => listing_of(answer, netlist, &work, text),
+        Ok(answer) => listing_of(answer, examined.netlist, &work, text),
     }
 }
 

@@ -7,12 +7,10 @@ ghost use Rattle.std.specs.Prelude.{◌≡◌, List, [], ◌∷◌, ℕ, ◌+◌
 ghost use Rattle.std.proofs.lemmas.List.Edits.{sets};
 ghost use Rattle.rules.specs.Records.{Kind, kind_number, Record, most_record};
 ghost use Rattle.scanner.specs.Words.{words, same};
-ghost use Rattle.listing_lines.specs.Text.{most_name, spelled};
 ghost use Rattle.read_words.specs.Words.{says, wrong, number_fault, alone, operand_in, with_operands};
 ghost use Rattle.read_words.specs.Words.{with_variables, forms, read_by, record_in};
 ghost use Rattle.read_words.specs.Meaning.{name_of, reads_of, form_at, short_line, line_of, TellsRecord, TellsBlock};
 
-use listing_lines::Name;
 use rules::MOST_BODY;
 use scanner::{count_words, next_word, number_below, word_at};
 
@@ -178,32 +176,17 @@ fn gate_record(numbers: &[u8], kind: u8) -> Line
 const FORMS: u8 = 10;
 
 // The word of a form; a number that is no form's has no letters.
-pub fn word_of(form: u8) -> Name
-    ensures result_value { spelled result ≡ name_of (form_at form) }
-    ensures short { (result.size ≤ most_name) × (length result.letters ≡ most_name) }
+pub fn word_of(form: u8) -> &'static [u8]
+    ensures named { result.now ≡ name_of (form_at form) }
+    ensures short { length result.now ≤ 6 }
 {
     match form {
-        0 => Name {
-            size: 3,
-            letters: *b"end   ",
-        },
-        1 => Name {
-            size: 6,
-            letters: *b"secret",
-        },
-        2 => Name {
-            size: 4,
-            letters: *b"mask  ",
-        },
-        3 => Name {
-            size: 6,
-            letters: *b"public",
-        },
+        0 => b"end",
+        1 => b"secret",
+        2 => b"mask",
+        3 => b"public",
         4..=9 => listing_lines::name_of(form - 2),
-        _ => Name {
-            size: 0,
-            letters: *b"      ",
-        },
+        _ => b"",
     }
 }
 
@@ -211,10 +194,7 @@ pub fn word_of(form: u8) -> Name
 fn has_word(form: u8, word: &[u8]) -> bool
     ensures { result ≡ same word.now (name_of (form_at form)) }
 {
-    let name = word_of(form);
-    let letters = name.letters;
-    let size = name.size;
-    scanner::is_word(word, &letters[..size])
+    scanner::is_word(word, word_of(form))
 }
 
 // The first form whose word this is, and the number of forms where none is.

@@ -15,7 +15,7 @@ ghost use Rattle.write_words.specs.Worded.{variables_below, numbers_of, fields, 
 ghost use Rattle.write_words.specs.Worded.{most_variable_line, most_numbers, most_node_line, most_words};
 
 use edit_rules::State;
-use listing_lines::{name_of, put_byte, put_field, put_name, put_word};
+use listing_lines::{name_of, put_byte, put_field, put_word};
 use netlists::Netlist;
 use rules::{MOST_NODES, MOST_VARIABLES, Node, NodeRecord};
 
@@ -32,11 +32,7 @@ fn put_class(text: &mut [u8], at: usize, class: u8) -> usize
         Appended text.old text.new at result (record_line (Records.variable c)) }
     ensures few { result ≤ at + most_variable_line }
 {
-    let mut form = 3;
-    if class < 2 {
-        form = class + 1;
-    }
-    let end = put_name(text, at, read_words::word_of(form));
+    let end = put_word(text, at, read_words::word_of(class.min(2) + 1));
     put_byte(text, end, b'\n')
 }
 
@@ -47,12 +43,10 @@ fn put_set(text: &mut [u8], at: usize, set: u16) -> usize
     ensures few { result ≤ at + most_numbers }
 {
     let mut end = at;
-    let mut variable = 0;
-    while variable < MOST_VARIABLES {
+    for variable in 0..MOST_VARIABLES {
         if (set >> variable) % 2 == 1 {
             end = put_field(text, end, variable);
         }
-        variable += 1;
     }
     end
 }
@@ -69,10 +63,8 @@ fn put_numbers(text: &mut [u8], at: usize, node: Node) -> usize
     }
     let operands = netlists::operands_of(node);
     let mut end = at;
-    let mut j = 0;
-    while j < operands.count {
-        end = put_field(text, end, operands.at[j] as usize);
-        j += 1;
+    for operand in &operands.at[..operands.count] {
+        end = put_field(text, end, usize::from(*operand));
     }
     end
 }
@@ -84,7 +76,7 @@ fn put_node(text: &mut [u8], at: usize, node: Node) -> usize
         Appended text.old text.new at result (record_line (Records.node cell)) }
     ensures few { result ≤ at + most_node_line }
 {
-    let name = put_name(text, at, name_of(node.kind));
+    let name = put_word(text, at, name_of(node.kind));
     let end = put_numbers(text, name, node);
     put_byte(text, end, b'\n')
 }
@@ -92,18 +84,16 @@ fn put_node(text: &mut [u8], at: usize, node: Node) -> usize
 // ---- all lines
 
 // The lines of the variables, at the front.
+// One function of a closure for this loop and the next would need the closure's contract, and so is no plainer.
 fn put_variables(text: &mut [u8], netlist: Netlist) -> usize
     requires { Room text.old 0 most_words × (netlist.variables ≤ most_variables) }
     ensures appended { (n : Records.Netlist) → netlist ≡ flat_of n →
         Appended text.old text.new 0 result (record_lines (map Records.variable n.variables)) }
     ensures few { result ≤ most_variable_line * most_variables }
 {
-    let count = netlist.variables;
     let mut at = 0;
-    let mut i = 0;
-    while i < count {
-        at = put_class(text, at, netlist.classes[i]);
-        i += 1;
+    for class in &netlist.classes[..netlist.variables] {
+        at = put_class(text, at, *class);
     }
     at
 }
@@ -116,12 +106,9 @@ fn put_nodes(text: &mut [u8], at: usize, netlist: Netlist) -> usize
         Appended text.old text.new at result (record_lines (map Records.node n.nodes)) }
     ensures few { result ≤ at + most_node_line * most_nodes }
 {
-    let count = netlist.count;
     let mut next = at;
-    let mut i = 0;
-    while i < count {
-        next = put_node(text, next, netlist.nodes[i]);
-        i += 1;
+    for node in &netlist.nodes[..netlist.count] {
+        next = put_node(text, next, *node);
     }
     next
 }
@@ -136,10 +123,7 @@ pub fn word_netlist(netlist: Netlist, text: &mut [u8; MOST_WORDS]) -> usize
         text.new ≡ worded_out n ++ drop result text.old }
     ensures most { result ≤ most_words }
 {
-    if netlist.variables > MOST_VARIABLES {
-        return 0;
-    }
-    if netlist.count > MOST_NODES {
+    if netlist.variables > MOST_VARIABLES || netlist.count > MOST_NODES {
         return 0;
     }
     let first = put_variables(text, netlist);
@@ -160,10 +144,8 @@ pub fn write_words(
         text.new ≡ worded_out n ++ drop result text.old }
     ensures most { result ≤ most_words }
 {
-    if state.count > MOST_NODES {
-        return 0;
+    match write_bytes::netlist_of(state, nodes) {
+        Some(netlist) => word_netlist(netlist, text),
+        None => 0,
     }
-    let loaded = edits::loaded_of(state, nodes, state.count);
-    let block = loaded.block;
-    word_netlist(block, text)
 }

@@ -1,5 +1,5 @@
 -- `desk_text::put_numbers` meets its contract. The loop's invariant: the first k numbers are behind the front,
--- in at most 21 bytes each. The measure is how many are left. Assumes nothing.
+-- in at most 21 bytes each. Assumes nothing.
 use native.Mathlib.Numerals.{add-one}
 use native.Mathlib.Omega.{arith}
 use lib.ListN.{take, get_or}
@@ -10,23 +10,22 @@ use Rattle.desk_text.specs.Desk.{behind}
 use Rattle.desk_text.proofs.Desk.{numbers_more}
 use Rattle.desk_text.proofs.put_numbers.Goals as goal
 
-pub loop-k-init : goal.loop-k-init
+pub loop-number-init : goal.loop-number-init
 unfolding behind
-loop-k-init c = (omega arith, omega arith, appended_none _ _)
+loop-number-init c = (omega arith, appended_none _ _)
 
 pub put_field-end-requires : goal.put_field-end-requires
 put_field-end-requires c =
-    let number = get_or c.args.numbers.now c.loop-k.k 0 in
-    let fits = c.type_inv.numbers c.loop-k.k in
+    let number = get_or c.args.numbers.now c.loop-number.number-index 0 in
+    let fits = c.type_inv.numbers c.loop-number.number-index in
     omega (arith, decimal_short 20 number (omega arith) (omega (arith, fits)))
 
-pub loop-k-preserved : goal.loop-k-preserved
-loop-k-preserved c =
+pub loop-number-preserved : goal.loop-number-preserved
+loop-number-preserved c =
     let numbers = c.args.numbers.now in
-    let k = c.loop-k.k in
+    let k = c.loop-number.number-index in
     let fits = c.type_inv.numbers k in (
-      omega arith,
       omega (arith, decimal_short 20 (get_or numbers k 0) (omega arith) (omega (arith, fits))),
       rw (add-one k, take-suc numbers k 0 (omega arith))
-          (appended_as (numbers_more (take k numbers) _) (appended_more c.loop-k.invariant.2 c.put_field-end.ensures)),
+          (appended_as (numbers_more (take k numbers) _) (appended_more c.loop-number.invariant.1 c.put_field-end.ensures)),
     )

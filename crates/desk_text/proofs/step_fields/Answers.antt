@@ -7,10 +7,10 @@ use Rattle.desk_text.specs.Desk.{parted, step_text}
 use Rattle.desk_text.proofs.step_fields.Goals as goal
 
 pub put_decimal-end-requires : goal.put_decimal-end-requires
-put_decimal-end-requires c = omega (arith, decimal_short 3 c.args.node (omega arith) (omega arith))
+put_decimal-end-requires c = omega (arith, decimal_short 3 c.args.step.node (omega arith) (omega arith))
 
 pub put_numbers-requires : goal.put_numbers-requires
-put_numbers-requires c = omega (arith, decimal_short 3 c.args.node (omega arith) (omega arith))
+put_numbers-requires c = omega (arith, decimal_short 3 c.args.step.node (omega arith) (omega arith))
 
 pub returns-clause-appended : goal.returns-clause-appended
 unfolding parted step_text

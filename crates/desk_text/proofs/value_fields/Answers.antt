@@ -1,12 +1,16 @@
--- `desk_text::value_fields` meets its contract: each arm writes its digit. Assumes nothing.
-use Rattle.rules.specs.Listing.{word, digits, decimal}
-use Rattle.desk_text.specs.Desk.{behind, parted, value_text}
+-- `desk_text::value_fields` meets its contract: the word, and the value as a digit. Assumes nothing.
+use Rattle.std.proofs.Common.{Bool, true, false, ◌≡◌, refl}
+use mir.Val.{bool_byte}
+use Rattle.rules.specs.Lists.{digit}
+use Rattle.rules.specs.Listing.{word}
+use Rattle.listing_lines.proofs.Text.{appended_as}
+use Rattle.desk_text.specs.Desk.{parted, value_text}
 use Rattle.desk_text.proofs.value_fields.Goals as goal
 
-pub returns-then-value-clause-appended : goal.returns-then-value-clause-appended
-unfolding word digits decimal behind parted value_text
-returns-then-value-clause-appended c = rw c.if-value.true c.put_word.ensures
+digit_is : (value : Bool) → bool_byte value ≡ digit value
+digit_is true = refl
+digit_is false = refl
 
-pub returns-else-value-clause-appended : goal.returns-else-value-clause-appended
-unfolding word digits decimal behind parted value_text
-returns-else-value-clause-appended c = rw c.if-value.false c.put_word-else-value.ensures
+pub returns-clause-appended : goal.returns-clause-appended
+unfolding word parted value_text
+returns-clause-appended c = appended_as (rw (c.from.ensures, digit_is c.args.value)) c.put_fields.ensures.appended

@@ -33,26 +33,26 @@ numbered (gate kind ops) = omega (arith, (known kind).above, (known kind).below)
 said : {kind : ℕ} (number : ℕ) → kind ≡ number → (cell : Cell) → kind ≡ kind_of cell → word_for number ≡ kind_name cell
 said number k cell e = ap word_for (sym k ∙ e) ∙ named cell
 
-pub returns-in-2-clause-result_value : goal.returns-in-2-clause-result_value
+pub returns-in-2-clause-named : goal.returns-in-2-clause-named
 unfolding word_for word
-returns-in-2-clause-result_value c = said 2 c.in-2.is
+returns-in-2-clause-named c = said 2 c.in-2.is
 
-pub returns-in-3-clause-result_value : goal.returns-in-3-clause-result_value
+pub returns-in-3-clause-named : goal.returns-in-3-clause-named
 unfolding word_for word
-returns-in-3-clause-result_value c = said 3 c.in-3.is
+returns-in-3-clause-named c = said 3 c.in-3.is
 
-pub returns-in-4-clause-result_value : goal.returns-in-4-clause-result_value
+pub returns-in-4-clause-named : goal.returns-in-4-clause-named
 unfolding word_for word
-returns-in-4-clause-result_value c = said 4 c.in-4.is
+returns-in-4-clause-named c = said 4 c.in-4.is
 
-pub returns-in-5-clause-result_value : goal.returns-in-5-clause-result_value
+pub returns-in-5-clause-named : goal.returns-in-5-clause-named
 unfolding word_for word
-returns-in-5-clause-result_value c = said 5 c.in-5.is
+returns-in-5-clause-named c = said 5 c.in-5.is
 
-pub returns-in-6-clause-result_value : goal.returns-in-6-clause-result_value
+pub returns-in-6-clause-named : goal.returns-in-6-clause-named
 unfolding word_for word
-returns-in-6-clause-result_value c = said 6 c.in-6.is
+returns-in-6-clause-named c = said 6 c.in-6.is
 
-pub returns-in_default-clause-result_value : goal.returns-in_default-clause-result_value
+pub returns-in_default-clause-named : goal.returns-in_default-clause-named
 unfolding word_for word
-returns-in_default-clause-result_value c = λ cell e. said 7 (omega (arith, numbered cell)) cell e
+returns-in_default-clause-named c = λ cell e. said 7 (omega (arith, numbered cell)) cell e

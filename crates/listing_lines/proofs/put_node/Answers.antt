@@ -24,8 +24,8 @@ put_decimal-blank-requires c = omega (arith, digits c.args.i c.args.settled c.ar
 pub put_byte-name-requires : goal.put_byte-name-requires
 put_byte-name-requires c = omega (arith, digits c.args.i c.args.settled c.args.glitch (omega arith) (omega arith) (omega arith))
 
-pub put_name-first-requires : goal.put_name-first-requires
-put_name-first-requires c = omega (arith, digits c.args.i c.args.settled c.args.glitch (omega arith) (omega arith) (omega arith))
+pub put_word-first-requires : goal.put_word-first-requires
+put_word-first-requires c = omega (arith, digits c.args.i c.args.settled c.args.glitch (omega arith) (omega arith) (omega arith))
 
 pub put_field-second-requires : goal.put_field-second-requires
 put_field-second-requires c = omega (arith, digits c.args.i c.args.settled c.args.glitch (omega arith) (omega arith) (omega arith))
@@ -40,7 +40,7 @@ pub returns-clause-appended : goal.returns-clause-appended
 unfolding line
 returns-clause-appended c = λ cell e. appended_more c.put_decimal-blank.ensures
     (appended_more c.put_byte-name.ensures
-    (appended_more (appended_as (c.name_of.ensures.result_value cell e) c.put_name-first.ensures.appended)
+    (appended_more (appended_as (c.name_of.ensures.named cell e) c.put_word-first.ensures)
     (appended_more c.put_field-second.ensures (appended_more c.put_field-end.ensures c.put_byte.ensures))))
 
 pub returns-clause-few : goal.returns-clause-few

@@ -1,17 +1,13 @@
--- `listing_lines::put_word` meets its contract. The loop's invariant: the word's first k bytes are behind the front.
--- The measure is what is left of the word. Assumes nothing.
-use native.Mathlib.Nat.{add_assoc}
-use native.Mathlib.Numerals.{add-one}
-use native.Mathlib.Omega.{arith}
-use lib.Seq.{take-suc}
-use Rattle.listing_lines.proofs.Text.{appended_byte, appended_more}
+-- `listing_lines::put_word` meets its contract: the bytes that are copied to the place are the word. Assumes nothing.
+use Rattle.std.proofs.Common.{refl, rules}
+use Rattle.std.proofs.lemmas.Slice.{overwrites}
+use borrow.Rule.Slice.PartMut.{same_len_mid}
 use Rattle.listing_lines.proofs.put_word.Goals as goal
 
-pub loop-k-preserved : goal.loop-k-preserved
-loop-k-preserved c =
-    let letters = c.args.letters.now in
-    let k = c.loop-k.k in (
-      omega arith,
-      rw (add-one k, take-suc letters k 0 (omega arith), ← add-one k, ← add_assoc)
-          (appended_more c.loop-k.invariant.1 (appended_byte _ _ _ (omega arith))),
-    )
+pub returns : goal.returns
+returns c = record {
+  place = refl;
+  bytes = search (rules, overwrites);
+  beyond = search (rules, overwrites);
+  long = search (rules, same_len_mid);
+}

@@ -1,11 +1,16 @@
--- `listing_text::is_short` meets its contract: it is the test of the definition. Assumes nothing.
-use Rattle.listing_text.specs.Fits.{is_short}
+-- `listing_text::is_short` meets its contract. Assumes nothing.
+use borrow.Author.Rules.{rules}
+use Rattle.listing_lines.specs.Text.{Short}
 use Rattle.listing_text.proofs.is_short.Goals as goal
 
 pub returns-in-Clear : goal.returns-in-Clear
-unfolding is_short
-returns-in-Clear c = rw c.in-Clear.is
+unfolding Short
+returns-in-Clear c = rw c.in-Clear.is (search rules)
 
-pub returns-in-Suspect : goal.returns-in-Suspect
-unfolding is_short
-returns-in-Suspect c = rw c.in-Suspect.is
+pub returns-then-node-lt-MOST_NODES : goal.returns-then-node-lt-MOST_NODES
+unfolding Short
+returns-then-node-lt-MOST_NODES c = rw c.in-Suspect.is (search rules)
+
+pub returns-else-node-lt-MOST_NODES : goal.returns-else-node-lt-MOST_NODES
+unfolding Short
+returns-else-node-lt-MOST_NODES c = rw c.in-Suspect.is (search rules)

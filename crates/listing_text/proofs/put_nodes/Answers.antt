@@ -1,10 +1,11 @@
 -- `listing_text::put_nodes` meets its contract. The loop's invariant: the lines of the first i nodes are behind the
--- front, each of at most 18 bytes. The measure is the number of nodes left. Assumes nothing.
+-- front, each of at most 18 bytes. Assumes nothing.
 use Prim.Native.Nat.{ℕ, ◌+◌, ◌*◌, ◌≤◌, ◌<◌}
-use mathlib.Core.Path.{◌≡◌, refl, sym, ap}
+use mathlib.Core.Path.{◌≡◌, refl, sym, ap, ◌∙◌}
 use mathlib.Core.List.{List, [], ◌∷◌, ◌++◌}
 use native.Mathlib.Omega.{arith}
 use borrow.Author.Rules.{rules}
+use Rattle.std.proofs.lemmas.List.{get_or-take}
 use lib.ListN.{length, get_or}
 use Rattle.rules.specs.declared.Node.{Node}
 use Rattle.rules.specs.Records.{input, Netlist, WellFormed, kind_of, most_sets}
@@ -40,7 +41,7 @@ module _ {value : Value.Netlist} (n : Netlist) (e : value ≡ flat_of n) where
   all_lines {i} h l = let all : i ≡ length n.nodes = omega (arith, value_count n e) in rw all (first_all n)
 
 pub loop-i-init : goal.loop-i-init
-loop-i-init c = (omega arith, refl, omega arith, λ n rest f e w. appended_as (sym (first_none n)) (appended_none _ _))
+loop-i-init c = (refl, omega arith, λ n rest f e w. appended_as (sym (first_none n)) (appended_none _ _))
 
 -- a part has at most 1,024 sets, and so has what is answered of its size
 few_sets : (work : List ℕ) (part : ℕ) {size : ℕ} → size ≡ length (family_at work part) → size ≤ most_sets
@@ -52,14 +53,14 @@ put_node-end-requires c =
 
 pub loop-i-preserved : goal.loop-i-preserved
 loop-i-preserved c = (
-  omega arith,
   search rules,
   omega arith,
   λ n rest f e w.
-      appended_as (next_line n e f rest w c.loop-i-test.true c.size-settled.ensures c.size-glitch.ensures)
-      (appended_more (c.loop-i.invariant.3 n rest f e w) (c.put_node-end.ensures.appended _ (kind_at n e _ c.loop-i-test.true))),
+      let few : c.loop-i.i < c.args.netlist.count = omega arith in
+      appended_as (next_line n e f rest w few c.size-settled.ensures c.size-glitch.ensures)
+      (appended_more (c.loop-i.invariant.2 n rest f e w) (c.put_node-end.ensures.appended _ (ap (λ (node : Node). node.kind) (get_or-take _ _ _ _ few) ∙ kind_at n e _ few))),
 )
 
 pub returns-clause-appended : goal.returns-clause-appended
 returns-clause-appended c =
-    λ n rest f e w. appended_as (all_lines n e c.loop-i.invariant.0 c.loop-i-test.false) (c.loop-i.invariant.3 n rest f e w)
+    λ n rest f e w. appended_as (all_lines n e (omega arith) (omega arith)) (c.loop-i.invariant.2 n rest f e w)

@@ -1,6 +1,6 @@
 -- `listing_text::put_nodes` meets its contract. The loop's invariant: the lines of the first i nodes are behind the
--- front, each of at most 18 bytes. The measure is the number of nodes left. Assumes nothing.
-use Prim.Native.Nat.{ℕ, ◌+◌, ◌*◌, ◌-◌, ◌≤◌}
+-- front, each of at most 18 bytes. Assumes nothing.
+use Prim.Native.Nat.{ℕ, ◌+◌, ◌*◌, ◌≤◌}
 use mathlib.Core.Path.{◌≡◌}
 use mathlib.Core.List.{List, ◌++◌}
 use lib.ListN.{length}
@@ -15,10 +15,6 @@ use Rattle.listing_text.proofs.put_nodes.Given as goal
 
 abbrev pub invariant-loop-i : goal.invariant-loop-i
 invariant-loop-i l =
-    (l.i ≤ l.count)
-    × (length l.text ≡ length l.initial.text)
+    (length l.text ≡ length l.initial.text)
     × (l.end ≤ l.at + most_line * l.i)
-    × ((n : Netlist) (rest : List ℕ) → WellFormed n → l.netlist ≡ flat_of n → l.work ≡ work_bytes (families n) ++ rest → Appended l.initial.text l.text l.at l.end (first_lines n l.i))
-
-abbrev pub decreases-loop-i : goal.decreases-loop-i
-decreases-loop-i l = l.count - l.i
+    × ((n : Netlist) (rest : List ℕ) → WellFormed n → l.fn.netlist ≡ flat_of n → l.work ≡ work_bytes (families n) ++ rest → Appended l.initial.text l.text l.at l.end (first_lines n l.i))

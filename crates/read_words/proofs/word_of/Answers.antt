@@ -6,25 +6,25 @@ use Rattle.read_words.specs.Meaning.{name_of, form_at}
 use Rattle.read_words.proofs.Forms.{kind_row, no_row}
 use Rattle.read_words.proofs.word_of.Goals as goal
 
-pub returns-in-0-clause-result_value : goal.returns-in-0-clause-result_value
+pub returns-in-0-clause-named : goal.returns-in-0-clause-named
 unfolding name_of form_at forms word
-returns-in-0-clause-result_value c = rw c.in-0.is
+returns-in-0-clause-named c = rw c.in-0.is
 
-pub returns-in-1-clause-result_value : goal.returns-in-1-clause-result_value
+pub returns-in-1-clause-named : goal.returns-in-1-clause-named
 unfolding name_of form_at forms word
-returns-in-1-clause-result_value c = rw c.in-1.is
+returns-in-1-clause-named c = rw c.in-1.is
 
-pub returns-in-2-clause-result_value : goal.returns-in-2-clause-result_value
+pub returns-in-2-clause-named : goal.returns-in-2-clause-named
 unfolding name_of form_at forms word
-returns-in-2-clause-result_value c = rw c.in-2.is
+returns-in-2-clause-named c = rw c.in-2.is
 
-pub returns-in-3-clause-result_value : goal.returns-in-3-clause-result_value
+pub returns-in-3-clause-named : goal.returns-in-3-clause-named
 unfolding name_of form_at forms word
-returns-in-3-clause-result_value c = rw c.in-3.is
+returns-in-3-clause-named c = rw c.in-3.is
 
-pub returns-in-4-to-9-clause-result_value : goal.returns-in-4-to-9-clause-result_value
-returns-in-4-to-9-clause-result_value c = kind_row _ c.args.form (omega arith) (omega arith) c.name_of.ensures.result_value
+pub returns-in-4-to-9-clause-named : goal.returns-in-4-to-9-clause-named
+returns-in-4-to-9-clause-named c = kind_row _ c.args.form (omega arith) (omega arith) c.name_of.ensures.named
 
-pub returns-in_default-clause-result_value : goal.returns-in_default-clause-result_value
+pub returns-in_default-clause-named : goal.returns-in_default-clause-named
 unfolding name_of
-returns-in_default-clause-result_value c = rw (no_row c.args.form (omega arith))
+returns-in_default-clause-named c = rw (no_row c.args.form (omega arith))

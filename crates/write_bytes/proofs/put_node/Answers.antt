@@ -1,5 +1,4 @@
--- `write_bytes::put_node` meets its contract: an input's set, or the operands, behind the kind. The loop's invariant:
--- the first j operands are stored. The measure is the number of operands left. Assumes nothing.
+-- `write_bytes::put_node` meets its contract: an input's set, or the operands, behind the kind. Assumes nothing.
 use Prim.Native.Nat.{ℕ, ◌/◌, ◌%◌}
 use mathlib.Core.Path.{◌≡◌, refl, sym, ◌∙◌}
 use mathlib.Core.List.{List, [], ◌∷◌}
@@ -35,14 +34,15 @@ module _ {n : Node} (cell : Cell) (e : n ≡ entry cell) where
   unfolding entry record_bytes padded
   of_gate other count ops many all = rw (all, take_at (operands cell) _ count (sym many), e, body_operands cell (rw e at other))
 
-pub returns-then-kind-eq2-clause-appended : goal.returns-then-kind-eq2-clause-appended
-returns-then-kind-eq2-clause-appended c = λ cell e. appended_as (of_input cell e c.if-kind-eq2.true) (appended_more c.put_byte-end.ensures c.put_two.ensures)
+pub returns-then-node-eq2-clause-appended : goal.returns-then-node-eq2-clause-appended
+returns-then-node-eq2-clause-appended c = λ cell e.
+    let high : c.args.node.set / 256 % 256 ≡ c.args.node.set / 256 = omega arith in
+    appended_as (of_input cell e c.if-node-eq2.true)
+    (appended_more c.put_byte-end.ensures (appended_as (c.to_le_bytes.ensures ∙ rw high) c.put_word.ensures))
 
 pub returns-clause-appended : goal.returns-clause-appended
-returns-clause-appended c =
+returns-clause-appended c = λ cell e.
     let own = c.operands_of-operands in
-    let all : c.loop-j.j ≡ own.result.count = omega arith in
-    λ cell e.
     let (many, ops) = own.ensures.count_value cell e in
-    appended_as (of_gate cell e c.if-kind-eq2.false c.loop-j.j own.result.at (all ∙ many) ops)
-    (appended_more c.put_byte-end.ensures c.loop-j.invariant.3)
+    appended_as (of_gate cell e c.if-node-eq2.false own.result.count own.result.at many ops)
+    (appended_more c.put_byte-end.ensures c.put_word-2.ensures)

@@ -1,7 +1,8 @@
 -- `write_bytes::put_variables` meets its contract. The loop's invariant: the records of the first i variables are
--- stored at the front. The measure is the number of variables left. Assumes nothing.
+-- stored at the front. Assumes nothing.
 use Prim.Native.Nat.{◌≤◌, ◌<◌}
 use mathlib.Core.Path.{refl, ap}
+use Rattle.std.proofs.lemmas.List.{get_or-take}
 use native.Mathlib.Omega.{arith}
 use lib.ListN.{length}
 use lib.Seq.{take_all}
@@ -11,24 +12,24 @@ use Rattle.listing_lines.proofs.Text.{appended_none, appended_more, appended_as}
 use Rattle.write_bytes.proofs.Records.{variables_more}
 use Rattle.write_bytes.proofs.put_variables.Goals as goal
 
-pub loop-i-init : goal.loop-i-init
+pub loop-class-init : goal.loop-class-init
 unfolding variables_out
-loop-i-init c = (omega arith, omega arith, refl, λ n e. appended_none _ 0)
+loop-class-init c = (omega arith, refl, λ n e. appended_none _ 0)
 
-pub loop-i-preserved : goal.loop-i-preserved
+pub loop-class-preserved : goal.loop-class-preserved
 unfolding record_bytes
-loop-i-preserved c =
-    let i = c.loop-i.i in
-    let stored = c.put_two-at.ensures in (
-      omega arith,
+loop-class-preserved c =
+    let i = c.loop-class.class-index in
+    let stored = c.put_word-at.ensures in (
       omega (arith, stored.place),
       omega arith,
       λ n e.
+          let few : i < c.args.netlist.variables = omega arith in
           let h : i < length n.variables = omega (arith, value_variables n e) in
-          appended_as (rw (e, flat_class_at n i h) (variables_more n i h)) (appended_more (c.loop-i.invariant.3 n e) stored),
+          appended_as (rw (get_or-take, e, flat_class_at n i h) (variables_more n i h)) (appended_more (c.loop-class.invariant.2 n e) stored),
     )
 
 pub returns-clause-appended : goal.returns-clause-appended
 returns-clause-appended c = λ n e.
-    let all : length n.variables ≤ c.loop-i.i = omega (arith, value_variables n e) in
-    appended_as (ap variables_out (take_all c.loop-i.i n.variables all)) (c.loop-i.invariant.3 n e)
+    let all : length n.variables ≤ c.loop-class.class-index = omega (arith, value_variables n e) in
+    appended_as (ap variables_out (take_all c.loop-class.class-index n.variables all)) (c.loop-class.invariant.2 n e)

@@ -10,7 +10,6 @@ use Rattle.read_words.specs.Words.{forms}
 use Rattle.read_words.specs.Meaning.{name_of, form_at}
 use Rattle.write_words.specs.Worded.{class_name, record_words, record_line}
 use Rattle.write_words.proofs.put_class.Goals as goal
-use Rattle.write_words.proofs.put_class.Goals.{else-class-lt2, then-class-lt2}
 
 -- the form of a class, and its line
 class_word : (c : Class) → name_of (form_at (class_byte c + 1)) ++ (10 ∷ []) ≡ record_line (variable c)
@@ -28,7 +27,6 @@ numbered public = omega arith
 
 pub returns-clause-appended : goal.returns-clause-appended
 returns-clause-appended c = λ class e.
-    let form : c.if-class-lt2.form ≡ class_byte class + 1
-    = elim c.if-class-lt2.branch [ then-class-lt2 w ↦ omega (arith, numbered class) | else-class-lt2 w ↦ omega (arith, numbered class) ] in
+    let form : c.min.result + 1 ≡ class_byte class + 1 = omega (arith, numbered class) in
     appended_as (class_word class)
-    (appended_more (appended_as (c.word_of.ensures.result_value ∙ ap (λ (k : ℕ). name_of (form_at k)) form) c.put_name-end.ensures.appended) c.put_byte.ensures)
+    (appended_more (appended_as (c.word_of.ensures.named ∙ ap (λ (k : ℕ). name_of (form_at k)) form) c.put_word-end.ensures) c.put_byte.ensures)

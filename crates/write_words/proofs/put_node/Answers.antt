@@ -9,5 +9,5 @@ pub returns-clause-appended : goal.returns-clause-appended
 unfolding record_words record_line
 returns-clause-appended c = λ cell e.
     appended_as (line_fields _ (numbers_of cell))
-    (appended_more (appended_more (appended_as (c.name_of.ensures.result_value cell (kind_of_lem cell e)) c.put_name-name.ensures.appended)
+    (appended_more (appended_more (appended_as (c.name_of.ensures.named cell (kind_of_lem cell e)) c.put_word-name.ensures)
     (c.put_numbers-end.ensures.appended cell e)) c.put_byte.ensures)

@@ -1,14 +1,15 @@
 -- `write_words::put_numbers` meets its contract: an input has the variables of its set, and every other node its
--- operands. The loop's invariant: the first j operands are put, each in at most three digits with its blank. The
--- measure is the number of operands left. Assumes nothing.
+-- operands. The loop's invariant: the first j operands are put, each in at most three digits with its blank. Assumes nothing.
 use Prim.Native.Nat.{ℕ, ◌≤◌, ◌<◌}
 use mathlib.Core.Path.{◌≡◌, refl, sym, ap, ◌∙◌}
 use mathlib.Core.List.{List, append-nil}
 use native.Mathlib.Numerals.{add-one}
 use native.Mathlib.Omega.{arith}
 use borrow.Author.Rules.{rules}
-use lib.ListN.{length, get_or, take}
-use lib.Seq.{take-suc, take_at}
+use lib.ListN.{length, take}
+use lib.Seq.{take-suc, take_all, take_at}
+use Rattle.std.proofs.Common.{inr}
+use Rattle.std.proofs.lemmas.List.{length-take}
 use Rattle.rules.specs.declared.Node.{Node}
 use Rattle.rules.specs.Records.{Cell, input, gate, kind_of, operands, set_of, most_variables, most_body}
 use Rattle.rules.specs.Listing.{decimal}
@@ -46,34 +47,44 @@ returns-then-node-eq2-clause-appended c =
     let two = c.if-node-eq2.true in
     λ cell e. appended_as (ap fields (of_input cell e two)) c.put_set.ensures.appended
 
-pub loop-j-init : goal.loop-j-init
+pub loop-operand-init : goal.loop-operand-init
 unfolding fields
-loop-j-init c = (omega arith, search rules, refl, omega arith, appended_none _ _)
+loop-operand-init c = (refl, omega arith, appended_none _ _)
 
 -- the next operand has at most three digits
 short : (operand : ℕ) → operand < 256 → length (decimal operand) ≤ 3
 short operand byte = decimal_short 3 operand (omega arith) (omega arith)
 
-pub put_field-end-requires : goal.put_field-end-requires
-put_field-end-requires c = omega (arith, short (get_or c.operands_of-operands.result.at c.loop-j.j 0) (search rules))
+-- there are no more operands than a body has bytes
+few_taken : (n : ℕ) (ops : List ℕ) → n ≤ most_body → length (take n ops) ≤ most_body
+few_taken n ops h = omega (arith, length-take {A = ℕ})
 
-pub loop-j-preserved : goal.loop-j-preserved
-loop-j-preserved c =
+pub put_field-end-requires : goal.put_field-end-requires
+put_field-end-requires c =
     let own = c.operands_of-operands in
-    let ops : List ℕ = own.result.at in
-    let j = c.loop-j.j in
-    let here : j < length ops = omega (arith, own.ensures.few) in (
-      omega arith,
-      c.loop-j.invariant.1,
+    omega (arith, few_taken own.result.count own.result.at (omega arith), short c.from.result (search rules))
+
+pub loop-operand-preserved : goal.loop-operand-preserved
+loop-operand-preserved c =
+    let own = c.operands_of-operands in
+    let ops : List ℕ = take own.result.count own.result.at in
+    let j = c.loop-operand.operand-index in
+    let here : j < length ops = omega arith in (
       search rules,
-      omega (arith, c.put_field-end.ensures.place, short (get_or c.operands_of-operands.result.at c.loop-j.j 0) (search rules)),
-      rw (add-one, take-suc ops j 0 here) (appended_as (fields_more (take j ops) (get_or ops j 0)) (appended_more c.loop-j.invariant.4 c.put_field-end.ensures)),
+      omega (arith, c.put_field-end.ensures.place, short c.from.result (search rules)),
+      rw (add-one, take-suc ops j 0 here, ← c.from.ensures)
+          (appended_as (fields_more (take j ops) c.from.result) (appended_more c.loop-operand.invariant.2 c.put_field-end.ensures)),
     )
 
 pub returns-clause-appended : goal.returns-clause-appended
-returns-clause-appended c =
+returns-clause-appended c = λ cell e.
     let own = c.operands_of-operands in
-    let all : c.loop-j.j ≡ own.result.count = omega arith in
-    λ cell e.
     let (many, ops) = own.ensures.count_value cell e in
-    appended_as (ap fields (of_gate cell e c.if-node-eq2.false c.loop-j.j own.result.at (all ∙ many) ops)) c.loop-j.invariant.4
+    appended_as
+    (ap fields (take_all c.loop-operand.operand-index _ (omega arith) ∙ of_gate cell e c.if-node-eq2.false own.result.count own.result.at many ops))
+    c.loop-operand.invariant.2
+
+pub returns-clause-few : goal.returns-clause-few
+returns-clause-few c =
+    let own = c.operands_of-operands in
+    let few = few_taken own.result.count own.result.at (omega arith) in (omega arith, inr (omega arith))

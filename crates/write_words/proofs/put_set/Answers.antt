@@ -1,5 +1,5 @@
 -- `write_words::put_set` meets its contract. The loop's invariant: the variables of the set that are below the next one
--- are put, each in two bytes with its blank. The measure is how many variables are left. Assumes nothing.
+-- are put, each in two bytes with its blank. Assumes nothing.
 use native.Mathlib.Omega.{arith}
 use Rattle.rule_laws.proofs.Decimal.{decimal_short}
 use Rattle.listing_lines.proofs.Text.{appended_none, appended_more, appended_as}
@@ -10,7 +10,7 @@ use Rattle.write_words.proofs.put_set.Goals.{else-set-variable-eq1, then-set-var
 
 pub loop-variable-init : goal.loop-variable-init
 unfolding fields variables_below
-loop-variable-init c = (omega arith, omega arith, appended_none _ _)
+loop-variable-init c = (omega arith, appended_none _ _)
 
 pub put_field-end-requires : goal.put_field-end-requires
 put_field-end-requires c =
@@ -23,9 +23,8 @@ loop-variable-preserved c =
     let short = decimal_short 1 variable (omega arith) (omega arith) in
     elim c.if-set-variable-eq1.branch [
       | then-set-variable-eq1 w ↦ (
-        omega arith,
         omega (arith, w.put_field-end.ensures.place),
-        rw (w.text-is, w.end-is) (appended_as (held_more _ variable w.if-set-variable-eq1.true) (appended_more c.loop-variable.invariant.2 w.put_field-end.ensures)),
+        rw (w.text-is, w.end-is) (appended_as (held_more _ variable w.if-set-variable-eq1.true) (appended_more c.loop-variable.invariant.1 w.put_field-end.ensures)),
       )
-      | else-set-variable-eq1 w ↦ (omega arith, omega arith, rw (w.text-is, w.end-is) (appended_as (held_same _ variable w.if-set-variable-eq1.false) c.loop-variable.invariant.2))
+      | else-set-variable-eq1 w ↦ (omega arith, rw (w.text-is, w.end-is) (appended_as (held_same _ variable w.if-set-variable-eq1.false) c.loop-variable.invariant.1))
     ]

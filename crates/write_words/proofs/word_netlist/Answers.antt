@@ -1,23 +1,16 @@
 -- `write_words::word_netlist` meets its contract: a netlist is within the limits, and the lines of its variables,
 -- those of its nodes and the end go one behind the other. Assumes nothing.
-use native.Mathlib.Omega.{arith}
 use Rattle.rules.specs.Listing.{word, line}
-use Rattle.netlists.proofs.Netlists.{value_variables, value_count}
 use Rattle.listing_lines.proofs.Text.{appended_more, appended_size, appended_whole}
+use Rattle.write_bytes.proofs.Records.{beyond}
 use Rattle.write_words.specs.Worded.{record_words, record_line, worded_out}
 use Rattle.write_words.proofs.word_netlist.Goals as goal
 
 pub returns-then-netlist-gt-MOST_VARIABLES-clause-long : goal.returns-then-netlist-gt-MOST_VARIABLES-clause-long
-returns-then-netlist-gt-MOST_VARIABLES-clause-long c = λ n w e. absurd (omega (arith, value_variables n e, w.few_variables))
+returns-then-netlist-gt-MOST_VARIABLES-clause-long c = λ n w e. absurd (beyond n w e c.then-netlist-gt-MOST_VARIABLES.either)
 
 pub returns-then-netlist-gt-MOST_VARIABLES-clause-words : goal.returns-then-netlist-gt-MOST_VARIABLES-clause-words
-returns-then-netlist-gt-MOST_VARIABLES-clause-words c = λ n w e. absurd (omega (arith, value_variables n e, w.few_variables))
-
-pub returns-then-netlist-gt-MOST_NODES-clause-long : goal.returns-then-netlist-gt-MOST_NODES-clause-long
-returns-then-netlist-gt-MOST_NODES-clause-long c = λ n w e. absurd (omega (arith, value_count n e, w.few_nodes))
-
-pub returns-then-netlist-gt-MOST_NODES-clause-words : goal.returns-then-netlist-gt-MOST_NODES-clause-words
-returns-then-netlist-gt-MOST_NODES-clause-words c = λ n w e. absurd (omega (arith, value_count n e, w.few_nodes))
+returns-then-netlist-gt-MOST_VARIABLES-clause-words c = λ n w e. absurd (beyond n w e c.then-netlist-gt-MOST_VARIABLES.either)
 
 pub returns-clause-long : goal.returns-clause-long
 unfolding word line record_words record_line worded_out

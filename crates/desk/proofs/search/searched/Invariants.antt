@@ -5,9 +5,9 @@ use Rattle.rules.specs.Records.{most_nodes}
 use Rattle.pairs.specs.Underway.{Underway}
 use Rattle.desk.proofs.search.searched.Given as goal
 
-abbrev pub invariant-loop-netlist : goal.invariant-loop-netlist
-invariant-loop-netlist l =
-    (bytes before : List ℕ) → Underway bytes most_nodes l.limit before l.netlist l.work l.initial.progress → Underway bytes most_nodes l.limit before l.netlist l.work l.progress
+abbrev pub invariant-loop-examined : goal.invariant-loop-examined
+invariant-loop-examined l =
+    (bytes before : List ℕ) → Underway bytes most_nodes l.limit before l.examined.netlist l.work l.initial.progress → Underway bytes most_nodes l.limit before l.examined.netlist l.work l.progress
 
-abbrev pub decreases-loop-netlist : goal.decreases-loop-netlist
-decreases-loop-netlist l = l.progress.nodes - l.progress.next
+abbrev pub decreases-loop-examined : goal.decreases-loop-examined
+decreases-loop-examined l = l.progress.nodes - l.progress.next

@@ -1,2 +1,0 @@
--- What this crate's contracts cite.
-pub mod Fits
