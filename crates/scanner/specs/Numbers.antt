@@ -24,6 +24,6 @@ unfoldable pub number_in : List ℕ → Option ℕ
 number_in word = cond (eqb (length word) 0) None (number_behind 0 word)
 
 -- a number below a limit, and else that limit
-abbrev pub cut : (limit : ℕ) → Option ℕ → ℕ
+unfoldable pub cut : (limit : ℕ) → Option ℕ → ℕ
 cut limit (Some number) = min number limit
 cut limit None = limit

@@ -40,5 +40,5 @@ unfoldable pub words : List ℕ → List (List ℕ)
 words line = words_behind [] line
 
 -- whether two words are the same, letter for letter
-abbrev pub same : (one other : List ℕ) → Bool
+unfoldable pub same : (one other : List ℕ) → Bool
 same one other = bytes_eq one other

@@ -1,6 +1,6 @@
-// Texts by letters, lines, words and numbers, whatever form they have: where a scan stops, the next line of a text, the
-// words of a line, two words compared, and the number that a word is. Reads the text that it is lent. Used by
-// `read_words`, and by `edit_lines` and the program for words of their own.
+// Texts by letters, lines, words and numbers, whatever form they have: the next line of a text, the words of a line, two
+// words compared, and the number that a word is. Reads the text that it is lent. Used by `read_words`, and by
+// `edit_lines` and the program for words of their own.
 #![tactic(auto)]
 
 ghost use Rattle.std.specs.Prelude.{◌≡◌, true, false, [], ◌-◌, ◌≤◌, ◌<◌, length, get_or, drop, MatchOption, not, ◌==◌, position};
@@ -29,7 +29,7 @@ pub fn is_blank(letter: u8) -> bool
     letter == b' ' || letter == b'\t' || letter == b'\r'
 }
 
-// ---- scans
+// ---- scans: functions of their own, since of a chain inside a longer function the proof learns no result
 
 // How many blanks a text begins with, if something else follows.
 fn blanks(text: &[u8]) -> Option<usize>
@@ -116,6 +116,7 @@ pub fn count_words(line: &[u8]) -> usize
 }
 
 // Whether a word has the same bytes as another.
+#[tactic(auto, unfolding(crate::specs::Words::same))]
 pub fn is_word(word: &[u8], other: &[u8]) -> bool
     ensures { result ≡ same word.now other.now }
 {
@@ -150,6 +151,7 @@ pub fn number_of(word: &[u8]) -> Option<usize>
 }
 
 // The number that a word is, if it is below a limit.
+#[tactic(auto, unfolding(crate::specs::Numbers::cut))]
 pub fn number_below(word: &[u8], limit: usize) -> Option<usize>
     ensures { MatchOption result (cut limit (number_in word.now) ≡ limit)
         (λ number. (number < limit) × (number ≡ cut limit (number_in word.now))) }
