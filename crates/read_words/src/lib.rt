@@ -115,11 +115,11 @@ fn has_numbers(numbers: &[u8], count: usize) -> Result<(), Fault>
 }
 
 // A record whose word has no number behind it.
-fn alone_record(numbers: &[u8], record: RecordBytes) -> Result<RecordBytes, Fault>
-    ensures { (own : Record) → IsRecord (says own) record.size record.bytes → Tells result (alone own (words numbers.now)) }
+fn alone_record(numbers: &[u8], given: RecordBytes) -> Result<RecordBytes, Fault>
+    ensures { (own : Record) → IsRecord (says own) given.size given.bytes → Tells result (alone own (words numbers.now)) }
 {
     has_numbers(numbers, 0)?;
-    Ok(record)
+    Ok(given)
 }
 
 // An input: its variables, as the sum of 2 to the power v over its variables v.

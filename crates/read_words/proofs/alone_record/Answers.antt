@@ -13,4 +13,4 @@ returns-in_err-has_numbers c own is =
 
 pub returns : goal.returns
 unfolding alone
-returns c own is = tells (Ok c.args.record) (says own) _ (sym (so_many 0 _ _ c.in_ok-has_numbers.ensures)) is
+returns c own is = tells (Ok c.args.given) (says own) _ (sym (so_many 0 _ _ c.in_ok-has_numbers.ensures)) is
