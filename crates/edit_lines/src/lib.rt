@@ -165,6 +165,10 @@ pub fn asked_in(line: &[u8]) -> Asked
 {
     let mut own = [0u8; MOST_RECORD];
     let asked = by_words(line, &mut own);
-    let ask = if is_stuck(line) { unless_named(asked) } else { asked };
+    let ask = if is_stuck(line) {
+        unless_named(asked)
+    } else {
+        asked
+    };
     Asked { ask, own }
 }
