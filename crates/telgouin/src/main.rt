@@ -194,9 +194,7 @@ fn run<R: Files<File = File> + RandomSource + Alloc + Env, I: Read>(
     let edits = command == Command::Edit;
     if let Some(size) = files::read_block(rt, input, edits, &mut bytes, &mut lines) {
         let numbers = &numbers[..count.min(MOST_NUMBERS)];
-        run_block(
-            rt, input, shown, command, &bytes, size, &lines, numbers,
-        );
+        run_block(rt, input, shown, command, &bytes, size, &lines, numbers);
     }
 }
 
