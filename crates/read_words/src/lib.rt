@@ -267,7 +267,7 @@ pub fn record_of(line: &[u8], bytes: &mut [u8; MOST_RECORD]) -> Result<Option<us
 
 // ---- the block of a text
 
-// The line of a record at its place in a block, if there is room.
+// The line of a record at its place in a block, if there is room. By `get_mut` the goals did not close.
 fn put_line(lines: &mut [usize], at: usize, line: usize)
     ensures { lines.new ≡ set lines.old at line }
 {
