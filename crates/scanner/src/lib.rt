@@ -1,5 +1,5 @@
-// Texts by letters, lines, words and numbers, whatever form they have: the next line of a text, the words of a line, two
-// words compared, and the number that a word is. Reads the text that it is lent. Used by `read_words`, and by
+// Texts by letters, lines, words and numbers, whatever form they have: the next line of a text, the words of a line,
+// two words compared, and the number that a word is. Reads the text that it is lent. Used by `read_words`, and by
 // `edit_lines` and the program for words of their own.
 #![tactic(auto)]
 
