@@ -34,25 +34,14 @@ module _ (behind : List (List ℕ)) where
 
 -- ---- a name
 
-no_name : (name : List ℕ) → length name ≡ 0 → no_edit ≡ written name
-unfolding written
-no_name [] h = refl
-no_name (letter ∷ letters) h = absurd (omega arith)
-
 some_name : (name : List ℕ) → 0 < length name → writes name ≡ written name
 unfolding written
 some_name [] h = absurd (omega arith)
 some_name (letter ∷ letters) h = refl
 
-module _ (line : List ℕ) (from to : ℕ) (ordered : from ≤ to) (within : to ≤ length line) where
-  part_long : length (part from to line) ≡ to - from
-  part_long = simp (length-take, length-drop) (omega arith)
-
-  pub writes_none : from ≡ to → no_edit ≡ written (part from to line)
-  writes_none e = no_name _ (omega (arith, part_long))
-
-  pub writes_part : (from ≡ to → ⊥) → writes (part from to line) ≡ written (part from to line)
-  writes_part e = some_name _ (omega (arith, part_long))
+pub writes_part : (line : List ℕ) (from to : ℕ) → from < to → to ≤ length line → writes (part from to line) ≡ written (part from to line)
+writes_part line from to some within =
+    some_name _ (let long : length (part from to line) ≡ to - from = simp (length-take, length-drop) (omega arith) in omega arith)
 
 -- ---- a comment
 

@@ -1,9 +1,8 @@
 -- What a line of edits asks for: `add RECORD`, `remove NODE`, `list`, `write OUT`, `quit`, or nothing;
 -- or it is no edit. Assumes nothing.
-use Rattle.std.specs.Prelude.{ℕ, Bool, true, false, cond, not, List, [], ◌∷◌}
+use Rattle.std.specs.Prelude.{ℕ, Bool, true, false, cond, not, Option, Some, None, List, [], ◌∷◌}
 use Rattle.rules.specs.Records.{record_bytes}
 use Rattle.rules.specs.Listing.{word}
-use Rattle.scanner.specs.declared.Number.{Number}
 use Rattle.scanner.specs.Numbers.{number_in}
 use Rattle.scanner.specs.Words.{is_blank, starts_comment, words, same}
 use Rattle.read_words.specs.Words.{nothing, says, wrong, record_in}
@@ -28,9 +27,9 @@ only (one ∷ []) = one
 only (one ∷ other ∷ others) = []
 
 -- `remove` and a number
-unfoldable pub removal : Number → Asks
-removal (Number.Is node) = changes (remove node)
-removal Number.None = no_edit
+unfoldable pub removal : Option ℕ → Asks
+removal (Some node) = changes (remove node)
+removal None = no_edit
 
 -- `write` and a name
 unfoldable pub written : (name : List ℕ) → Asks

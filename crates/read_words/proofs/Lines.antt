@@ -46,7 +46,7 @@ module _ {text had before bytes lines : List ℕ} {count line at : ℕ} (r : Rea
   stored_so_far = r.held ∙ sets_front had r.own
 
   -- the end of the text
-  pub reached_last : length text ≤ at → IsBlock (block_in text before) text count (max 1 line) had bytes lines
+  pub reached_last : length text ≤ at → IsBlock (block_in text before) text count (max line 1) had bytes lines
   unfolding block_behind lines_of lines_behind closed
   reached_last h =
       let none : lines_of (drop at text) ≡ [] = ap lines_of (drop_of_length-le text h) in

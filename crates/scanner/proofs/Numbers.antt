@@ -9,7 +9,7 @@ use lib.Dec.{ltb}
 use lib.ListN.{length, get_or, drop}
 use lib.Seq.{drop-cons, drop-length}
 use borrow.Author.Tests.{lt-ltb, le-ltb}
-use Rattle.scanner.specs.declared.Number.TheVariants as Number
+use Rattle.std.proofs.Common.{Some, None}
 use Rattle.scanner.specs.Numbers.{is_digit, are_digits, value_behind, number_behind}
 
 -- digits never lower the number before them
@@ -23,7 +23,7 @@ pub from_place : (before : ℕ) (word : List ℕ) (k : ℕ) → k < length word
     → number_behind before (drop k word) ≡ number_behind before (get_or word k 0 ∷ drop (k + 1) word)
 from_place before word k h = ap (number_behind before) (rw (add-one, drop-cons word k 0))
 
-pub no_digit : (before byte : ℕ) (bytes : List ℕ) → is_digit byte ≡ false → number_behind before (byte ∷ bytes) ≡ Number.None
+pub no_digit : (before byte : ℕ) (bytes : List ℕ) → is_digit byte ≡ false → number_behind before (byte ∷ bytes) ≡ None
 unfolding number_behind are_digits
 no_digit before byte bytes e = rw e
 
@@ -33,17 +33,17 @@ unfolding number_behind are_digits value_behind
 one_digit before byte bytes e = rw e
 
 -- one digit more is too many where the number with it does not fit
-pub too_high : (before byte digit : ℕ) (bytes : List ℕ) → digit ≡ byte - 48 → 2 ^ 64 ≤ before * 10 + digit
-    → number_behind (before * 10 + (byte - 48)) bytes ≡ Number.None
+pub too_high : (before byte : ℕ) (bytes : List ℕ) → 2 ^ 64 ≤ before * 10 + (byte - 48)
+    → number_behind (before * 10 + (byte - 48)) bytes ≡ None
 unfolding number_behind
-too_high before byte digit bytes e h =
+too_high before byte bytes h =
     let next : ℕ = before * 10 + (byte - 48) in
     let over : ltb (value_behind next bytes) (2 ^ 64) ≡ false = le-ltb (value_behind next bytes) (2 ^ 64) (omega (arith, no_lower next bytes)) in
     rw (over, and-false)
 
-nothing_left : (before : ℕ) → before < 2 ^ 64 → number_behind before [] ≡ Number.Is before
+nothing_left : (before : ℕ) → before < 2 ^ 64 → number_behind before [] ≡ Some before
 unfolding number_behind are_digits value_behind
 nothing_left before h = rw (lt-ltb before (2 ^ 64) h)
 
-pub at_end : (before : ℕ) (word : List ℕ) (k : ℕ) → k ≡ length word → before < 2 ^ 64 → number_behind before (drop k word) ≡ Number.Is before
+pub at_end : (before : ℕ) (word : List ℕ) (k : ℕ) → k ≡ length word → before < 2 ^ 64 → number_behind before (drop k word) ≡ Some before
 at_end before word k e h = ap (number_behind before) (ap (λ (n : ℕ). drop n word) e ∙ drop-length word) ∙ nothing_left before h

@@ -1,24 +1,40 @@
--- Where a scan stops, as a loop finds it: at a letter that it stops at, at the end, and else no sooner than
--- one letter further. Assumes nothing.
-use Prim.Native.Nat.{ℕ, ◌+◌, ◌≤◌, ◌<◌}
-use mathlib.Core.Path.{◌≡◌}
-use mathlib.Core.Bool.{Bool, true, false}
-use mathlib.Core.List.{List}
-use native.Mathlib.Omega.{arith}
-use native.Mathlib.Numerals.{add-one}
-use lib.ListN.{length, get_or, drop, drop_of_length-le}
-use lib.Seq.{drop-cons}
-use Rattle.scanner.specs.Scans.{first}
+-- Where a scan of a text from a place on stops: at the first letter that passes a test, or at the end. Assumes nothing.
+use Rattle.std.proofs.Common.{◌≡◌, ℕ, suc, ◌+◌, ◌-◌, ◌<◌, ◌≤◌, Bool, not, Option, Some, None, List, length, take, drop, arith, sym}
+use Rattle.std.specs.List.{position, position_or_len}
+use Rattle.std.specs.Option.{unwrap_or}
+use Rattle.std.proofs.lemmas.List.Sums.{prefix_len-le-length}
+use lib.Seq.{take_all}
+use lib.ListN.{length-drop}
+
+-- what stands behind a place, up to the end of the text
+pub to_the_end : (at : ℕ) (text : List ℕ) → take (length text - at) (drop at text) ≡ drop at text
+to_the_end at text = take_all (length text - at) (drop at text) (omega (arith, length-drop at text))
+
+-- a scan passes a letter
+pub one_add : (n : ℕ) → 1 + n ≡ suc n
+one_add n = omega arith
+
+found : (test : ℕ → Bool) (text : List ℕ) (n : ℕ) → Some n ≡ position test text → (n ≡ position_or_len test text) × (n < length text)
+found test text n e = grind arith
+
+not_found : (test : ℕ → Bool) (text : List ℕ) → None ≡ position test text → position_or_len test text ≡ length text
+not_found test text e =
+    let most : position_or_len test text ≤ length text = prefix_len-le-length (λ x. not (test x)) text in
+    grind arith
 
 module _ (test : ℕ → Bool) (text : List ℕ) (at : ℕ) where
-  pub stops_here : at < length text → test (get_or text at 0) ≡ true → at ≡ at + first test (drop at text)
-  unfolding first
-  stops_here h e = rw (drop-cons text at 0, e) (omega arith)
+  abbrev behind : List ℕ
+  behind = take (length text - at) (drop at text)
 
-  pub goes_on : at < length text → test (get_or text at 0) ≡ false → at + 1 + first test (drop (at + 1) text) ≡ at + first test (drop at text)
-  unfolding first
-  goes_on h e = rw (drop-cons text at 0, e, add-one) (omega arith)
+  pub stops : (n : ℕ) → Some n ≡ position test behind → (n ≡ position_or_len test (drop at text)) × (at + n < length text)
+  stops n e =
+      let (is, inside) = found test (drop at text) n (rw to_the_end at e) in
+      (is, omega (arith, length-drop at text))
 
-  pub stops_at_end : length text ≤ at → at ≡ at + first test (drop at text)
-  unfolding first
-  stops_at_end h = rw (drop_of_length-le text h) (omega arith)
+  pub stops_nowhere : None ≡ position test behind → position_or_len test (drop at text) ≡ length text - at
+  stops_nowhere e = omega (arith, not_found test (drop at text) (rw to_the_end at e), length-drop at text)
+
+  pub stops_or_ends : at ≤ length text → (o : Option ℕ) → o ≡ position test behind
+      → (unwrap_or o (length text - at) ≡ position_or_len test (drop at text)) × (at + unwrap_or o (length text - at) ≤ length text)
+  stops_or_ends h None e = (sym (stops_nowhere e), omega arith)
+  stops_or_ends h (Some n) e = let (is, inside) = stops n e in (is, omega arith)

@@ -1,6 +1,5 @@
 -- The number that a word is in decimal digits. Cited by the contracts of this crate. Assumes nothing.
-use Rattle.std.specs.Prelude.{ℕ, ◌+◌, ◌*◌, ◌-◌, ◌^◌, min, Bool, true, ◌&&◌, cond, List, [], ◌∷◌, leb, ltb, eqb, length}
-use Rattle.scanner.specs.declared.Number.{Number}
+use Rattle.std.specs.Prelude.{ℕ, ◌+◌, ◌*◌, ◌-◌, ◌^◌, min, Bool, true, ◌&&◌, cond, Option, Some, None, List, [], ◌∷◌, leb, ltb, eqb, length}
 
 -- whether a byte is a decimal digit, `0` to `9`
 abbrev pub is_digit : ℕ → Bool
@@ -16,15 +15,15 @@ value_behind before [] = before
 value_behind before (byte ∷ bytes) = value_behind (before * 10 + (byte - 48)) bytes
 
 -- the same as a number of the program, if they are digits and it is below 2 to the power 64
-unfoldable pub number_behind : ℕ → List ℕ → Number
+unfoldable pub number_behind : ℕ → List ℕ → Option ℕ
 number_behind before bytes =
-    cond (are_digits bytes && ltb (value_behind before bytes) (2 ^ 64)) (Number.Is (value_behind before bytes)) Number.None
+    cond (are_digits bytes && ltb (value_behind before bytes) (2 ^ 64)) (Some (value_behind before bytes)) None
 
 -- the number that a word is: it has at least one digit
-unfoldable pub number_in : List ℕ → Number
-number_in word = cond (eqb (length word) 0) Number.None (number_behind 0 word)
+unfoldable pub number_in : List ℕ → Option ℕ
+number_in word = cond (eqb (length word) 0) None (number_behind 0 word)
 
 -- a number below a limit, and else that limit
-unfoldable pub cut : (limit : ℕ) → Number → ℕ
-cut limit (Number.Is number) = min number limit
-cut limit Number.None = limit
+unfoldable pub cut : (limit : ℕ) → Option ℕ → ℕ
+cut limit (Some number) = min number limit
+cut limit None = limit

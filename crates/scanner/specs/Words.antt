@@ -1,5 +1,6 @@
 -- The lines of a text and the words of a line. Assumes nothing.
-use Rattle.std.specs.Prelude.{ℕ, Bool, true, false, cond, ◌&&◌, ◌||◌, List, [], ◌∷◌, ◌++◌, eqb}
+use Rattle.std.specs.Str.{bytes_eq}
+use Rattle.std.specs.Prelude.{ℕ, Bool, cond, ◌||◌, List, [], ◌∷◌, ◌++◌, eqb}
 
 -- ---- lines
 
@@ -25,6 +26,9 @@ is_blank letter = eqb letter 32 || (eqb letter 9 || eqb letter 13)
 abbrev pub starts_comment : ℕ → Bool
 starts_comment letter = eqb letter 35
 
+abbrev pub ends_word : ℕ → Bool
+ends_word letter = is_blank letter || starts_comment letter
+
 -- the words of a line, of which the first has begun with `begun`
 unfoldable pub words_behind : (begun line : List ℕ) → List (List ℕ)
 words_behind begun [] = closed begun
@@ -37,7 +41,4 @@ words line = words_behind [] line
 
 -- whether two words are the same, letter for letter
 unfoldable pub same : (one other : List ℕ) → Bool
-same [] [] = true
-same [] (y ∷ ys) = false
-same (x ∷ xs) [] = false
-same (x ∷ xs) (y ∷ ys) = eqb x y && same xs ys
+same one other = bytes_eq one other

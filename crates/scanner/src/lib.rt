@@ -1,76 +1,56 @@
-// Texts by letters, lines, words and numbers, whatever form they have: where a scan stops, the next line of a text, the
-// words of a line, two words compared, and the number that a word is. Reads the text that it is lent. Used by
-// `read_words`, and by `edit_lines` and the program for words of their own.
+// Texts by letters, lines, words and numbers, whatever form they have: the next line of a text, the words of a line,
+// two words compared, and the number that a word is. Reads the text that it is lent. Used by `read_words`, and by
+// `edit_lines` and the program for words of their own.
 #![tactic(auto)]
 
-ghost use Rattle.std.specs.Prelude.{◌≡◌, true, false, [], ◌+◌, ◌-◌, ◌≤◌, ◌<◌, length, get_or, drop};
-ghost use Rattle.scanner.specs.Words.{is_blank, words, same};
+ghost use Rattle.std.specs.Prelude.{◌≡◌, true, false, [], ◌-◌, ◌≤◌, ◌<◌, length, get_or, drop, MatchOption, not, ◌==◌, position};
+ghost use Rattle.scanner.specs.Words.{is_blank, ends_word, words, same};
 ghost use Rattle.scanner.specs.Numbers.{is_digit, number_in, cut};
-ghost use Rattle.scanner.specs.Scans.{first, stops_at, part, NextLine, NextWord};
+ghost use Rattle.scanner.specs.Scans.{NextLine, NextWord, IsWord};
 
 // Where a word starts and ends in a line.
-#[derive(Clone, Copy)]
+#[derive(Clone, Copy, Debug, PartialEq, Eq)]
 pub struct Place {
     pub from: usize,
     pub to: usize,
 }
 
 // Where a line ends in a text, and where the next one starts.
-#[derive(Clone, Copy)]
+#[derive(Clone, Copy, Debug, PartialEq, Eq)]
 pub struct LinePlace {
     pub to: usize,
     pub next: usize,
 }
 
-// The number that a word is in decimal digits, or none.
-#[derive(Clone, Copy)]
-pub enum Number {
-    Is(usize),
-    None,
-}
-
-// What a scan stops at: what is no blank, the end of a word, or the end of a line.
-#[derive(Clone, Copy)]
-pub enum Stop {
-    NoBlank,
-    WordEnd,
-    LineEnd,
-}
-
-// ---- scans
-
 // Whether a letter parts words.
 pub fn is_blank(letter: u8) -> bool
     ensures { result ≡ is_blank letter }
 {
-    (letter == b' ') | ((letter == b'\t') | (letter == b'\r'))
+    letter == b' ' || letter == b'\t' || letter == b'\r'
 }
 
-// Whether a scan stops at a letter.
-fn stops(stop: Stop, letter: u8) -> bool
-    ensures { result ≡ stops_at stop letter }
+// ---- scans: functions of their own, since of a chain inside a longer function the proof learns no result
+
+// How many blanks a text begins with, if something else follows.
+fn blanks(text: &[u8]) -> Option<usize>
+    ensures { result ≡ position (λ letter. not (is_blank letter)) text.now }
 {
-    match stop {
-        Stop::NoBlank => !is_blank(letter),
-        Stop::WordEnd => is_blank(letter) | (letter == b'#'),
-        Stop::LineEnd => letter == b'\n',
-    }
+    text.iter().position(|letter| !is_blank(*letter))
 }
 
-// The first place from `from` on of a letter that the scan stops at, or the end of the text.
-pub fn past(text: &[u8], from: usize, stop: Stop) -> usize
-    requires { from ≤ length text.now }
-    ensures { (result ≤ length text.now) ×
-        (result ≡ from + first (stops_at stop) (drop from text.now)) }
+// How many letters stand before the first that ends a word.
+fn word_length(text: &[u8]) -> Option<usize>
+    ensures { result ≡ position ends_word text.now }
 {
-    let mut at = from;
-    while at < text.len() {
-        if stops(stop, text[at]) {
-            return at;
-        }
-        at += 1;
-    }
-    at
+    text.iter()
+        .position(|letter| is_blank(*letter) || *letter == b'#')
+}
+
+// How many letters stand before the first line feed.
+fn line_length(text: &[u8]) -> Option<usize>
+    ensures { result ≡ position (λ letter. letter == 10) text.now }
+{
+    text.iter().position(|letter| *letter == b'\n')
 }
 
 // ---- lines
@@ -81,41 +61,43 @@ pub fn next_line(text: &[u8], at: usize) -> LinePlace
     requires { at < length text.now }
     ensures { NextLine text.now at result.to result.next }
 {
-    let to = past(text, at, Stop::LineEnd);
-    if to < text.len() {
-        let next = to + 1;
-        return LinePlace { to, next };
+    match line_length(&text[at..]) {
+        Some(long) => LinePlace {
+            to: at + long,
+            next: at + long + 1,
+        },
+        None => LinePlace {
+            to: text.len(),
+            next: text.len(),
+        },
     }
-    LinePlace { to, next: to }
 }
 
 // ---- words
 
-// Where the next word of a line from `at` on starts and ends; it starts where it ends if there is none. A comment, from
-// `#` on, has no words.
-pub fn next_word(line: &[u8], at: usize) -> Place
+// Where the next word of a line from `at` on starts and ends. A comment, from `#` on, has no words.
+pub fn next_word(line: &[u8], at: usize) -> Option<Place>
     requires { at ≤ length line.now }
-    ensures { NextWord line.now at result.from result.to }
+    ensures { MatchOption result (words (drop at line.now) ≡ []) (λ word. NextWord line.now at word.from word.to) }
 {
-    let from = past(line, at, Stop::NoBlank);
-    let to = past(line, from, Stop::WordEnd);
-    Place { from, to }
+    let from = at + blanks(&line[at..])?;
+    let long = word_length(&line[from..]).unwrap_or(line.len() - from);
+    if long == 0 {
+        return None;
+    }
+    Some(Place {
+        from,
+        to: from + long,
+    })
 }
 
-// Where word `k` of a line, from 0, starts and ends; it starts where it ends if there is none.
-pub fn word_at(line: &[u8], k: usize) -> Place
-    ensures { (result.from ≤ result.to) × (result.to ≤ length line.now) ×
-        (part result.from result.to line.now ≡ get_or (words line.now) k []) }
+// Where word `k` of a line, from 0, starts and ends.
+pub fn word_at(line: &[u8], k: usize) -> Option<Place>
+    ensures { MatchOption result (length (words line.now) ≤ k) (λ word. IsWord line.now k word.from word.to) }
 {
     let mut at = 0;
-    let mut i = 0;
-    while i < k {
-        let word = next_word(line, at);
-        if word.from == word.to {
-            return word;
-        }
-        at = word.to;
-        i += 1;
+    for _ in 0..k {
+        at = next_word(line, at)?.to;
     }
     next_word(line, at)
 }
@@ -124,84 +106,55 @@ pub fn word_at(line: &[u8], k: usize) -> Place
 pub fn count_words(line: &[u8]) -> usize
     ensures { result ≡ length (words line.now) }
 {
-    let mut count: usize = 0;
+    let mut count = 0;
     let mut at = 0;
-    loop {
-        let word = next_word(line, at);
-        if word.from == word.to {
-            return count;
-        }
+    while let Some(word) = next_word(line, at) {
         at = word.to;
         count += 1;
     }
+    count
 }
 
 // Whether a word has the same bytes as another.
+#[tactic(auto, unfolding(crate::specs::Words::same))]
 pub fn is_word(word: &[u8], other: &[u8]) -> bool
     ensures { result ≡ same word.now other.now }
 {
-    if word.len() != other.len() {
-        return false;
-    }
-    let mut k = 0;
-    while k < word.len() {
-        if word[k] != other[k] {
-            return false;
-        }
-        k += 1;
-    }
-    true
+    word == other
 }
 
 // ---- numbers
 
-// The value of a decimal digit, and 10 for any other letter.
-fn digit_of(letter: u8) -> usize
-    ensures { (result ≤ 9 → (is_digit letter ≡ true) × (result ≡ letter - 48)) × (9 < result → is_digit letter ≡ false) }
+// The value of a decimal digit.
+fn digit_of(letter: u8) -> Option<usize>
+    ensures { MatchOption result (is_digit letter ≡ false) (λ digit. (is_digit letter ≡ true) × (digit ≡ letter - 48)) }
 {
-    if letter < b'0' {
-        return 10;
+    match letter {
+        b'0'..=b'9' => Some(usize::from(letter - b'0')),
+        _ => None,
     }
-    if b'9' < letter {
-        return 10;
-    }
-    (letter - b'0') as usize
 }
 
 // The number that a word is in decimal digits: at least one, and below 2 to the power 64.
-pub fn number_of(word: &[u8]) -> Number
+pub fn number_of(word: &[u8]) -> Option<usize>
     ensures { result ≡ number_in word.now }
 {
-    if word.len() == 0 {
-        return Number::None;
+    if word.is_empty() {
+        return None;
     }
     let mut value: usize = 0;
-    let mut k = 0;
-    while k < word.len() {
-        let digit = digit_of(word[k]);
-        if digit > 9 {
-            return Number::None;
-        }
-        if value > (usize::MAX - digit) / 10 {
-            return Number::None;
-        }
-        value = value * 10 + digit;
-        k += 1;
+    for letter in word {
+        let digit = digit_of(*letter)?;
+        value = value.checked_mul(10)?.checked_add(digit)?;
     }
-    Number::Is(value)
+    Some(value)
 }
 
-// The number that a word is if it is below a limit, and else that limit.
-pub fn number_below(word: &[u8], limit: usize) -> usize
-    ensures { result ≡ cut limit (number_in word.now) }
+// The number that a word is, if it is below a limit.
+#[tactic(auto, unfolding(crate::specs::Numbers::cut))]
+pub fn number_below(word: &[u8], limit: usize) -> Option<usize>
+    ensures { MatchOption result (cut limit (number_in word.now) ≡ limit)
+        (λ number. (number < limit) × (number ≡ cut limit (number_in word.now))) }
 {
-    match number_of(word) {
-        Number::Is(number) => {
-            if number < limit {
-                return number;
-            }
-            limit
-        }
-        Number::None => limit,
-    }
+    number_of(word).filter(|number| *number < limit)
 }

@@ -1,3 +1,2 @@
 -- What this program's proofs share.
-pub mod Blocks
 pub mod Samples

@@ -1,12 +1,11 @@
 -- What is known of arguments and files once they are read. Cited by the contracts of this program. Assumes nothing.
-use Rattle.std.specs.Prelude.{ℕ, ◌-◌, ◌≤◌, ◌<◌, ◌≡◌, Bool, cond, ◌||◌, List, eqb, ltb, length, get_or, drop}
+use Rattle.std.specs.Prelude.{ℕ, ◌-◌, ◌≤◌, ◌<◌, ◌≡◌, Bool, cond, ◌||◌, Option, Some, None, Ok, List, eqb, ltb, length, get_or, drop}
 use Rattle.io.specs.Counts.{IsPrefixLen}
 use Rattle.rules.specs.Listing.{word, most_input}
 use Rattle.scanner.specs.Words.{same}
 use Rattle.read_words.specs.Meaning.{TellsBlock}
-use Rattle.read_words.specs.declared.BlockWords.TheVariants as BlockWords
+use Rattle.read_words.specs.declared.BlockSize.{BlockSize}
 use Rattle.telgouin.specs.declared.files.Read.{Read}
-use Rattle.telgouin.specs.declared.files.ReadBlock.{ReadBlock}
 
 -- from so many entries on, two lists are the same
 abbrev pub SameBehind : (count : ℕ) (before after : List ℕ) → Type 0
@@ -19,21 +18,21 @@ FrontRead (Read.First count) into = IsPrefixLen count into
 FrontRead Read.Failed into = Unit {0}
 
 -- some text says this block
-pub record InWords (count last : ℕ) (bytes-before lines-before bytes lines : List ℕ) : Type 0 where
+pub record InWords (size : BlockSize) (bytes-before lines-before bytes lines : List ℕ) : Type 0 where
   pub text : List ℕ
-  pub tells : TellsBlock (BlockWords.Bytes count last) text bytes-before lines-before bytes lines
+  pub tells : TellsBlock (Ok size) text bytes-before lines-before bytes lines
 
 -- A block has at most 1,024 bytes. Where its text has lines, the bytes and the line of each
 -- record are what that text says.
-abbrev pub FromFile : ReadBlock → (bytes-before lines-before bytes lines : List ℕ) → Type 0
-FromFile (ReadBlock.Bytes count last) bytes-before lines-before bytes lines =
-    (count ≤ most_input) × (0 < last → InWords count last bytes-before lines-before bytes lines)
-FromFile ReadBlock.None bytes-before lines-before bytes lines = Unit {0}
+abbrev pub FromFile : Option BlockSize → (bytes-before lines-before bytes lines : List ℕ) → Type 0
+FromFile (Some size) bytes-before lines-before bytes lines =
+    (size.bytes ≤ most_input) × (0 < size.lines → InWords size bytes-before lines-before bytes lines)
+FromFile None bytes-before lines-before bytes lines = Unit {0}
 
 -- a block that is given as bytes has no lines
-abbrev pub AsBytes : ReadBlock → Type 0
-AsBytes (ReadBlock.Bytes count last) = (count ≤ most_input) × (last ≡ 0)
-AsBytes ReadBlock.None = Unit {0}
+abbrev pub AsBytes : Option BlockSize → Type 0
+AsBytes (Some size) = (size.bytes ≤ most_input) × (size.lines ≡ 0)
+AsBytes None = Unit {0}
 
 -- whether a file has a block in words: its name ends in `.txt`
 unfoldable pub has_words : (name : List ℕ) → Bool

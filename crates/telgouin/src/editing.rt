@@ -74,26 +74,15 @@ fn words_end(line: &[u8]) -> usize
     ensures { result ≤ length line.now }
 {
     let mut end = 0;
-    let mut k = 0;
-    while k < line.len() {
-        let word = scanner::word_at(line, k);
-        let from = word.from;
-        let to = word.to;
-        if from == to {
-            break;
-        }
-        end = to;
-        k += 1;
+    while let Some(word) = scanner::next_word(line, end) {
+        end = word.to;
     }
     end
 }
 
 // Whether a comment starts at a place.
 fn starts_comment(line: &[u8], at: usize) -> bool {
-    if at < line.len() {
-        return line[at] == b'#';
-    }
-    false
+    line.get(at).is_some_and(|letter| *letter == b'#')
 }
 
 // Where what is shown of a line ends: with its last word, and with the line where a comment is stuck to that, since its
@@ -108,31 +97,30 @@ fn shown_end(line: &[u8]) -> usize
     end
 }
 
+// A line from its word `k` on, from 0: nothing if it has no such word.
+fn from_word(line: &[u8], k: usize) -> &[u8] {
+    match scanner::word_at(line, k) {
+        Some(word) => &line[word.from..],
+        None => b"",
+    }
+}
+
 // A line that is no edit, without its comment and the blanks round it.
 fn say_no_edit(line: &[u8]) {
-    let end = shown_end(line);
-    let words = &line[..end];
-    let word = scanner::word_at(words, 0);
-    let from = word.from;
     say(b"expected add RECORD, remove NODE, list, write OUT or quit, found: ");
-    say_found(&words[from..]);
+    say_found(from_word(&line[..shown_end(line)], 0));
 }
 
 // What stands behind `add` and is no record.
 fn say_no_record(line: &[u8], fault: Fault) {
-    let end = words_end(line);
-    let words = &line[..end];
-    let word = scanner::word_at(words, 1);
-    let from = word.from;
-    say_fault_found(fault, &words[from..]);
+    say_fault_found(fault, from_word(&line[..words_end(line)], 1));
 }
 
 // The word behind `remove`, which is no number.
 fn say_no_node(line: &[u8]) {
-    let word = scanner::word_at(line, 1);
-    let from = word.from;
-    let to = word.to;
-    say_no_number(&line[from..to]);
+    if let Some(word) = scanner::word_at(line, 1) {
+        say_no_number(&line[word.from..word.to]);
+    }
 }
 
 // What is printed of an edit, and of a line that is none.

@@ -15,17 +15,15 @@ ghost use Rattle.desk.specs.Examined.{Seen};
 use checker::Examined;
 use desk::say::{say, say_found, say_refused};
 use desk::{ask, help, picture, search, why};
-use files::{MOST_NUMBERS, ReadBlock};
-use read_words::MOST_BLOCK;
+use files::MOST_NUMBERS;
+use read_words::{BlockSize, MOST_BLOCK};
 use rules::{Answer, MOST_NODES, MOST_WORK, Refusal};
-use scanner::is_word;
 use std::fs::File;
 use std::io::{IsTerminal, Read};
 use std::random::RandomSource;
 use std::rt::{Env, Files};
 
-// The commands; none where the first argument is no command's word.
-#[derive(Clone, Copy)]
+#[derive(Clone, Copy, PartialEq, Eq)]
 enum Command {
     List,
     Pairs,
@@ -36,54 +34,33 @@ enum Command {
     Edit,
     Picture,
     Help,
-    None,
 }
 
 // The command of a word.
-fn command_of(word: &[u8]) -> Command {
-    if is_word(word, b"list") {
-        return Command::List;
+fn command_of(word: &[u8]) -> Option<Command> {
+    match word {
+        b"list" => Some(Command::List),
+        b"pairs" => Some(Command::Pairs),
+        b"why" => Some(Command::Why),
+        b"value" => Some(Command::Value),
+        b"feeding" => Some(Command::Feeding),
+        b"member" => Some(Command::Member),
+        b"edit" => Some(Command::Edit),
+        b"picture" => Some(Command::Picture),
+        b"help" => Some(Command::Help),
+        _ => None,
     }
-    if is_word(word, b"pairs") {
-        return Command::Pairs;
-    }
-    if is_word(word, b"why") {
-        return Command::Why;
-    }
-    if is_word(word, b"value") {
-        return Command::Value;
-    }
-    if is_word(word, b"feeding") {
-        return Command::Feeding;
-    }
-    if is_word(word, b"member") {
-        return Command::Member;
-    }
-    if is_word(word, b"edit") {
-        return Command::Edit;
-    }
-    if is_word(word, b"picture") {
-        return Command::Picture;
-    }
-    if is_word(word, b"help") {
-        return Command::Help;
-    }
-    Command::None
 }
 
 // Whether a command takes so many words behind it, the file among them.
 fn takes(command: Command, behind: usize) -> bool {
     match command {
-        Command::List => behind == 1,
-        Command::Pairs => (behind == 1) | (behind == 2),
-        Command::Why => (behind == 1) | (behind == 4),
-        Command::Value => behind == 3,
-        Command::Feeding => behind == 2,
-        Command::Member => behind == 3,
-        Command::Edit => behind == 1,
-        Command::Picture => behind == 1,
         Command::Help => behind == 0,
-        Command::None => true,
+        Command::List | Command::Edit | Command::Picture => behind == 1,
+        Command::Feeding => behind == 2,
+        Command::Value | Command::Member => behind == 3,
+        Command::Pairs => behind == 1 || behind == 2,
+        Command::Why => behind == 1 || behind == 4,
     }
 }
 
@@ -100,11 +77,10 @@ fn say_usage(command: Command) {
         Command::Edit => say(b"edit FILE\n"),
         Command::Picture => say(b"picture FILE\n"),
         Command::Help => say(b"help\n"),
-        Command::None => say(b"help\n"),
     }
 }
 
-// Obeys a command over a whole block that was examined and got this answer, with so many numbers.
+// Obeys a command over a whole block that was examined and got this answer, with these numbers.
 // The work bytes hold the block's families. How far a search is is told if that is to be shown.
 fn obey_examined<R: Files<File = File> + RandomSource + Alloc, I: Read>(
     rt: &R,
@@ -114,8 +90,7 @@ fn obey_examined<R: Files<File = File> + RandomSource + Alloc, I: Read>(
     examined: Examined,
     answer: Answer,
     work: &mut [u8; MOST_WORK],
-    numbers: [usize; MOST_NUMBERS],
-    count: usize,
+    numbers: &[usize],
 )
     requires { Seen examined work.old × Known examined.netlist work.old }
 {
@@ -124,26 +99,20 @@ fn obey_examined<R: Files<File = File> + RandomSource + Alloc, I: Read>(
     match command {
         Command::List => ask::list_held(answer, netlist, work),
         Command::Pairs => {
-            if count == 0 {
-                search::pairs(examined, work, usize::MAX, shown);
-            } else {
-                search::pairs(examined, work, numbers[0], shown);
-            }
+            let limit = numbers.first().copied().unwrap_or(usize::MAX);
+            search::pairs(examined, work, limit, shown);
         }
-        Command::Why => {
-            if count == 0 {
-                why::why_first(answer, netlist, work);
-            } else {
-                why::why(netlist, work, numbers[0], numbers[1], numbers[2]);
-            }
-        }
+        Command::Why => match numbers {
+            [node, layer, set] => why::why(netlist, work, *node, *layer, *set),
+            _ => why::why_first(answer, netlist, work),
+        },
         Command::Edit => editing::edit(rt, input, examined, work),
         Command::Picture => picture::picture(answer, netlist, marks, work),
         _ => {}
     }
 }
 
-// Examines the block that these bytes are, and obeys a command over it, with so many numbers.
+// Examines the block that these bytes are, and obeys a command over it, with these numbers.
 // A block that is refused is left to the caller to print.
 fn examine<R: Files<File = File> + RandomSource + Alloc, I: Read>(
     rt: &R,
@@ -151,8 +120,7 @@ fn examine<R: Files<File = File> + RandomSource + Alloc, I: Read>(
     shown: bool,
     command: Command,
     bytes: &[u8],
-    numbers: [usize; MOST_NUMBERS],
-    count: usize,
+    numbers: &[usize],
 ) -> Result<(), Refusal> {
     let mut work = [0u8; MOST_WORK];
     let examined = checker::examine(bytes, MOST_NODES, &mut work);
@@ -161,7 +129,7 @@ fn examine<R: Files<File = File> + RandomSource + Alloc, I: Read>(
         Err(refusal) => Err(refusal),
         Ok(answer) => {
             obey_examined(
-                rt, input, shown, command, examined, answer, &mut work, numbers, count,
+                rt, input, shown, command, examined, answer, &mut work, numbers,
             );
             Ok(())
         }
@@ -176,26 +144,17 @@ fn obey<R: Files<File = File> + RandomSource + Alloc, I: Read>(
     shown: bool,
     command: Command,
     bytes: &[u8],
-    numbers: [usize; MOST_NUMBERS],
-    count: usize,
+    numbers: &[usize],
 ) -> Result<(), Refusal> {
-    match command {
-        Command::Value => ask::value(bytes, numbers[0], numbers[1]),
-        Command::Feeding => ask::feeding(bytes, numbers[0]),
-        Command::Member => ask::member(bytes, numbers[0], numbers[1]),
-        _ => examine(rt, input, shown, command, bytes, numbers, count),
+    match (command, numbers) {
+        (Command::Value, [node, assignment]) => ask::value(bytes, *node, *assignment),
+        (Command::Feeding, [node]) => ask::feeding(bytes, *node),
+        (Command::Member, [node, set]) => ask::member(bytes, *node, *set),
+        _ => examine(rt, input, shown, command, bytes, numbers),
     }
 }
 
-// Whether a command reads edits from standard input, so that the block cannot stand there.
-fn has_edits(command: Command) -> bool {
-    match command {
-        Command::Edit => true,
-        _ => false,
-    }
-}
-
-// Obeys a command over the block that the first `length` bytes are, with so many numbers, and prints the
+// Obeys a command over the block of this size at the front of the bytes, with these numbers, and prints the
 // refusal where there is one: a block that is refused gets it from every command, with the line that the record
 // stands on where its text has lines.
 fn run_block<R: Files<File = File> + RandomSource + Alloc, I: Read>(
@@ -204,19 +163,15 @@ fn run_block<R: Files<File = File> + RandomSource + Alloc, I: Read>(
     shown: bool,
     command: Command,
     block: &[u8; MOST_BLOCK],
-    length: usize,
+    size: BlockSize,
     lines: &[usize; MOST_BLOCK],
-    last: usize,
-    numbers: [usize; MOST_NUMBERS],
-    count: usize,
+    numbers: &[usize],
 )
-    requires { length ≤ most_input }
+    requires { size.bytes ≤ most_input }
 {
-    let whole: &[u8] = block;
-    let bytes = &whole[..length];
-    let outcome = obey(rt, input, shown, command, bytes, numbers, count);
+    let outcome = obey(rt, input, shown, command, &block[..size.bytes], numbers);
     if let Err(refusal) = outcome {
-        say_refused(refusal, files::line_of(refusal, lines, last));
+        say_refused(refusal, files::line_of(refusal, lines, size.lines));
     }
 }
 
@@ -235,13 +190,11 @@ fn run<R: Files<File = File> + RandomSource + Alloc + Env, I: Read>(
     }
     let mut bytes = [0u8; MOST_BLOCK];
     let mut lines = [0usize; MOST_BLOCK];
-    match files::read_block(rt, input, has_edits(command), &mut bytes, &mut lines) {
-        ReadBlock::None => {}
-        ReadBlock::Bytes(length, last) => {
-            run_block(
-                rt, input, shown, command, &bytes, length, &lines, last, numbers, count,
-            );
-        }
+    // Where standard input has the edits, the block cannot stand there.
+    let edits = command == Command::Edit;
+    if let Some(size) = files::read_block(rt, input, edits, &mut bytes, &mut lines) {
+        let numbers = &numbers[..count.min(MOST_NUMBERS)];
+        run_block(rt, input, shown, command, &bytes, size, &lines, numbers);
     }
 }
 
@@ -260,25 +213,21 @@ fn main(rt: HostRuntime) {
     let words = files::argument_count(&rt);
     let mut word = io::buffer();
     let length = files::argument(&rt, 1, &mut word);
-    let command = command_of(&word[..length]);
-    let mut behind = 0;
-    if words > 2 {
-        behind = words - 2;
-    }
+    let Some(command) = command_of(&word[..length]) else {
+        no_command(&word[..length], words);
+        return;
+    };
+    let behind = words.saturating_sub(2);
     if !takes(command, behind) {
         say_usage(command);
         return;
     }
-    match command {
-        Command::None => no_command(&word[..length], words),
-        Command::Help => help::help(),
-        _ => {
-            if behind > 0 {
-                let mut input = rt.stdin();
-                // How far a search is is shown where standard error is a terminal.
-                let shown = rt.stderr().is_terminal();
-                run(&rt, &mut input, shown, command, behind - 1);
-            }
-        }
+    if command == Command::Help {
+        help::help();
+    } else if behind > 0 {
+        let mut input = rt.stdin();
+        // How far a search is is shown where standard error is a terminal.
+        let shown = rt.stderr().is_terminal();
+        run(&rt, &mut input, shown, command, behind - 1);
     }
 }

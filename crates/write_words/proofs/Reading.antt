@@ -13,7 +13,7 @@ use Rattle.rules.specs.Listing.{decimal, line}
 use Rattle.rules.proofs.Each.{Each, each_append}
 use Rattle.rule_laws.proofs.Tests.{lt_or_le, and_left, and_right}
 use Rattle.rule_laws.proofs.Decimal.{decimal_less, decimal_more, stands_for, decimal_value, Digit, decimal_digits}
-use Rattle.scanner.specs.declared.Number.TheVariants as Number
+use Rattle.std.proofs.Common.{Some}
 use Rattle.scanner.specs.Numbers.{are_digits, value_behind, number_behind, number_in, cut}
 use Rattle.scanner.specs.Words.{closed, lines_behind, is_blank, starts_comment, words_behind, words}
 
@@ -36,7 +36,7 @@ decimal_some x = go (lt_or_le x 10)
     go (inl l) = rw (decimal_less x l) (omega arith)
     go (inr l) = rw (decimal_more x l, length-append) (omega arith)
 
-number_decimal : (x : ℕ) → x < 2 ^ 64 → number_in (decimal x) ≡ Number.Is x
+number_decimal : (x : ℕ) → x < 2 ^ 64 → number_in (decimal x) ≡ Some x
 unfolding number_in number_behind
 number_decimal x h =
     rw (ne_eqb (length (decimal x)) 0 (λ e. omega (arith, decimal_some x)), all_digits _ (decimal_digits x), value_stands (decimal x) 0, decimal_value x, lt-ltb x (2 ^ 64) h)

@@ -11,12 +11,14 @@ ghost use Rattle.rules.specs.Slices.{entry};
 ghost use Rattle.listing_lines.specs.Text.{Room, Appended};
 ghost use Rattle.netlists.specs.Netlists.{flat_of};
 ghost use Rattle.edit_rules.specs.Meaning.{IsOpen};
-ghost use Rattle.write_words.specs.Worded.{variables_below, numbers_of, fields, record_line, record_lines, worded_out};
+ghost use Rattle.read_words.specs.Meaning.{form_by, name_of as word_in};
+ghost use Rattle.write_words.specs.Worded.{class_name, variables_below, numbers_of, fields, record_line, record_lines, worded_out};
 ghost use Rattle.write_words.specs.Worded.{most_variable_line, most_numbers, most_node_line, most_words};
 
 use edit_rules::State;
 use listing_lines::{name_of, put_byte, put_field, put_word};
 use netlists::Netlist;
+use read_words::RecordForm;
 use rules::{MOST_NODES, MOST_VARIABLES, Node, NodeRecord};
 
 // At most 10 lines of variables, the longest of which is `secret` with its line feed, 200 of nodes, the longest of
@@ -25,14 +27,25 @@ pub const MOST_WORDS: usize = 7 * MOST_VARIABLES + 23 * MOST_NODES + 4;
 
 // ---- one line
 
-// A variable, by its class byte; forms 1 to 3 of a record are those of the classes 0 to 2.
+// The form of a variable, by its class byte.
+fn form_of(class: u8) -> RecordForm
+    ensures { (c : Class) → class ≡ class_byte c → word_in (form_by result) ≡ class_name c }
+{
+    match class {
+        0 => RecordForm::Secret,
+        1 => RecordForm::Mask,
+        _ => RecordForm::Public,
+    }
+}
+
+// A variable, by its class byte.
 fn put_class(text: &mut [u8], at: usize, class: u8) -> usize
     requires { Room text.old at most_variable_line }
     ensures appended { (c : Class) → class ≡ class_byte c →
         Appended text.old text.new at result (record_line (Records.variable c)) }
     ensures few { result ≤ at + most_variable_line }
 {
-    let end = put_word(text, at, read_words::word_of(class.min(2) + 1));
+    let end = put_word(text, at, read_words::word_of(form_of(class)));
     put_byte(text, end, b'\n')
 }
 

@@ -3,10 +3,10 @@
 use Rattle.edit_lines.specs.Asks.{unless_stuck, asks_in}
 use Rattle.edit_lines.proofs.asked_in.Goals as goal
 
-pub returns-then-is_stuck-clause-line_value : goal.returns-then-is_stuck-clause-line_value
+pub returns-then-is_stuck-clause-asks : goal.returns-then-is_stuck-clause-asks
 unfolding asks_in
-returns-then-is_stuck-clause-line_value c = rw (← c.is_stuck.ensures, c.if-is_stuck.true, ← c.by_words-ask.ensures.line_after) (c.unless_named-left.ensures.by_index _ _)
+returns-then-is_stuck-clause-asks c = rw (← c.is_stuck.ensures, c.if-is_stuck.true, ← c.by_words-asked.ensures.asks) (c.unless_named-ask.ensures.asks _ _)
 
-pub returns-clause-line_value : goal.returns-clause-line_value
+pub returns-else-is_stuck-clause-asks : goal.returns-else-is_stuck-clause-asks
 unfolding asks_in unless_stuck
-returns-clause-line_value c = rw (← c.is_stuck.ensures, c.if-is_stuck.false) c.by_words-ask.ensures.line_after
+returns-else-is_stuck-clause-asks c = rw (← c.is_stuck.ensures, c.if-is_stuck.false) c.by_words-asked.ensures.asks

@@ -1,15 +1,16 @@
 -- `edit_lines::removed` meets its contract: the only word behind `remove`, as a number. Assumes nothing.
+use Rattle.scanner.specs.Numbers.{number_in}
 use Rattle.edit_lines.specs.Asks.{removal}
 use Rattle.edit_lines.proofs.removed.Goals as goal
 
-pub returns-in-Is-clause-by_index : goal.returns-in-Is-clause-by_index
-unfolding removal
-returns-in-Is-clause-by_index c = λ own. rw (← c.only_word-word.ensures.2, ← c.in-Is.ensures)
+pub returns-in_default-clause-asks : goal.returns-in_default-clause-asks
+unfolding removal number_in
+returns-in_default-clause-asks c own = rw c.in_default.ensures
 
-pub returns-then-from-to-clause-by_index : goal.returns-then-from-to-clause-by_index
+pub returns-in-Some-number_of-clause-asks : goal.returns-in-Some-number_of-clause-asks
 unfolding removal
-returns-then-from-to-clause-by_index c = λ own. rw (← c.only_word-word.ensures.2, ← c.in-None.ensures)
+returns-in-Some-number_of-clause-asks c own = rw (← c.in-Some.ensures.2, ← c.in-Some-number_of.ensures)
 
-pub returns-else-from-to-clause-by_index : goal.returns-else-from-to-clause-by_index
+pub returns-in-None-clause-asks : goal.returns-in-None-clause-asks
 unfolding removal
-returns-else-from-to-clause-by_index c = λ own. rw (← c.only_word-word.ensures.2, ← c.in-None.ensures)
+returns-in-None-clause-asks c own = rw (← c.in-Some.ensures.2, ← c.in-None.ensures)

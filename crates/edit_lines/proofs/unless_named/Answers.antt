@@ -21,9 +21,9 @@ stays (Ask.NoRecord fault) other own line = refl
 stays Ask.NoNumber other own line = refl
 stays Ask.NoEdit other own line = refl
 
-pub returns-in-Write-clause-by_index : goal.returns-in-Write-clause-by_index
+pub returns-in-Write-clause-asks : goal.returns-in-Write-clause-asks
 unfolding unless_stuck
-returns-in-Write-clause-by_index c = λ own line. rw c.in-Write.is
+returns-in-Write-clause-asks c = λ own line. rw c.in-Write.is
 
 pub returns-in_default : goal.returns-in_default
-returns-in_default c = record { by_index = stays c.args.ask c.in_default.not-Write; within = λ long h. h }
+returns-in_default c = record { asks = stays c.args.ask c.in_default.not-Write; within = λ long h. h }

@@ -1,16 +1,12 @@
--- `read_words::gate_record` meets its contract. The loop's invariant: the first j operands are stored behind the kind,
--- and whether one is none is to be seen of the rest. The measure is the number of operands left. Assumes nothing.
-use Prim.Native.Nat.{ℕ, ◌<◌}
-use mathlib.Core.Path.{◌≡◌, refl, sym, ◌∙◌}
-use mathlib.Core.List.{[]}
-use native.Mathlib.Omega.{arith}
-use lib.ListN.{length}
+-- `read_words::gate_record` meets its contract: as many operands as the kind has, each of a byte. Assumes nothing.
+use Rattle.std.proofs.Common.{◌≡◌, ℕ, ◌<◌, length, refl, sym, ◌∙◌, arith, [], rules}
+use Rattle.std.proofs.lemmas.Result.{err_from_is_err_and}
 use Rattle.rules.specs.Records.{Kind, kind_number, operand_count, first_of, Cell, gate, kind_of, operands}
 use Rattle.rule_laws.proofs.Operands.{listed_length}
 use Rattle.netlists.specs.Netlists.{padded}
 use Rattle.scanner.specs.Words.{words}
 use Rattle.read_words.specs.Words.{with_operands}
-use Rattle.read_words.proofs.Records.{so_many_operands, not_so_many, no_operand, one_operand, more_bytes, all_operands}
+use Rattle.read_words.proofs.Records.{no_value, some_value, so_many_operands, no_operand, one_operand, more_bytes, all_operands}
 use Rattle.read_words.proofs.gate_record.Goals as goal
 
 -- so many operands as the kind has
@@ -20,40 +16,45 @@ counted count k counts own e =
     let n = operand_count own in
     counts (gate own (first_of n [])) e ∙ listed_length n (first_of n [])
 
-pub returns-then-count_words-count : goal.returns-then-count_words-count
+pub returns-in_err-has_numbers : goal.returns-in_err-has_numbers
 unfolding with_operands
-returns-then-count_words-count c own e =
+returns-in_err-has_numbers c own e =
+    let p = err_from_is_err_and c.from_residual.result c.from_residual.ensures.1 in
     let count = counted _ _ c.operand_count-count.ensures.value own e in
-    rw (not_so_many (operand_count own) _ _ (λ many. c.if-count_words-count.true (c.count_words.ensures ∙ many ∙ sym count)), c.wrong_line.ensures, c.number_fault.ensures, count)
+    rw (p.1, p.2) (rw count at c.in_err-has_numbers.ensures _)
 
 pub loop-j-init : goal.loop-j-init
 unfolding padded
-loop-j-init c = (omega arith, refl, refl)
+loop-j-init c = (refl, refl)
 
-pub returns-then-operand-gt255 : goal.returns-then-operand-gt255
-returns-then-operand-gt255 c own e =
-    let many = sym c.count_words.ensures ∙ c.if-count_words-count.false in
+pub returns-in_err-bytes : goal.returns-in_err-bytes
+returns-in_err-bytes c own e =
+    let p = err_from_is_err_and c.from_residual-in_err-bytes.result c.from_residual-in_err-bytes.ensures.1 in
+    let (none, fault) = no_value _ _ _ c.in_err-bytes.ensures.value in
+    let many = c.in_ok-has_numbers.ensures in
     let count = counted _ _ c.operand_count-count.ensures.value own e in
     rw (
+      p.1,
+      p.2,
+      fault,
       so_many_operands own _ (many ∙ count),
-      c.loop-j.invariant.2,
-      no_operand (words c.args.numbers.now) c.loop-j.j (omega (arith, many)) (rw c.operand_at-operand.ensures at c.if-operand-gt255.true),
+      c.loop-j.invariant.1,
+      no_operand (words c.args.numbers.now) c.loop-j.j (omega (arith, many)) (rw none at c.operand_at.ensures),
     )
-    c.wrong_line-then-operand-gt255.ensures
 
 pub loop-j-preserved : goal.loop-j-preserved
 loop-j-preserved c =
-    let many = sym c.count_words.ensures ∙ c.if-count_words-count.false in
-    let here : c.loop-j.j < length (words c.args.numbers.now) = omega (arith, many) in (
-      omega arith,
-      rw (c.loop-j.invariant.1, c.operand_at-operand.ensures) (more_bytes _ c.loop-j.j here _ (omega (arith, c.operand_count-count.ensures.few))),
-      c.loop-j.invariant.2 ∙ one_operand _ c.loop-j.j here (rw c.operand_at-operand.ensures at c.if-operand-gt255.false),
+    let many = c.in_ok-has_numbers.ensures in
+    let here : c.loop-j.j < length (words c.args.numbers.now) = omega (arith, many) in
+    let is = rw (some_value _ _ _ c.in_ok-bytes.ensures.value) at c.operand_at.ensures in
+    let byte : c.in_ok-bytes.field-0 < 256 = search rules in (
+      rw (c.loop-j.invariant.0, is) (more_bytes _ c.loop-j.j here _ (omega (arith, c.operand_count-count.ensures.few))),
+      c.loop-j.invariant.1 ∙ one_operand _ c.loop-j.j here (omega (arith, is, byte)),
     )
 
 pub returns : goal.returns
 returns c own e =
-    let loop = c.loop-j in
     let count = counted _ _ c.operand_count-count.ensures.value own e in
-    let many = sym c.count_words.ensures ∙ c.if-count_words-count.false in
-    let all : loop.j ≡ c.operand_count-count.result = omega arith in
-    rw (← all, loop.invariant.1) (all_operands own _ _ _ e (all ∙ count) (many ∙ sym all) loop.invariant.2)
+    let many = c.in_ok-has_numbers.ensures in
+    let all : c.loop-j.j ≡ c.operand_count-count.result = omega arith in
+    rw (c.loop-j.invariant.0, ← all) (all_operands own _ _ _ e (all ∙ count) (many ∙ sym all) c.loop-j.invariant.1)

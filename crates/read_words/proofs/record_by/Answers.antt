@@ -1,26 +1,47 @@
--- `read_words::record_by` meets its contract: each arm reads as the rows that it is for. Assumes nothing.
-use native.Mathlib.Omega.{arith}
-use Rattle.rules.specs.Records.{end, record_bytes}
+-- `read_words::record_by` meets its contract: each arm reads as the form that it is for. Assumes nothing.
+use Rattle.std.proofs.Common.{refl}
+use Rattle.rules.specs.Records.{secret, mask, public, NOT, XOR, AND, OR, register, end, variable, record_bytes, class_byte}
 use Rattle.netlists.specs.Netlists.{padded}
-use Rattle.read_words.specs.Words.{forms}
-use Rattle.read_words.specs.Meaning.{reads_of, form_at}
-use Rattle.read_words.proofs.Forms.{no_row, variable_row, gate_row}
+use Rattle.read_words.specs.Meaning.{reads_of, form_by}
+use Rattle.read_words.proofs.Records.{is_record}
 use Rattle.read_words.proofs.record_by.Goals as goal
 
-pub returns-in-0 : goal.returns-in-0
-unfolding reads_of form_at forms record_bytes padded
-returns-in-0 c = rw c.in-0.is (c.alone_record.ensures end c.short_line.ensures)
+pub returns-in-End : goal.returns-in-End
+unfolding reads_of form_by record_bytes class_byte padded
+returns-in-End c = rw c.in-End.is (c.alone_record.ensures end (is_record end _ _ refl refl))
 
-pub returns-in-4 : goal.returns-in-4
-unfolding reads_of form_at forms
-returns-in-4 c = rw c.in-4.is c.input_record.ensures
+pub returns-in-Secret : goal.returns-in-Secret
+unfolding reads_of form_by record_bytes class_byte padded
+returns-in-Secret c = rw c.in-Secret.is (c.alone_record-in-Secret.ensures (variable secret) (is_record (variable secret) _ _ refl refl))
 
-pub returns-in-1 : goal.returns-in-1
-returns-in-1 c = variable_row _ _ _ (omega arith) (omega arith) (rw c.short_line-in-1.ensures at c.alone_record-in-1.ensures)
+pub returns-in-Mask : goal.returns-in-Mask
+unfolding reads_of form_by record_bytes class_byte padded
+returns-in-Mask c = rw c.in-Mask.is (c.alone_record-in-Mask.ensures (variable mask) (is_record (variable mask) _ _ refl refl))
 
-pub returns-in-5-to-9 : goal.returns-in-5-to-9
-returns-in-5-to-9 c = gate_row _ _ _ (omega arith) (omega arith) c.gate_record.ensures
+pub returns-in-Public : goal.returns-in-Public
+unfolding reads_of form_by record_bytes class_byte padded
+returns-in-Public c = rw c.in-Public.is (c.alone_record-in-Public.ensures (variable public) (is_record (variable public) _ _ refl refl))
 
-pub returns-in_default : goal.returns-in_default
-unfolding reads_of
-returns-in_default c = rw (no_row c.args.form (omega arith)) c.wrong_line.ensures
+pub returns-in-Input : goal.returns-in-Input
+unfolding reads_of form_by
+returns-in-Input c = rw c.in-Input.is c.input_record.ensures
+
+pub returns-in-Not : goal.returns-in-Not
+unfolding reads_of form_by
+returns-in-Not c = rw c.in-Not.is (c.gate_record.ensures NOT refl)
+
+pub returns-in-Xor : goal.returns-in-Xor
+unfolding reads_of form_by
+returns-in-Xor c = rw c.in-Xor.is (c.gate_record-in-Xor.ensures XOR refl)
+
+pub returns-in-And : goal.returns-in-And
+unfolding reads_of form_by
+returns-in-And c = rw c.in-And.is (c.gate_record-in-And.ensures AND refl)
+
+pub returns-in-Or : goal.returns-in-Or
+unfolding reads_of form_by
+returns-in-Or c = rw c.in-Or.is (c.gate_record-in-Or.ensures OR refl)
+
+pub returns-in-Register : goal.returns-in-Register
+unfolding reads_of form_by
+returns-in-Register c = rw c.in-Register.is (c.gate_record-in-Register.ensures register refl)

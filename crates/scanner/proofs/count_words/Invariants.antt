@@ -1,8 +1,6 @@
 -- `scanner::count_words` meets its contract. The loop's invariant: the words of the line are those counted and those
 -- from here on. The measure is what is left of the line. Assumes nothing.
-use Prim.Native.Nat.{◌+◌, ◌-◌, ◌≤◌}
-use mathlib.Core.Path.{◌≡◌}
-use lib.ListN.{length, drop}
+use Rattle.std.proofs.Common.{◌≡◌, ◌+◌, ◌-◌, ◌≤◌, length, drop}
 use Rattle.scanner.specs.Words.{words}
 use Rattle.scanner.proofs.count_words.Given as goal
 

@@ -1,13 +1,8 @@
--- `scanner::word_at` meets its contract. The loop's invariant: the words from here on are those behind the first i.
--- The measure is the number of words left to pass. Assumes nothing.
-use Prim.Native.Nat.{◌-◌, ◌≤◌}
-use mathlib.Core.Path.{◌≡◌}
-use lib.ListN.{length, drop}
+-- `scanner::word_at` meets its contract. The loop's invariant: the words from here on are those behind the ones that
+-- were passed. Assumes nothing.
+use Rattle.std.proofs.Common.{◌≡◌, ◌≤◌, length, drop}
 use Rattle.scanner.specs.Words.{words}
 use Rattle.scanner.proofs.word_at.Given as goal
 
-abbrev pub invariant-loop-i : goal.invariant-loop-i
-invariant-loop-i l = (l.at ≤ length l.line) × (l.i ≤ l.k) × (drop l.i (words l.line) ≡ words (drop l.at l.line))
-
-abbrev pub decreases-loop-i : goal.decreases-loop-i
-decreases-loop-i l = l.k - l.i
+abbrev pub invariant-loop : goal.invariant-loop
+invariant-loop l = (l.at ≤ length l.line) × (drop l.counter (words l.line) ≡ words (drop l.at l.line))
