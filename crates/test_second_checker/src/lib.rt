@@ -9,7 +9,7 @@
 // `test_random_*`.
 #![tactic(auto)]
 
-ghost use Rattle.std.specs.Prelude.{◌<◌, ◌≤◌};
+ghost use Rattle.std.specs.Prelude.{◌<◌, ◌≤◌, length};
 
 use rules::{Node, NodeRecord};
 use std::cmp::Ordering;
@@ -320,7 +320,9 @@ impl List {
     }
 
     // Its sets.
-    pub fn sets(&self) -> &[u16] {
+    pub fn sets(&self) -> &[u16]
+        ensures { length result.now ≤ 1024 }
+    {
         &self.sets[..self.length.min(SETS)]
     }
 
