@@ -6,7 +6,6 @@ ghost use Rattle.telgouin.specs.declared.files.ReadBlock.TheVariants.{None};
 ghost use Rattle.telgouin.specs.Files.{SameBehind, FrontRead, FromFile, AsBytes, has_words, line_in};
 
 use desk::say::{say, say_fault, say_found, say_no_number, say_number};
-use input_bytes::Input;
 use read_words::{BlockWords, MOST_BLOCK, MOST_TEXT};
 use rules::Refusal;
 use scanner::Number;
@@ -100,8 +99,8 @@ fn read_from<F: std::io::Read>(file: &mut F, into: &mut [u8]) -> Read
     ensures { FrontRead result into.new }
 {
     match input_bytes::read_input(file, into) {
-        Input::Failed => Read::Failed,
-        Input::Bytes(count) => {
+        Err(_) => Read::Failed,
+        Ok(count) => {
             if count < into.len() {
                 return Read::All(count);
             }

@@ -51,16 +51,41 @@ pub fn masked_or(mix: Mix, n: usize, seed: u32) -> Mix {
     if pick(seed, n) > 0 { Mix::Masked } else { mix }
 }
 
+// The kinds of nodes, as the bytes of their records.
+const INPUT: u8 = 2;
+
+const NOT: u8 = 3;
+
+const XOR: u8 = 4;
+
+const AND: u8 = 5;
+
+const OR: u8 = 6;
+
+const REGISTER: u8 = 7;
+
 // The kinds of a mix, each as often as a node is to get it in twelve.
 fn kinds_of(mix: Mix) -> [u8; 12] {
     match mix {
-        Mix::Even => [2, 3, 4, 5, 6, 7, 2, 3, 4, 5, 6, 7],
-        Mix::Masked => [2, 2, 3, 4, 4, 4, 5, 6, 7, 7, 7, 7],
-        Mix::Dense => [2, 2, 3, 4, 4, 4, 4, 4, 5, 5, 6, 6],
-        Mix::Registered => [2, 2, 2, 3, 4, 5, 6, 7, 7, 7, 7, 7],
-        Mix::Long => [2, 3, 4, 4, 4, 4, 7, 7, 7, 7, 7, 7],
-        Mix::Gates => [4, 5, 6, 4, 5, 6, 4, 4, 5, 5, 6, 6],
-        Mix::Xors => [3, 4, 4, 4, 4, 4, 4, 4, 4, 4, 4, 7],
+        Mix::Even => [
+            INPUT, NOT, XOR, AND, OR, REGISTER, INPUT, NOT, XOR, AND, OR, REGISTER,
+        ],
+        Mix::Masked => [
+            INPUT, INPUT, NOT, XOR, XOR, XOR, AND, OR, REGISTER, REGISTER, REGISTER, REGISTER,
+        ],
+        Mix::Dense => [INPUT, INPUT, NOT, XOR, XOR, XOR, XOR, XOR, AND, AND, OR, OR],
+        Mix::Registered => [
+            INPUT, INPUT, INPUT, NOT, XOR, AND, OR, REGISTER, REGISTER, REGISTER, REGISTER,
+            REGISTER,
+        ],
+        Mix::Long => [
+            INPUT, NOT, XOR, XOR, XOR, XOR, REGISTER, REGISTER, REGISTER, REGISTER, REGISTER,
+            REGISTER,
+        ],
+        Mix::Gates => [XOR, AND, OR, XOR, AND, OR, XOR, XOR, AND, AND, OR, OR],
+        Mix::Xors => [
+            NOT, XOR, XOR, XOR, XOR, XOR, XOR, XOR, XOR, XOR, XOR, REGISTER,
+        ],
     }
 }
 
@@ -164,8 +189,12 @@ fn with_node(mut made: Made, shape: Shape, i: usize) -> Made {
     let seed = next(made.seed);
     let at = made.length % 1000;
     let drawn = kinds_of(shape.mix)[pick(seed, 12) % 12];
-    let kind = if i < 2 || (shape.open > 0 && i % 3 < 2) { 2 } else { drawn };
-    let body = if kind == 2 {
+    let kind = if i < 2 || (shape.open > 0 && i % 3 < 2) {
+        INPUT
+    } else {
+        drawn
+    };
+    let body = if kind == INPUT {
         set_of(shape, i, next(seed))
     } else {
         operands_of(shape, i, next(seed))
@@ -173,7 +202,11 @@ fn with_node(mut made: Made, shape: Shape, i: usize) -> Made {
     made.bytes[at] = kind;
     made.bytes[at + 1] = (body % 256) as u8;
     made.bytes[at + 2] = (body / 256 % 256) as u8;
-    made.length = if kind % 4 == 3 { at + 2 } else { at + 3 };
+    made.length = if kind == NOT || kind == REGISTER {
+        at + 2
+    } else {
+        at + 3
+    };
     made.seed = next(next(seed));
     made
 }
@@ -201,7 +234,7 @@ pub fn damaged(made: Made) -> Made {
     let mut other = made;
     other.seed = next(second);
     match pick(other.seed, 24) {
-        0 | 1 | 2 => other.bytes[at] = byte as u8,
+        0..=2 => other.bytes[at] = byte as u8,
         3 => other.length = at,
         4 => {
             other.bytes[whole] = byte as u8;

@@ -258,7 +258,7 @@ fn edit_in(open: &Open, asked: Asked, written: Written) -> Open {
     }
 }
 
-// Whether two states are the same.
+// Whether two states are the same: `edit_rules` derives no `==` for them.
 fn same_state(a: State, b: State) -> bool {
     a.variables == b.variables && a.count == b.count && a.classes == b.classes
 }

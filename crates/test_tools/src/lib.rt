@@ -34,7 +34,7 @@ pub fn raise(tally: &mut Tally, at: usize, value: usize) {
 
 // ---- node records
 
-// Whether two node records are the same, marks included.
+// Whether two node records are the same, marks included: `rules` derives no `==` for them.
 pub fn same_record(a: NodeRecord, b: NodeRecord) -> bool
     ensures { result ≡ (a.node.kind == b.node.kind && (a.node.first == b.node.first)
         && a.node.second == b.node.second && (a.node.set == b.node.set)
