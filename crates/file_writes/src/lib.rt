@@ -30,15 +30,9 @@ const LETTERS: usize = 8;
 fn folder_of(path: &[u8]) -> usize
     ensures { IsPrefixLen result path.now }
 {
-    let mut end = 0;
-    let mut k = 0;
-    while k < path.len() {
-        if path[k] == b'/' {
-            end = k + 1;
-        }
-        k += 1;
-    }
-    end
+    path.iter()
+        .rposition(|letter| *letter == b'/')
+        .map_or(0, |last| last + 1)
 }
 
 // Puts text behind the first `at` bytes of a path, as far as there is room. Returns how many bytes the path has then;
@@ -47,17 +41,9 @@ fn put_behind(path: &mut [u8], at: usize, text: &[u8]) -> usize
     requires { at ≤ length path.old }
     ensures { IsPrefixLen result path.new }
 {
-    let mut end = at;
-    let mut k = 0;
-    while k < text.len() {
-        if end == path.len() {
-            return end;
-        }
-        path[end] = text[k];
-        end += 1;
-        k += 1;
-    }
-    end
+    let count = text.len().min(path.len() - at);
+    path[at..at + count].copy_from_slice(&text[..count]);
+    at + count
 }
 
 // A letter from `a` to `z` for a byte.
@@ -69,10 +55,8 @@ fn letter_of(byte: u8) -> u8 {
 fn random_letters<R: RandomSource>(rt: &R) -> [u8; LETTERS] {
     let mut letters = [0u8; LETTERS];
     let _ = rt.fill_bytes(&mut letters);
-    let mut k = 0;
-    while k < LETTERS {
-        letters[k] = letter_of(letters[k]);
-        k += 1;
+    for letter in letters.iter_mut() {
+        *letter = letter_of(*letter);
     }
     letters
 }
@@ -151,28 +135,24 @@ fn write_through(mut file: File, bytes: &[u8]) -> bool {
 fn write_down(mut file: File, bytes: &[u8]) -> bool {
     let is_written = file.write_all(bytes).is_ok();
     let is_down = file.sync_all().is_ok();
-    is_written & is_down
+    is_written && is_down
 }
 
 // Makes a new file of that name, which takes the one of `path` once all is written. Returns whether that succeeded;
 // if not, the new file is removed.
 fn replace_by<R: Files<File = File>>(rt: &R, beside: &str, path: &str, bytes: &[u8]) -> bool {
-    match OpenOptions::new()
+    let Ok(file) = OpenOptions::new()
         .write(true)
         .create_new(true)
         .open(rt, beside)
-    {
-        Err(_) => false,
-        Ok(file) => {
-            if write_down(file, bytes) {
-                if fs::rename(rt, beside, path).is_ok() {
-                    return true;
-                }
-            }
-            let _ = fs::remove_file(rt, beside);
-            false
-        }
+    else {
+        return false;
+    };
+    if write_down(file, bytes) && fs::rename(rt, beside, path).is_ok() {
+        return true;
     }
+    let _ = fs::remove_file(rt, beside);
+    false
 }
 
 // Makes a new file beside the one at `path`, which takes its name once all is written. Returns whether that succeeded;
@@ -209,7 +189,7 @@ fn is_name_of<R: Files + Alloc>(rt: &R, name: &[u8], fd: i32) -> bool {
 
 // Whether two files are one, by their numbers on one device.
 fn are_same(one: &Metadata, other: &Metadata) -> bool {
-    (one.dev() == other.dev()) & (one.ino() == other.ino())
+    one.dev() == other.dev() && one.ino() == other.ino()
 }
 
 // Whether an open file is the one that a descriptor leads to.
@@ -235,15 +215,15 @@ fn goes_to<R: Files + Alloc>(rt: &R, output: i32, file: &File, name: &[u8]) -> b
 }
 
 // Which of the program's own outputs goes to an open file, which has that name: standard output or standard
-// error, or -1 for neither.
-fn output_to<R: Files + Alloc>(rt: &R, file: &File, name: &[u8]) -> i32 {
+// error, if one does.
+fn output_to<R: Files + Alloc>(rt: &R, file: &File, name: &[u8]) -> Option<i32> {
     if goes_to(rt, STDOUT, file, name) {
-        return STDOUT;
+        Some(STDOUT)
+    } else if goes_to(rt, STDERR, file, name) {
+        Some(STDERR)
+    } else {
+        None
     }
-    if goes_to(rt, STDERR, file, name) {
-        return STDERR;
-    }
-    -1
 }
 
 // Whether a name leads to a file that may be written. The name of an open file does not once the file was removed.
@@ -274,7 +254,7 @@ fn replace_open<R: Files<File = File> + RandomSource + Alloc>(
     let length = name_of(rt, file.as_raw_fd(), &mut name);
     let output = output_to(rt, &file, &name[..length]);
     drop(file);
-    if output >= 0 {
+    if let Some(output) = output {
         return io::write_all(output, bytes);
     }
     if !is_link(rt, path) {
@@ -291,13 +271,7 @@ fn write_named<R: Files<File = File> + RandomSource + Alloc>(
 ) -> bool {
     match open_append(rt, path) {
         Err(why) => {
-            if why.kind() != ErrorKind::NotFound {
-                return false;
-            }
-            if is_link(rt, path) {
-                return false;
-            }
-            replace(rt, path, bytes)
+            why.kind() == ErrorKind::NotFound && !is_link(rt, path) && replace(rt, path, bytes)
         }
         Ok(mut file) => {
             if is_regular(&mut file) {

@@ -6,7 +6,6 @@
 ghost use Rattle.std.specs.Prelude.{◌≡◌, List, ℕ, ◌≤◌, length, take};
 ghost use Rattle.rules.specs.Listing.{listing, most_text, most_input};
 
-use input_bytes::Input;
 use listing_text::MOST_TEXT;
 
 // Where the program writes to.
@@ -34,10 +33,10 @@ fn main(rt: HostRuntime) {
     let mut text = [0u8; MOST_TEXT];
     let mut input = rt.stdin();
     match input_bytes::read_input(&mut input, &mut bytes) {
-        Input::Failed => {
+        Err(_) => {
             io::write_all(STDERR, b"listing: standard input cannot be read\n");
         }
-        Input::Bytes(read) => {
+        Ok(read) => {
             let written = list_file(&bytes, read, &mut text);
             io::write_all(STDOUT, &text[..written]);
         }

@@ -2,12 +2,13 @@
 ghost use Rattle.std.specs.Prelude.{◌≡◌, ◌+◌, ◌<◌};
 ghost use Rattle.io.specs.Counts.{IsPrefixLen};
 ghost use Rattle.rules.specs.Paper.{number_of, place_of};
+ghost use Rattle.telgouin.specs.declared.files.ReadBlock.TheVariants.{None};
 ghost use Rattle.telgouin.specs.Files.{SameBehind, FrontRead, FromFile, AsBytes, has_words, line_in};
 
 use desk::say::{say, say_fault, say_found, say_no_number, say_number};
-use input_bytes::Input;
-use read_words::{BlockSize, MOST_BLOCK, MOST_TEXT};
+use read_words::{BlockWords, MOST_BLOCK, MOST_TEXT};
 use rules::Refusal;
+use scanner::Number;
 use std::env::FillError;
 use std::fs;
 use std::rt::{Env, Files};
@@ -54,11 +55,11 @@ fn take_number<R: Env>(rt: &R, i: usize, into: &mut [usize; MOST_NUMBERS], k: us
     let mut word = io::buffer();
     let length = argument(rt, i, &mut word);
     match scanner::number_of(&word[..length]) {
-        Some(number) => {
-            into[k] = number;
+        Number::Is(x) => {
+            into[k] = x;
             true
         }
-        None => {
+        Number::None => {
             say_no_number(&word[..length]);
             false
         }
@@ -70,10 +71,15 @@ fn take_number<R: Env>(rt: &R, i: usize, into: &mut [usize; MOST_NUMBERS], k: us
 pub fn take_numbers<R: Env>(rt: &R, into: &mut [usize; MOST_NUMBERS], count: usize) -> bool
     ensures { SameBehind count into.old into.new }
 {
-    for k in 0..count.min(MOST_NUMBERS) {
+    let mut k = 0;
+    while k < MOST_NUMBERS {
+        if k >= count {
+            break;
+        }
         if !take_number(rt, NUMBERS + k, into, k) {
             return false;
         }
+        k += 1;
     }
     true
 }
@@ -93,8 +99,8 @@ fn read_from<F: std::io::Read>(file: &mut F, into: &mut [u8]) -> Read
     ensures { FrontRead result into.new }
 {
     match input_bytes::read_input(file, into) {
-        Input::Failed => Read::Failed,
-        Input::Bytes(count) => {
+        Err(_) => Read::Failed,
+        Ok(count) => {
             if count < into.len() {
                 return Read::All(count);
             }
@@ -112,16 +118,21 @@ fn read_from<F: std::io::Read>(file: &mut F, into: &mut [u8]) -> Read
     }
 }
 
-// A block is answered by its size: how many bytes it has, and how many lines its text in words, or 0 for one that is
-// given as bytes. Where there is none, what was expected has been printed.
+// A block: how many bytes it has, and how many lines its text in words, or 0 for one that is given as bytes;
+// or none, and what was expected has been printed.
+#[derive(Clone, Copy)]
+pub enum ReadBlock {
+    Bytes(usize, usize),
+    None,
+}
 
 // No block, since a file cannot be read; says so.
-fn unreadable(name: &[u8]) -> Option<BlockSize>
+fn unreadable(name: &[u8]) -> ReadBlock
     ensures { result ≡ None }
 {
     say(b"expected a file that can be read, found: ");
     say_found(name);
-    None
+    ReadBlock::None
 }
 
 // The block that a text in words says, with the line of each record; says what was expected where it says none.
@@ -129,26 +140,26 @@ fn translated(
     text: &[u8],
     bytes: &mut [u8; MOST_BLOCK],
     lines: &mut [usize; MOST_BLOCK],
-) -> Option<BlockSize>
+) -> ReadBlock
     ensures { FromFile result bytes.old lines.old bytes.new lines.new }
 {
     match read_words::block_of(text, bytes, lines) {
-        Ok(size) => Some(size),
-        Err(found) => {
-            say_fault(found.fault, found.line);
-            None
+        BlockWords::Bytes(count, last) => ReadBlock::Bytes(count, last),
+        BlockWords::Wrong(fault, line) => {
+            say_fault(fault, line);
+            ReadBlock::None
         }
     }
 }
 
 // No block, since a text in words is too long; says so.
-fn too_long() -> Option<BlockSize>
+fn too_long() -> ReadBlock
     ensures { result ≡ None }
 {
     say(b"expected at most ");
     say_number(MOST_TEXT);
     say(b" bytes of words, found more\n");
-    None
+    ReadBlock::None
 }
 
 // Reads a block in words from a file that is open, by way of `text`.
@@ -158,7 +169,7 @@ fn read_words<F: std::io::Read>(
     text: &mut [u8],
     bytes: &mut [u8; MOST_BLOCK],
     lines: &mut [usize; MOST_BLOCK],
-) -> Option<BlockSize>
+) -> ReadBlock
     ensures { FromFile result bytes.old lines.old bytes.new lines.new }
 {
     match read_from(file, text) {
@@ -173,15 +184,13 @@ fn read_bytes<F: std::io::Read>(
     file: &mut F,
     name: &[u8],
     bytes: &mut [u8; MOST_BLOCK],
-) -> Option<BlockSize>
+) -> ReadBlock
     ensures { AsBytes result }
 {
     match read_from(file, bytes) {
         Read::Failed => unreadable(name),
-        Read::First(count) | Read::All(count) => Some(BlockSize {
-            bytes: count,
-            lines: 0,
-        }),
+        Read::First(count) => ReadBlock::Bytes(count, 0),
+        Read::All(count) => ReadBlock::Bytes(count, 0),
     }
 }
 
@@ -189,7 +198,10 @@ fn read_bytes<F: std::io::Read>(
 pub fn has_words(name: &[u8]) -> bool
     ensures { result ≡ has_words name.now }
 {
-    let from = name.len().saturating_sub(4);
+    let mut from = 0;
+    if name.len() > 4 {
+        from = name.len() - 4;
+    }
     scanner::is_word(&name[from..], b".txt")
 }
 
@@ -199,7 +211,7 @@ fn read_open<F: std::io::Read>(
     name: &[u8],
     bytes: &mut [u8; MOST_BLOCK],
     lines: &mut [usize; MOST_BLOCK],
-) -> Option<BlockSize>
+) -> ReadBlock
     ensures { FromFile result bytes.old lines.old bytes.new lines.new }
 {
     if has_words(name) {
@@ -215,7 +227,7 @@ fn read_named<R: Files>(
     name: &[u8],
     bytes: &mut [u8; MOST_BLOCK],
     lines: &mut [usize; MOST_BLOCK],
-) -> Option<BlockSize>
+) -> ReadBlock
     ensures { FromFile result bytes.old lines.old bytes.new lines.new }
 {
     match std::str::from_utf8(name) {
@@ -234,7 +246,7 @@ pub fn read_block<R: Env + Files, I: std::io::Read>(
     edits: bool,
     bytes: &mut [u8; MOST_BLOCK],
     lines: &mut [usize; MOST_BLOCK],
-) -> Option<BlockSize>
+) -> ReadBlock
     ensures { FromFile result bytes.old lines.old bytes.new lines.new }
 {
     let mut path = io::buffer();
@@ -244,7 +256,7 @@ pub fn read_block<R: Env + Files, I: std::io::Read>(
     }
     if edits {
         say(b"expected a file to edit, found: -, where the edits are\n");
-        return None;
+        return ReadBlock::None;
     }
     read_bytes(input, &path[..length], bytes)
 }

@@ -41,25 +41,22 @@
 // program does not understand it prints, as `not understood: ` and the line or the word.
 #![tactic(auto)]
 
-ghost use Rattle.std.specs.Prelude.{◌+◌, ◌*◌, ◌<◌, ◌≤◌, length};
+ghost use Rattle.std.specs.Prelude.{◌+◌, ◌*◌, ◌<◌, ◌≤◌};
 ghost use Rattle.rules.specs.Records.{most_nodes};
 ghost use Rattle.rules.specs.Listing.{most_text};
 ghost use Rattle.families.specs.Parts.{HasPart};
 
-use check::same;
 use edit_rules::{Edit, State};
 use families::{PART, SETS};
 use listing_text::MOST_TEXT;
 use pair_search::{Found, Search};
 use pairs::PairsAnswer;
 use rules::{MOST_NODES, MOST_VARIABLES, MOST_WORK, NodeRecord, Refusal};
-use std::num::wrapping_add_u16;
-use test_generator::least;
 use test_tools::{
     print, print_answer, print_byte, print_counts, print_number, print_refusal, print_reply,
     same_record,
 };
-use test_trial::SeenEdit;
+use test_trial::{Seen, SeenEdit, SeenPairs};
 
 // Standard input's and standard output's descriptors.
 const STDIN: i32 = 0;
@@ -71,10 +68,8 @@ const MOST_INPUT: usize = 65536;
 
 const MOST_BLOCK: usize = 1024;
 
-// The most digits of a block, and the number that stands for a block that is not understood.
+// The most digits of a block.
 const MOST_DIGITS: usize = 2048;
-
-const NO_BLOCK: usize = 2049;
 
 // The most bytes for steps, with room for one step more than there may be; and how many steps are printed.
 const MOST_STEPS: usize = 2565;
@@ -101,21 +96,19 @@ fn print_outcome(question: &[u8], node: usize, number: usize, outcome: Result<()
 
 // A blank and yes or no.
 fn print_yes(yes: bool) {
-    if yes {
-        print(b" yes");
+    print(if yes {
+        b" yes".as_slice()
     } else {
-        print(b" no");
-    }
+        b" no".as_slice()
+    });
 }
 
 // The numbers of the marked nodes.
 fn print_marks(marks: [bool; MOST_NODES]) {
-    let mut i = 0;
-    while i < MOST_NODES {
-        if marks[i] {
+    for (i, marked) in marks.iter().enumerate() {
+        if *marked {
             print_number(i);
         }
-        i += 1;
     }
 }
 
@@ -128,25 +121,19 @@ fn print_mark(i: usize, held: NodeRecord) {
 }
 
 // The marked ones of the first `count` nodes.
-fn print_marked(nodes: [NodeRecord; MOST_NODES], count: usize) {
-    let mut i = 0;
-    while i < MOST_NODES {
-        let held = nodes[i];
-        if (i < count) & ((held.settled != 0) | (held.glitch != 0)) {
-            print_mark(i, held);
+fn print_marked(nodes: &[NodeRecord], count: usize) {
+    for (i, held) in nodes.iter().enumerate() {
+        if i < count && (held.settled != 0 || held.glitch != 0) {
+            print_mark(i, *held);
         }
-        i += 1;
     }
 }
 
-// What stands behind a place of a line, without the blank there.
-fn print_behind(line: &[u8], at: usize) {
-    if at < line.len() {
-        let blank = at + 1;
-        if blank < line.len() {
-            let from = blank + 1;
-            print(&line[from..]);
-        }
+// A text without its first letter, if it has one.
+fn behind_first(text: &[u8]) -> &[u8] {
+    match text.split_first() {
+        Some((_, behind)) => behind,
+        None => text,
     }
 }
 
@@ -159,154 +146,129 @@ fn complain(text: &[u8]) {
 
 // ---- words and numbers
 
-// The first place from `from` on where a letter stands, or the end of the text.
-fn find(text: &[u8], from: usize, letter: u8) -> usize
-    requires { from ≤ length text.now }
-    ensures { (from ≤ result) × (result ≤ length text.now) }
-{
-    let mut at = from;
-    while at < text.len() {
-        if text[at] == letter {
-            return at;
-        }
-        at += 1;
-    }
-    at
+// What stands before and behind the first such letter of a text, if it has one.
+fn cut(text: &[u8], letter: u8) -> Option<(&[u8], &[u8])> {
+    let at = text.iter().position(|x| *x == letter)?;
+    Some((&text[..at], &text[at + 1..]))
 }
 
-// The value of a digit, decimal or hexadecimal, and 16 for any other letter.
-fn digit_of(letter: u8) -> usize
-    ensures { result ≤ 16 }
-{
+// The value of a digit, decimal or hexadecimal.
+fn digit_of(letter: u8) -> Option<u8> {
     match letter {
-        b'0'..=b'9' => (letter - 48) as usize,
-        b'a'..=b'f' => (letter - 87) as usize,
-        _ => 16,
+        b'0'..=b'9' => Some(letter - b'0'),
+        b'a'..=b'f' => Some(letter - b'a' + 10),
+        _ => None,
     }
+}
+
+// The number that a word is.
+fn number_of(word: &[u8]) -> Option<usize> {
+    let mut value = 0usize;
+    for letter in word {
+        let digit = digit_of(*letter).filter(|digit| *digit < 10)?;
+        value = value.checked_mul(10)?.checked_add(digit as usize)?;
+    }
+    Some(value)
 }
 
 // The number that a word is, or 0 with a complaint.
 fn decimal(word: &[u8]) -> usize {
-    let mut value: usize = 0;
-    let mut k = 0;
-    while k < word.len() {
-        let digit = digit_of(word[k]);
-        if digit > 9 {
-            complain(word);
-            return 0;
-        }
-        if value > (usize::MAX - digit) / 10 {
-            complain(word);
-            return 0;
-        }
-        value = value * 10 + digit;
-        k += 1;
-    }
+    let Some(value) = number_of(word) else {
+        complain(word);
+        return 0;
+    };
     value
 }
 
-// How many numbers a command has, and the last four of them.
+// How many numbers a command has, and the last four of them, zeros before those that there are.
 #[derive(Clone, Copy)]
 struct Numbers {
     count: usize,
-    node: usize,
-    limit: usize,
-    first: usize,
-    last: usize,
+    last: [usize; 4],
 }
 
-// The numbers of a command, with a blank before each.
+// The numbers of a command, with blanks between them.
 fn numbers_of(words: &[u8]) -> Numbers {
-    let mut count: usize = 0;
-    let mut node = 0;
-    let mut limit = 0;
-    let mut first = 0;
-    let mut last = 0;
-    let mut at = 0;
-    while at < words.len() {
-        let from = at + 1;
-        at = find(words, from, b' ');
-        if from == at {
-            continue;
+    let mut count = 0usize;
+    let mut last = [0usize; 4];
+    for word in words.split(|x| *x == b' ') {
+        if !word.is_empty() {
+            last = [last[1], last[2], last[3], decimal(word)];
+            count = count.saturating_add(1);
         }
-        node = limit;
-        limit = first;
-        first = last;
-        last = decimal(&words[from..at]);
-        count += 1;
     }
-    Numbers {
-        count,
-        node,
-        limit,
-        first,
-        last,
-    }
+    Numbers { count, last }
 }
 
 // ---- blocks
 
-// Puts a hexadecimal digit behind the first `at` digits of a block: how many there are then.
-fn put(bytes: &mut [u8; MOST_BLOCK], at: usize, digit: usize) -> usize {
-    if at >= MOST_DIGITS {
-        return NO_BLOCK;
-    }
-    if digit > 15 {
-        return NO_BLOCK;
-    }
-    let k = at / 2;
-    bytes[k] = bytes[k] % 16 * 16 + digit as u8;
-    at + 1
+// A block or a record by its hexadecimal digits: its bytes, and how many digits there are, unless some are not
+// understood.
+#[derive(Clone, Copy)]
+struct Digits {
+    bytes: [u8; MOST_BLOCK],
+    count: Option<usize>,
 }
 
-// The same of several digits.
-fn put_digits(bytes: &mut [u8; MOST_BLOCK], at: usize, digits: &[u8]) -> usize {
-    let mut end = at;
-    let mut k = 0;
-    while k < digits.len() {
-        end = put(bytes, end, digit_of(digits[k]));
-        k += 1;
+impl Digits {
+    // No digits.
+    fn none() -> Digits {
+        Digits {
+            bytes: [0; MOST_BLOCK],
+            count: Some(0),
+        }
     }
-    end
+
+    // Its bytes, or all that there may be.
+    fn bytes(&self) -> &[u8] {
+        &self.bytes[..self
+            .count
+            .map_or(MOST_BLOCK, |digits| digits / 2)
+            .min(MOST_BLOCK)]
+    }
+
+    // Puts a digit behind the others.
+    fn put(&mut self, letter: u8) {
+        self.count = match (self.count, digit_of(letter)) {
+            (Some(at), Some(digit)) if at < MOST_DIGITS => {
+                let k = at / 2;
+                self.bytes[k] = self.bytes[k] % 16 * 16 + digit % 16;
+                Some(at + 1)
+            }
+            _ => None,
+        };
+    }
+
+    // The same of several digits.
+    fn put_digits(&mut self, digits: &[u8]) {
+        for letter in digits {
+            self.put(*letter);
+        }
+    }
+
+    // A record, or how many times, a star and a record.
+    fn put_word(&mut self, word: &[u8]) {
+        let Some((times, digits)) = cut(word, b'*') else {
+            self.put_digits(word);
+            return;
+        };
+        let times = decimal(times);
+        if times == 0 || digits.is_empty() {
+            self.count = None;
+        }
+        for _ in 0..times {
+            self.put_digits(digits);
+        }
+    }
 }
 
-// The same of digits that stand there so many times.
-fn put_times(bytes: &mut [u8; MOST_BLOCK], at: usize, count: usize, digits: &[u8]) -> usize {
-    if count == 0 {
-        return NO_BLOCK;
+// A block by its records, with a blank before each.
+fn block_of(words: &[u8]) -> Digits {
+    let mut block = Digits::none();
+    for word in behind_first(words).split(|x| *x == b' ') {
+        block.put_word(word);
     }
-    if digits.len() == 0 {
-        return NO_BLOCK;
-    }
-    let mut end = at;
-    let mut k = 0;
-    while k < count {
-        end = put_digits(bytes, end, digits);
-        k += 1;
-    }
-    end
-}
-
-// A record, or how many times, a star and a record.
-fn put_word(bytes: &mut [u8; MOST_BLOCK], at: usize, word: &[u8]) -> usize {
-    let star = find(word, 0, b'*');
-    if star == word.len() {
-        return put_digits(bytes, at, word);
-    }
-    let from = star + 1;
-    put_times(bytes, at, decimal(&word[0..star]), &word[from..])
-}
-
-// A block's records, with a blank before each: how many digits they have.
-fn put_block(bytes: &mut [u8; MOST_BLOCK], words: &[u8]) -> usize {
-    let mut end = 0;
-    let mut at = 0;
-    while at < words.len() {
-        let from = at + 1;
-        at = find(words, from, b' ');
-        end = put_word(bytes, end, &words[from..at]);
-    }
-    end
+    block
 }
 
 // ---- commands: what each prints behind the case's name, but the last line feed
@@ -314,9 +276,7 @@ fn put_block(bytes: &mut [u8; MOST_BLOCK], words: &[u8]) -> usize {
 // Checks a block over so many entries and this work slice: prints the reply, and gives all entries.
 fn reply_to(bytes: &[u8], entries: usize, work: &mut [u8]) -> [NodeRecord; MOST_NODES] {
     let before = [test_trial::entry_before(); MOST_NODES];
-    let seen = test_trial::check_over(bytes, entries, before, work);
-    let reply = seen.reply;
-    let nodes = seen.nodes;
+    let Seen { reply, nodes } = test_trial::check_over(bytes, entries, before, work);
     print_byte(b':');
     print_reply(reply);
     nodes
@@ -329,7 +289,7 @@ fn print_left(nodes: [NodeRecord; MOST_NODES], work: &[u8]) {
         b", kept from# and#",
         &[from, test_trial::work_kept_from(work)],
     );
-    print_marked(nodes, from);
+    print_marked(&nodes, from);
 }
 
 // A check with one probe, over so many entries and work bytes.
@@ -337,7 +297,7 @@ fn check(bytes: &[u8], entries: usize, room: usize)
     requires { room ≤ 256 * most_nodes }
 {
     let mut most = [0u8; MOST_WORK];
-    let work = &mut most[0..room];
+    let work = &mut most[..room];
     test_trial::fill(work);
     let nodes = reply_to(bytes, entries, work);
     print_left(nodes, work);
@@ -345,9 +305,8 @@ fn check(bytes: &[u8], entries: usize, room: usize)
 
 // What a search over pairs found, and how many it looked at.
 fn print_search(search: Search) {
-    let found = search.found;
     print_counts(b" looked at#", &[search.looked]);
-    match found {
+    match search.found {
         Found::Single(node, set) => print_counts(b" single##", &[node, set]),
         Found::NoPair => print(b" no pair"),
         Found::Pair(i, j, set) => print_counts(b" pair###", &[i, j, set]),
@@ -361,10 +320,8 @@ fn print_pairs(reply: Result<PairsAnswer, Refusal>) {
     match reply {
         Err(refusal) => print_refusal(refusal),
         Ok(both) => {
-            let answer = both.answer;
-            let search = both.search;
-            print_answer(answer);
-            print_search(search);
+            print_answer(both.answer);
+            print_search(both.search);
         }
     }
 }
@@ -374,12 +331,12 @@ fn check_pairs(bytes: &[u8], limit: usize, entries: usize, room: usize)
     requires { room ≤ 256 * most_nodes }
 {
     let mut most = [0u8; MOST_WORK];
-    let work = &mut most[0..room];
+    let work = &mut most[..room];
     test_trial::fill(work);
     let before = [test_trial::entry_before(); MOST_NODES];
-    let seen = test_trial::check_pairs_over(limit, bytes, entries, before, work);
-    let reply = seen.reply;
-    let nodes = seen.nodes;
+    let SeenPairs { reply, nodes } = test_trial::check_pairs_over(
+        limit, bytes, entries, before, work,
+    );
     print_pairs(reply);
     print_left(nodes, work);
 }
@@ -387,25 +344,21 @@ fn check_pairs(bytes: &[u8], limit: usize, entries: usize, room: usize)
 // The settled value of a node.
 fn value(bytes: &[u8], node: usize, assignment: usize) {
     let reply = queries::settled_value(bytes, node, assignment);
-    let outcome = reply.outcome;
-    print_outcome(b"value of# under#:", node, assignment, outcome);
+    print_outcome(b"value of# under#:", node, assignment, reply.outcome);
     print_yes(reply.value);
 }
 
 // The points that feed a node.
 fn points(bytes: &[u8], node: usize) {
     let reply = queries::feeding_points(bytes, node);
-    let outcome = reply.outcome;
-    let marks = reply.marks;
-    print_outcome(b"points of#:", node, 0, outcome);
-    print_marks(marks);
+    print_outcome(b"points of#:", node, 0, reply.outcome);
+    print_marks(reply.marks);
 }
 
 // Whether the families of a node hold a set.
 fn memberships(bytes: &[u8], node: usize, set: usize) {
     let reply = queries::memberships(bytes, node, set);
-    let outcome = reply.outcome;
-    print_outcome(b"families of# with#:", node, set, outcome);
+    print_outcome(b"families of# with#:", node, set, reply.outcome);
     print_yes(reply.settled);
     print_yes(reply.glitch);
 }
@@ -423,9 +376,8 @@ fn ask(bytes: &[u8], node: usize, number: usize) {
 // The text that a listing of so many bytes left, and from where on it is as it was.
 fn print_listing(text: &[u8], length: usize) {
     let from = test_trial::work_kept_from(text);
-    let shown = least(from, text.len());
     print_byte(b'\n');
-    print(&text[0..shown]);
+    print(&text[..from.min(text.len())]);
     print_counts(b"bytes#, kept from#", &[length, from]);
 }
 
@@ -434,7 +386,7 @@ fn list(bytes: &[u8], room: usize)
     requires { room ≤ most_text }
 {
     let mut most = [0u8; MOST_TEXT];
-    let text = &mut most[0..room];
+    let text = &mut most[..room];
     test_trial::fill(text);
     let length = listing_text::telgouin_listing(bytes, text);
     print_listing(text, length);
@@ -464,12 +416,10 @@ fn print_family(name: &[u8], work: &[u8], part: usize)
 {
     print_byte(b'\n');
     print_counts(name, &[families::size(work, part)]);
-    let mut set = 0;
-    while set < SETS {
+    for set in 0..SETS {
         if families::holds(work, part, set) {
             print_number(set);
         }
-        set += 1;
     }
 }
 
@@ -482,7 +432,7 @@ fn print_families(work: &[u8], i: usize)
 }
 
 // A check, and one node with its families.
-fn node(bytes: &[u8], i: usize)
+fn check_node(bytes: &[u8], i: usize)
     requires { i < most_nodes }
 {
     let mut work = [0u8; MOST_WORK];
@@ -491,31 +441,20 @@ fn node(bytes: &[u8], i: usize)
     print_families(&work, i);
 }
 
-// A byte as a number.
-fn wide(x: u8) -> usize
-    ensures { result < 256 }
-{
-    x as usize
-}
-
-// A step, of five bytes from `from` on.
-fn print_step(steps: &[u8], from: usize)
-    requires { from + 5 ≤ length steps.now }
-{
-    print_number(wide(steps[from]));
-    print_number(wide(steps[from + 1]));
-    print_number(wide(steps[from + 2]));
-    print_number(wide(steps[from + 3]) + 256 * wide(steps[from + 4]));
+// A step.
+fn print_step(step: [u8; 5]) {
+    let [node, layer, rule, low, high] = step;
+    print_number(node as usize);
+    print_number(layer as usize);
+    print_number(rule as usize);
+    print_number(low as usize + 256 * high as usize);
     print_byte(b',');
 }
 
 // The first `count` steps, as far as the slice holds them.
 fn print_steps(steps: &[u8], count: usize) {
-    let whole = least(count, steps.len() / 5);
-    let mut at = 0;
-    while at < whole {
-        print_step(steps, 5 * at);
-        at += 1;
+    for step in steps.as_chunks::<5>().0.iter().take(count) {
+        print_step(*step);
     }
 }
 
@@ -524,7 +463,7 @@ fn derive(bytes: &[u8], node: usize, layer: usize, set: usize, room: usize)
     requires { room ≤ 2565 }
 {
     let mut most = [0u8; MOST_STEPS];
-    let steps = &mut most[0..room];
+    let steps = &mut most[..room];
     test_trial::fill(steps);
     let reply = derivations::derive(bytes, node, layer, set, steps);
     print_byte(b':');
@@ -535,7 +474,7 @@ fn derive(bytes: &[u8], node: usize, layer: usize, set: usize, room: usize)
         }
         Ok(count) => {
             print_counts(b" steps#:", &[count]);
-            print_steps(steps, least(count, SHOWN));
+            print_steps(steps, count.min(SHOWN));
             if count > SHOWN {
                 print(b" ..,");
             }
@@ -561,58 +500,35 @@ struct Span {
     to: usize,
 }
 
-// The span with what stands at `k`, if that changes.
-fn with_place(span: Span, k: usize, changes: bool) -> Span
-    requires { k < 65536 }
+// From where to where two slices are not the same.
+fn span_of<T: Copy, F: Fn(T, T) -> bool>(before: &[T], after: &[T], is_same: F) -> Span
+    requires { F.IsAlwaysCallable is_same }
 {
-    if !changes {
-        return span;
-    }
-    let to = k + 1;
-    if span.to == 0 {
-        return Span { from: k, to };
-    }
-    Span {
-        from: span.from,
-        to,
-    }
-}
-
-// From where to where entries change.
-fn entries_span(before: [NodeRecord; MOST_NODES], after: [NodeRecord; MOST_NODES]) -> Span {
     let mut span = Span { from: 0, to: 0 };
-    let mut i = 0;
-    while i < MOST_NODES {
-        let kept = same_record(before[i], after[i]);
-        span = with_place(span, i, !kept);
-        i += 1;
+    for (k, (old, new)) in before.iter().zip(after).enumerate() {
+        if !is_same(*old, *new) {
+            if span.to == 0 {
+                span.from = k;
+            }
+            span.to = k.saturating_add(1);
+        }
     }
     span
 }
 
 // From where to where work bytes change.
-fn bytes_span(before: [u8; MOST_WORK], after: [u8; MOST_WORK]) -> Span {
-    let mut span = Span { from: 0, to: 0 };
-    let mut k = 0;
-    while k < MOST_WORK {
-        span = with_place(span, k, before[k] != after[k]);
-        k += 1;
-    }
-    span
+fn bytes_span(before: &[u8; MOST_WORK], after: &[u8; MOST_WORK]) -> Span {
+    span_of(before, after, |x, y| x == y)
 }
 
 // What a call gave, and what it changed. Gives the block after it.
-fn print_edited(before: Desk, seen: SeenEdit, work: [u8; MOST_WORK]) -> Desk {
-    let edited = seen.edited;
-    let reply = edited.reply;
+fn print_edited(before: &Desk, seen: SeenEdit, work: [u8; MOST_WORK]) -> Desk {
+    let SeenEdit { edited, nodes } = seen;
     let state = edited.state;
-    let nodes = seen.nodes;
-    let old_nodes = before.nodes;
-    let old_work = before.work;
-    let entries = entries_span(old_nodes, nodes);
-    let bytes = bytes_span(old_work, work);
+    let entries = span_of(&before.nodes, &nodes, same_record);
+    let bytes = bytes_span(&before.work, &work);
     print_byte(b':');
-    print_reply(reply);
+    print_reply(edited.reply);
     print_counts(
         b", state##, changed## and##",
         &[
@@ -624,12 +540,12 @@ fn print_edited(before: Desk, seen: SeenEdit, work: [u8; MOST_WORK]) -> Desk {
             bytes.to,
         ],
     );
-    print_marked(nodes, state.count);
+    print_marked(&nodes, state.count);
     Desk { state, nodes, work }
 }
 
-// The block of the first `digits` digits, opened in slices that hold every block.
-fn open_desk(bytes: [u8; MOST_BLOCK], digits: usize) -> Desk {
+// A block, opened in slices that hold every block.
+fn open_desk(bytes: &[u8]) -> Desk {
     let mut work = [0u8; MOST_WORK];
     test_trial::fill(&mut work);
     let nodes = [test_trial::entry_before(); MOST_NODES];
@@ -643,59 +559,43 @@ fn open_desk(bytes: [u8; MOST_BLOCK], digits: usize) -> Desk {
         nodes,
         work,
     };
-    let length = least(digits / 2, MOST_BLOCK);
-    let seen = test_trial::open_over(&bytes[0..length], MOST_NODES, nodes, &mut work);
-    print_edited(before, seen, work)
+    let seen = test_trial::open_over(bytes, MOST_NODES, nodes, &mut work);
+    print_edited(&before, seen, work)
 }
 
-// One edit of an open block, with the first `digits` digits as its record, in slices of these lengths.
-fn one_edit(
-    desk: Desk,
-    edit: Edit,
-    bytes: [u8; MOST_BLOCK],
-    digits: usize,
-    entries: usize,
-    room: usize,
-) -> Desk
+// One edit of an open block, with the bytes of a record, in slices of these lengths.
+fn one_edit(desk: &Desk, edit: Edit, record: &[u8], entries: usize, room: usize) -> Desk
     requires { room ≤ 256 * most_nodes }
 {
-    let state = desk.state;
-    let nodes = desk.nodes;
     let mut work = desk.work;
-    let length = least(digits / 2, MOST_BLOCK);
     let seen = test_trial::edit_over(
-        state,
+        desk.state,
         edit,
-        &bytes[0..length],
+        record,
         entries,
-        nodes,
-        &mut work[0..room],
+        desk.nodes,
+        &mut work[..room],
     );
     print_edited(desk, seen, work)
 }
 
 // The edits of a block, with a blank before each: what the sign of a word says, with the digits behind it.
-fn edits(bytes: [u8; MOST_BLOCK], digits: usize, words: &[u8], entries: usize, room: usize)
+fn edits(bytes: &[u8], words: &[u8], entries: usize, room: usize)
     requires { room ≤ 256 * most_nodes }
 {
-    let mut desk = open_desk(bytes, digits);
-    let mut at = 0;
-    while at < words.len() {
-        let from = at + 1;
-        at = find(words, from, b' ');
-        if from < at {
-            let behind = from + 1;
-            let mut edit = Edit::Add;
-            let mut record = [0u8; MOST_BLOCK];
-            let mut length = 0;
-            if words[from] == b'-' {
-                edit = Edit::Remove(decimal(&words[behind..at]));
+    let mut desk = open_desk(bytes);
+    for word in behind_first(words).split(|x| *x == b' ') {
+        if let Some((sign, digits)) = word.split_first() {
+            let mut record = Digits::none();
+            let edit = if *sign == b'-' {
+                Edit::Remove(decimal(digits))
             } else {
-                length = put_digits(&mut record, 0, &words[behind..at]);
-            }
+                record.put_digits(digits);
+                Edit::Add
+            };
             print_byte(b'\n');
-            print(&words[from..at]);
-            desk = one_edit(desk, edit, record, length, entries, room);
+            print(word);
+            desk = one_edit(&desk, edit, record.bytes(), entries, room);
         }
     }
 }
@@ -705,34 +605,25 @@ fn edits(bytes: [u8; MOST_BLOCK], digits: usize, words: &[u8], entries: usize, r
 // Takes every set out of a part.
 fn clear_part(work: &mut [u8; MOST_WORK], part: usize) {
     let from = part % PARTS * PART;
-    let mut j = 0;
-    while j < PART {
-        work[from + j] = 0;
-        j += 1;
-    }
+    work[from..from + PART].fill(0);
 }
 
 // Puts the sets from one to another into a part.
-fn put_range(work: &mut [u8; MOST_WORK], part: usize, from: usize, to: usize)
-    requires { to < 1024 }
-{
-    let mut set = from;
-    while set <= to {
-        let at = part % PARTS * PART + set / 8 % PART;
-        work[at] = work[at] | (1u8 << (set % 8));
-        set += 1;
+fn put_range(work: &mut [u8; MOST_WORK], part: usize, from: usize, to: usize) {
+    for set in from..=to {
+        work[part % PARTS * PART + set / 8 % PART] |= 1u8 << (set % 8);
     }
 }
 
 // A set, or the first and the last of several with a dash between them.
 fn put_sets(work: &mut [u8; MOST_WORK], part: usize, word: &[u8]) {
-    let dash = find(word, 0, b'-');
-    let from = decimal(&word[0..dash]);
-    let mut to = from;
-    if dash < word.len() {
-        let behind = dash + 1;
-        to = decimal(&word[behind..]);
-    }
+    let (from, to) = match cut(word, b'-') {
+        Some((first, last)) => (decimal(first), decimal(last)),
+        None => {
+            let set = decimal(word);
+            (set, set)
+        }
+    };
     if to < SETS {
         put_range(work, part, from, to);
     } else {
@@ -742,25 +633,16 @@ fn put_sets(work: &mut [u8; MOST_WORK], part: usize, word: &[u8]) {
 
 // Puts sets, with a blank before each word, into a part.
 fn put_family(work: &mut [u8; MOST_WORK], part: usize, words: &[u8]) {
-    let mut at = 0;
-    while at < words.len() {
-        let from = at + 1;
-        at = find(words, from, b' ');
-        if from < at {
-            put_sets(work, part, &words[from..at]);
+    for word in behind_first(words).split(|x| *x == b' ') {
+        if !word.is_empty() {
+            put_sets(work, part, word);
         }
     }
 }
 
 // Whether the set at a place of a list is the one behind the set before it.
-fn follows(sets: [u16; MOST_LIST], k: usize) -> bool {
-    if k == 0 {
-        return false;
-    }
-    if k >= MOST_LIST {
-        return false;
-    }
-    wrapping_add_u16(sets[k - 1], 1) == sets[k]
+fn follows(sets: &[u16; MOST_LIST], k: usize) -> bool {
+    k > 0 && k < MOST_LIST && sets[k - 1].wrapping_add(1) == sets[k]
 }
 
 // A set of a list, unless it follows the one before it and the next one follows it.
@@ -777,25 +659,23 @@ fn print_set(set: u16, joined: bool, more: bool) {
 
 // The entries of a list that are written; of those that follow each other the first and the last, with a dash between
 // them.
-fn print_listed(sets: [u16; MOST_LIST]) {
-    let mut k = 0;
-    while k < MOST_LIST {
+fn print_listed(sets: &[u16; MOST_LIST]) {
+    for k in 0..MOST_LIST {
         if sets[k] != NO_SET {
             print_set(sets[k], follows(sets, k), follows(sets, k + 1));
         }
-        k += 1;
     }
 }
 
 // A family's name and size, how many sets are listed, and the list.
-fn print_list(name: &[u8], work: [u8; MOST_WORK], part: usize)
+fn print_list(name: &[u8], work: &[u8; MOST_WORK], part: usize)
     requires { part < 400 }
 {
     let mut sets = [NO_SET; MOST_LIST];
-    let listed = family_lists::list_sets(&work, part, &mut sets);
+    let listed = family_lists::list_sets(work, part, &mut sets);
     print_byte(b'\n');
-    print_counts(name, &[families::size(&work, part), listed]);
-    print_listed(sets);
+    print_counts(name, &[families::size(work, part), listed]);
+    print_listed(&sets);
 }
 
 // The product of two families, and what a gate makes of it.
@@ -807,12 +687,12 @@ fn product(before: [u8; MOST_WORK], first: usize, second: usize, into: usize)
     let tried = family_products::product(&mut work, into, first, second);
     family_products::spread(&mut wide, into, first, second);
     print_counts(b": pairs#", &[tried]);
-    print_list(b"first#, listed#:", work, first);
-    print_list(b"second#, listed#:", work, second);
-    print_list(b"product#, listed#:", work, into);
-    print_list(b"spread#, listed#:", wide, into);
-    let made = bytes_span(before, work);
-    let spread = bytes_span(before, wide);
+    print_list(b"first#, listed#:", &work, first);
+    print_list(b"second#, listed#:", &work, second);
+    print_list(b"product#, listed#:", &work, into);
+    print_list(b"spread#, listed#:", &wide, into);
+    let made = bytes_span(&before, &work);
+    let spread = bytes_span(&before, &wide);
     print_counts(
         b", changed## and##",
         &[made.from, made.to, spread.from, spread.to],
@@ -821,134 +701,41 @@ fn product(before: [u8; MOST_WORK], first: usize, second: usize, into: usize)
 
 // ---- lines
 
-// Runs a command of four numbers; answers whether there is such a command, and the numbers are within its limits.
-fn run_four(command: &[u8], bytes: &[u8], numbers: Numbers) -> bool {
-    if same(command, b"derive") {
-        if numbers.last > MOST_STEPS {
-            return false;
+// Runs a command on a block; answers whether there is such a command of so many numbers, and they are within its
+// limits.
+fn run_command(command: &[u8], numbers: Numbers, bytes: &[u8]) -> bool {
+    let [node, limit, first, last] = numbers.last;
+    match (numbers.count, command) {
+        (1, b"points") => points(bytes, last),
+        (1, b"list") if last <= MOST_TEXT => list(bytes, last),
+        (1, b"node") if last < MOST_NODES => check_node(bytes, last),
+        (2, b"check") if first <= MOST_NODES && last <= MOST_WORK => check(bytes, first, last),
+        (2, b"ask") => ask(bytes, first, last),
+        (2, b"value") => value(bytes, first, last),
+        (3, b"pairs") if first <= MOST_NODES && last <= MOST_WORK => {
+            check_pairs(bytes, limit, first, last)
         }
-        derive(
-            bytes,
-            numbers.node,
-            numbers.limit,
-            numbers.first,
-            numbers.last,
-        );
-        return true;
+        (4, b"derive") if last <= MOST_STEPS => derive(bytes, node, limit, first, last),
+        _ => return false,
     }
-    false
-}
-
-// The same of three numbers.
-fn run_three(command: &[u8], bytes: &[u8], limit: usize, first: usize, last: usize) -> bool {
-    if same(command, b"pairs") {
-        if first > MOST_NODES {
-            return false;
-        }
-        if last > MOST_WORK {
-            return false;
-        }
-        check_pairs(bytes, limit, first, last);
-        return true;
-    }
-    false
-}
-
-// The same of two numbers.
-fn run_two(command: &[u8], bytes: &[u8], first: usize, last: usize) -> bool {
-    if same(command, b"check") {
-        if first > MOST_NODES {
-            return false;
-        }
-        if last > MOST_WORK {
-            return false;
-        }
-        check(bytes, first, last);
-        return true;
-    }
-    if same(command, b"ask") {
-        ask(bytes, first, last);
-        return true;
-    }
-    if same(command, b"value") {
-        value(bytes, first, last);
-        return true;
-    }
-    false
-}
-
-// The same of one number.
-fn run_one(command: &[u8], bytes: &[u8], number: usize) -> bool {
-    if same(command, b"points") {
-        points(bytes, number);
-        return true;
-    }
-    if same(command, b"list") {
-        if number > MOST_TEXT {
-            return false;
-        }
-        list(bytes, number);
-        return true;
-    }
-    if same(command, b"node") {
-        if number >= MOST_NODES {
-            return false;
-        }
-        node(bytes, number);
-        return true;
-    }
-    false
-}
-
-// Runs a command on the block of the first `digits` digits.
-fn run_command(command: &[u8], numbers: Numbers, bytes: [u8; MOST_BLOCK], digits: usize) -> bool {
-    if digits > MOST_DIGITS {
-        return false;
-    }
-    if digits % 2 == 1 {
-        return false;
-    }
-    let length = digits / 2;
-    let block = &bytes[0..length];
-    let count = numbers.count;
-    match count {
-        1 => run_one(command, block, numbers.last),
-        2 => run_two(command, block, numbers.first, numbers.last),
-        3 => run_three(command, block, numbers.limit, numbers.first, numbers.last),
-        4 => run_four(command, block, numbers),
-        _ => false,
-    }
+    true
 }
 
 // Runs edits of a block, whose records are the words.
 fn run_edits(numbers: Numbers, words: &[u8], edited: &[u8]) -> bool {
-    let mut bytes = [0u8; MOST_BLOCK];
-    let digits = put_block(&mut bytes, words);
-    if digits > MOST_DIGITS {
+    let [_, _, entries, room] = numbers.last;
+    let block = block_of(words);
+    if block.count.is_none() || entries > MOST_NODES || room > MOST_WORK {
         return false;
     }
-    if numbers.first > MOST_NODES {
-        return false;
-    }
-    if numbers.last > MOST_WORK {
-        return false;
-    }
-    edits(bytes, digits, edited, numbers.first, numbers.last);
+    edits(block.bytes(), edited, entries, room);
     true
 }
 
 // Runs a product of families of two lists of sets.
 fn run_product(numbers: Numbers, rows: &[u8], columns: &[u8]) -> bool {
-    let first = numbers.limit;
-    let second = numbers.first;
-    let into = numbers.last;
-    if into >= PARTS {
-        return false;
-    }
-    if first >= into {
-        return false;
-    }
-    if second >= into {
+    let [_, first, second, into] = numbers.last;
+    if into >= PARTS || first >= into || second >= into {
         return false;
     }
     let mut work = [170u8; MOST_WORK];
@@ -960,61 +747,67 @@ fn run_product(numbers: Numbers, rows: &[u8], columns: &[u8]) -> bool {
     true
 }
 
-// Runs a case of edits, or else of a product, on two fields, of which the first ends at a colon.
-fn run_fields(of_edits: bool, numbers: Numbers, fields: &[u8], colon: usize) -> bool
-    requires { colon ≤ length fields.now }
+// The first field, the second, and the case's name, where a case has two fields.
+fn two_fields(fields: &[u8]) -> Option<(&[u8], &[u8], &[u8])> {
+    let (first, behind) = cut(fields, b':')?;
+    let (second, name) = cut(behind, b':').unwrap_or((behind, &[]));
+    Some((first, second, name))
+}
+
+// Runs a case of two fields.
+fn run_fields<F>(fields: &[u8], run: F) -> bool
+where
+    F: Fn(&[u8], &[u8]) -> bool,
+    requires { F.IsAlwaysCallable run }
 {
-    if colon == fields.len() {
+    let Some((first, second, name)) = two_fields(fields) else {
         return false;
-    }
-    let from = colon + 1;
-    let to = find(fields, from, b':');
-    print_behind(fields, to);
-    if of_edits {
-        return run_edits(numbers, &fields[0..colon], &fields[from..to]);
-    }
-    run_product(numbers, &fields[0..colon], &fields[from..to])
+    };
+    print(behind_first(name));
+    run(first, second)
 }
 
 // Runs a case by its command, its numbers and what stands behind the colon: one field or two, and the case's name.
 fn run_case(command: &[u8], numbers: Numbers, fields: &[u8]) -> bool {
-    let colon = find(fields, 0, b':');
-    if same(command, b"edits") {
-        return run_fields(true, numbers, fields, colon);
+    if command == b"edits".as_slice() {
+        return run_fields(fields, |words, edited| run_edits(numbers, words, edited));
     }
-    if same(command, b"product") {
-        return run_fields(false, numbers, fields, colon);
+    if command == b"product".as_slice() {
+        return run_fields(fields, |rows, columns| run_product(numbers, rows, columns));
     }
-    let mut bytes = [0u8; MOST_BLOCK];
-    let digits = put_block(&mut bytes, &fields[0..colon]);
-    print_behind(fields, colon);
-    run_command(command, numbers, bytes, digits)
+    let (words, name) = cut(fields, b':').unwrap_or((fields, &[]));
+    let block = block_of(words);
+    print(behind_first(name));
+    match block.count {
+        Some(digits) if digits % 2 == 0 => run_command(command, numbers, block.bytes()),
+        _ => false,
+    }
+}
+
+// The command of a line, its numbers, and what stands behind the colon.
+fn parts_of(line: &[u8]) -> Option<(&[u8], &[u8], &[u8])> {
+    let (command, behind) = cut(line, b' ')?;
+    let (words, fields) = cut(behind, b':')?;
+    Some((command, words, fields))
 }
 
 // Runs the case of a line; answers whether it is understood.
 fn is_understood(line: &[u8]) -> bool {
-    let end = find(line, 0, b' ');
-    let colon = find(line, end, b':');
-    if colon == line.len() {
-        return false;
+    match parts_of(line) {
+        Some((command, words, fields)) => run_case(command, numbers_of(words), fields),
+        None => false,
     }
-    let from = colon + 1;
-    let numbers = numbers_of(&line[end..colon]);
-    run_case(&line[0..end], numbers, &line[from..])
 }
 
 // A line: for the reader, to be printed, or a case.
 fn run_line(line: &[u8]) {
-    if line.len() == 0 {
-        return;
-    }
-    match line[0] {
-        b'#' => {}
-        b'=' => {
-            print_behind(line, 0);
+    match line.first() {
+        None | Some(b'#') => {}
+        Some(b'=') => {
+            print(behind_first(behind_first(line)));
             print_byte(b'\n');
         }
-        _ => {
+        Some(_) => {
             if is_understood(line) {
                 print_byte(b'\n');
             } else {
@@ -1025,21 +818,16 @@ fn run_line(line: &[u8]) {
 }
 
 // Every line of a text.
-fn run_lines(text: &[u8])
-    requires { length text.now ≤ 65536 }
-{
-    let mut at = 0;
-    while at < text.len() {
-        let end = find(text, at, b'\n');
-        run_line(&text[at..end]);
-        at = end + 1;
+fn run_lines(text: &[u8]) {
+    for line in text.split(|x| *x == b'\n') {
+        run_line(line);
     }
 }
 
 fn main() {
     let mut text = [0u8; MOST_INPUT];
     let count = io::read_full(STDIN, &mut text);
-    run_lines(&text[0..count]);
+    run_lines(&text[..count]);
     if count == MOST_INPUT {
         print(b"standard input is too long\n");
     }

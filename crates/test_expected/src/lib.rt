@@ -5,25 +5,14 @@
 #![tactic(auto)]
 
 use rules::{Half, NodeRecord, Answer, Refusal};
-use std::num::wrapping_add_usize;
-use test_generator::{least, next, pick};
-use test_second_checker::{
-    FirstPair, LISTS, NONE, SecondBlock, Store, first_pair, first_suspect, length_of, number_if,
-    set_at,
-};
+use test_generator::{next, pick};
+use test_second_checker::{Fault, List, Pair, Second, SecondBlock};
 use test_tools::same_record;
 
 pub mod written;
 
 // The work bytes, of which a check is lent the front.
 pub type Work = [u8; 51200];
-
-// A refusal's number and place; number 0 where there is none.
-#[derive(Clone, Copy)]
-pub struct Expected {
-    pub number: usize,
-    pub place: usize,
-}
 
 // How many entries and work bytes are lent.
 #[derive(Clone, Copy)]
@@ -36,117 +25,107 @@ pub struct Lent {
 pub fn lengths_for(seed: u32, nodes: usize) -> Lent {
     let second = next(seed);
     let third = next(second);
-    let needed = nodes % 256 * 256;
+    let needed = nodes.saturating_mul(256);
     match pick(seed, 8) {
         0 => Lent {
             entries: pick(second, nodes),
-            work: pick(third, needed + 1),
+            work: pick(third, needed.saturating_add(1)),
         },
         1 => Lent {
             entries: nodes,
             work: pick(third, needed),
         },
-        2 | 3 | 4 => Lent {
+        2..=4 => Lent {
             entries: nodes,
             work: needed,
         },
         _ => Lent {
-            entries: least(200, nodes % 256 + pick(second, 3)),
-            work: least(51200, needed + pick(third, 300)),
+            entries: nodes.saturating_add(pick(second, 3)).min(200),
+            work: needed.saturating_add(pick(third, 300)).min(51200),
         },
     }
 }
 
-// The refusal of slices that are to hold so many nodes, if they are too short.
-pub fn slices(nodes: usize, lent: Lent) -> Expected {
-    let needed = nodes % 256 * 256;
+// Refuses slices that are to hold so many nodes, if they are too short.
+pub fn slices(nodes: usize, lent: Lent) -> Result<(), Fault> {
+    let needed = nodes.saturating_mul(256);
     if lent.entries < nodes {
-        return Expected {
+        return Err(Fault {
             number: 10,
             place: nodes,
-        };
+        });
     }
-    Expected {
-        number: number_if(lent.work < needed, 11),
-        place: needed,
+    if lent.work < needed {
+        return Err(Fault {
+            number: 11,
+            place: needed,
+        });
+    }
+    Ok(())
+}
+
+// What a check of a block is refused with, if it is.
+pub fn expected_check(block: &SecondBlock, lent: Lent) -> Result<(), Fault> {
+    match block.fault {
+        Some(fault) => Err(fault),
+        None => slices(block.count(), lent),
     }
 }
 
-// What a check of a block is refused with.
-pub fn expected_check(block: SecondBlock, lent: Lent) -> Expected {
-    if block.fault > 0 {
-        return Expected {
-            number: block.fault,
-            place: block.start,
-        };
-    }
-    slices(block.count, lent)
-}
+// A suspect as a half names it: its node and its set.
+pub type Suspect = Option<(usize, usize)>;
 
-// A half as the second checker gives it.
-pub fn half_number(half: Half) -> usize {
+// A half of an answer.
+pub fn suspect_of(half: Half) -> Suspect {
     match half {
-        Half::Clear => NONE,
-        Half::Suspect(node, set) => {
-            if (node > 199) | (set > 1023) {
-                return NONE + 1;
-            }
-            node % 200 * 1024 + set % 1024
-        }
+        Half::Clear => None,
+        Half::Suspect(node, set) => Some((node, set)),
     }
 }
 
-// A reply in numbers: a refusal's number and place, or 0 with the counts and halves of the answer.
-pub type Numbers = [usize; 5];
+// An answer: its counts and its halves.
+#[derive(Clone, Copy, PartialEq, Eq)]
+pub struct Answered {
+    pub variables: usize,
+    pub nodes: usize,
+    pub settled: Suspect,
+    pub glitch: Suspect,
+}
 
-// The numbers of a reply.
-pub fn reply_numbers(reply: Result<Answer, Refusal>) -> Numbers {
+// A reply: the answer, or the refusal.
+pub type Outcome = Result<Answered, Fault>;
+
+// The product's reply.
+pub fn outcome_of(reply: Result<Answer, Refusal>) -> Outcome {
     match reply {
-        Err(refusal) => [refusals::number_of(refusal), refusal.place, 0, 0, 0],
-        Ok(answer) => {
-            let settled = answer.settled;
-            let glitch = answer.glitch;
-            [
-                0,
-                answer.variables,
-                answer.nodes,
-                half_number(settled),
-                half_number(glitch),
-            ]
-        }
+        Err(refusal) => Err(Fault {
+            number: refusals::number_of(refusal),
+            place: refusal.place,
+        }),
+        Ok(answer) => Ok(Answered {
+            variables: answer.variables,
+            nodes: answer.nodes,
+            settled: suspect_of(answer.settled),
+            glitch: suspect_of(answer.glitch),
+        }),
     }
 }
 
-// The reply that is to come, where a check of the block is to be refused so, or answered.
-pub fn expected_numbers(expected: Expected, block: SecondBlock, store: &Store) -> Numbers {
-    if expected.number > 0 {
-        return [expected.number, expected.place, 0, 0, 0];
+// The answer that is to come.
+pub fn expected_answer(second: &Second) -> Answered {
+    Answered {
+        variables: second.block.variables,
+        nodes: second.block.count(),
+        settled: second.first_suspect(0),
+        glitch: second.first_suspect(1),
     }
-    [
-        0,
-        block.variables,
-        block.count,
-        first_suspect(block, store, 0),
-        first_suspect(block, store, 1),
-    ]
-}
-
-// Whether two replies are the same.
-pub fn same_numbers(a: Numbers, b: Numbers) -> bool {
-    (a[0] == b[0]) & (a[1] == b[1]) & (a[2] == b[2]) & (a[3] == b[3]) & (a[4] == b[4])
 }
 
 // ---- node records
 
-// Whether the first `written` of two slices' entries are the same, marks included.
-pub fn same_entries(a: [NodeRecord; 200], b: [NodeRecord; 200], written: usize) -> bool {
-    let mut same = true;
-    let mut i = 0;
-    while i < 200 {
-        same = same & (same_record(a[i], b[i]) | (i >= written));
-        i += 1;
-    }
-    same
+// Whether two slices' entries are the same, marks included.
+pub fn same_entries(a: &[NodeRecord], b: &[NodeRecord]) -> bool {
+    a.len() == b.len() && a.iter().zip(b).all(|(x, y)| same_record(*x, *y))
 }
 
 // How many nodes are marked for settled signals, for glitching ones, and for these alone; how many have two marks that
@@ -160,141 +139,105 @@ pub struct Marked {
     pub registers: usize,
 }
 
-// What was counted, with a node.
-fn with_marks(marked: Marked, held: NodeRecord) -> Marked {
-    let node = held.node;
-    let settled = held.settled != 0;
-    let glitch = held.glitch != 0;
-    Marked {
-        settled: wrapping_add_usize(marked.settled, number_if(settled, 1)),
-        glitch: wrapping_add_usize(marked.glitch, number_if(glitch, 1)),
-        glitch_alone: wrapping_add_usize(marked.glitch_alone, number_if(glitch & !settled, 1)),
-        unlike: wrapping_add_usize(
-            marked.unlike,
-            number_if(glitch & settled & (held.settled != held.glitch), 1),
-        ),
-        registers: wrapping_add_usize(marked.registers, number_if(glitch & (node.kind == 7), 1)),
-    }
+// How many of some records are such.
+fn count_of<F: Fn(&NodeRecord) -> bool>(records: &[NodeRecord], is_such: F) -> usize
+    requires { F.IsAlwaysCallable is_such }
+{
+    records.iter().filter(|held| is_such(*held)).count()
 }
 
-// The nodes from `from` on and below `to`, counted by their marks.
-pub fn marked_of(records: [NodeRecord; 200], from: usize, to: usize) -> Marked {
-    let mut marked = Marked {
-        settled: 0,
-        glitch: 0,
-        glitch_alone: 0,
-        unlike: 0,
-        registers: 0,
-    };
-    let mut i = 0;
-    while i < 200 {
-        if (from <= i) & (i < to) {
-            marked = with_marks(marked, records[i]);
-        }
-        i += 1;
+// Some nodes, counted by their marks.
+pub fn marked_of(records: &[NodeRecord]) -> Marked {
+    Marked {
+        settled: count_of(records, |held| held.settled != 0),
+        glitch: count_of(records, |held| held.glitch != 0),
+        glitch_alone: count_of(records, |held| held.glitch != 0 && held.settled == 0),
+        unlike: count_of(records, |held| {
+            held.glitch != 0 && held.settled != 0 && held.settled != held.glitch
+        }),
+        registers: count_of(records, |held| held.glitch != 0 && held.node.kind == 7),
     }
-    marked
 }
 
 // ---- families
 
-// Takes the sets of a list out of its family in the work bytes. A set that is not there goes in.
-fn take_out(work: &mut Work, store: &Store, list: usize) {
-    let many = length_of(store, list);
-    let part = list % 200 * 256 + list / 200 % 2 * 128;
-    let mut k = 0;
-    while k < many {
-        let set = set_at(store, list, k) % 1024;
-        work[part + set / 8] = work[part + set / 8] ^ (1u8 << (set % 8));
-        k += 1;
+// Takes the sets of a list out of the family at a part of the work bytes. A set that is not there goes in.
+fn take_out(work: &mut Work, part: usize, list: &List) {
+    for set in list.sets() {
+        work[part % 400 * 128 + (set / 8) as usize % 128] ^= 1u8 << (set % 8);
     }
 }
 
 // Whether the families in the work bytes of an answered block are not the lists: with all sets of the lists taken out,
 // a bit is left.
-pub fn families_differ(work: &mut Work, store: &Store, count: usize) -> bool {
-    let mut list = 0;
-    while list < LISTS {
-        take_out(work, store, list);
-        list += 1;
+pub fn families_differ(mut work: Work, second: &Second) -> bool {
+    let count = second.block.count();
+    for i in 0..count {
+        take_out(&mut work, 2 * i, second.family(0, i));
+        take_out(&mut work, 2 * i + 1, second.family(1, i));
     }
-    let mut left = 0;
-    let mut k = 0;
-    while k < 51200 {
-        if k / 256 < count {
-            left = left | work[k];
-        }
-        k += 1;
-    }
-    left != 0
+    work[..256 * count].iter().any(|byte| *byte != 0)
 }
 
 // ---- the search over pairs
 
 // What a search finds. With no pair to look at it finds no pair, too.
-pub const SINGLE: usize = 0;
+#[derive(Clone, Copy)]
+pub enum Finds {
+    Single(usize, usize),
+    NoPair,
+    Pair(Pair),
+    Spent,
+    Nothing,
+}
 
-pub const NO_PAIR: usize = 1;
-
-pub const PAIR: usize = 2;
-
-pub const SPENT: usize = 3;
-
-pub const NOTHING_TO_LOOK_AT: usize = 4;
-
-// A search as the second checker has it: the first suspect node and pair, and what is found and looked at under a
-// limit.
+// A search as the second checker has it: how many pairs there are, the first suspect one, and what is found and looked
+// at under a limit.
 #[derive(Clone, Copy)]
 pub struct Sought {
-    pub single: usize,
-    pub first: FirstPair,
+    pub pairs: usize,
+    pub first: Option<Pair>,
     pub limit: usize,
-    pub finds: usize,
+    pub finds: Finds,
     pub looked: usize,
 }
 
-// A limit: none or one, about the first suspect pair, about the number of pairs, the highest there is, or any.
-fn limit_for(seed: u32, first: FirstPair) -> usize {
-    let position = first.position % 65536;
-    let pairs = first.pairs % 65536;
+// A limit: none or one, about the position of the first suspect pair, about the number of pairs, the highest there is,
+// or any.
+fn limit_for(seed: u32, position: usize, pairs: usize) -> usize {
     match pick(seed, 12) {
         0 => 0,
         1 => 1,
-        2 | 3 => position - least(position, 1),
+        2 | 3 => position.saturating_sub(1),
         4 | 5 => position,
-        6 => position + 1,
-        7 => pairs - least(pairs, 1),
+        6 => position.saturating_add(1),
+        7 => pairs.saturating_sub(1),
         8 => pairs,
-        9 => pairs + 1,
-        10 => 18446744073709551615,
-        _ => pick(next(seed), pairs + 2),
+        9 => pairs.saturating_add(1),
+        10 => usize::MAX,
+        _ => pick(next(seed), pairs.saturating_add(2)),
     }
 }
 
 // The search of a block under a limit: first the pair, and only then the limit.
-pub fn seek(seed: u32, block: SecondBlock, store: &Store) -> Sought {
-    let single = first_suspect(block, store, 1);
-    let first = first_pair(block, store);
-    let limit = limit_for(seed, first);
-    let mut finds = NO_PAIR;
-    let mut looked = first.pairs;
-    if first.pairs == 0 {
-        finds = NOTHING_TO_LOOK_AT;
-    }
-    if limit < first.pairs {
-        finds = SPENT;
-        looked = limit;
-    }
-    if (first.position <= first.pairs) & (first.position <= limit) {
-        finds = PAIR;
-        looked = first.position;
-    }
-    if single != NONE {
-        finds = SINGLE;
-        looked = 0;
-    }
+pub fn seek(seed: u32, second: &Second) -> Sought {
+    let pairs = second.pairs();
+    let first = second.first_pair();
+    let limit = limit_for(seed, first.map_or(pairs + 1, |pair| pair.position), pairs);
+    let within = first.filter(|pair| pair.position <= limit);
+    let (finds, looked) = if let Some((node, set)) = second.first_suspect(1) {
+        (Finds::Single(node, set), 0)
+    } else if let Some(pair) = within {
+        (Finds::Pair(pair), pair.position)
+    } else if limit < pairs {
+        (Finds::Spent, limit)
+    } else if pairs > 0 {
+        (Finds::NoPair, pairs)
+    } else {
+        (Finds::Nothing, 0)
+    };
     Sought {
-        single,
+        pairs,
         first,
         limit,
         finds,

@@ -2,14 +2,7 @@
 // what it makes owes nothing to what is tested. For the test programs `test_random_*`.
 #![tactic(auto)]
 
-ghost use Rattle.std.specs.Prelude.{◌≡◌, ◌<◌, min};
-
-// The lesser of two numbers.
-pub fn least(a: usize, b: usize) -> usize
-    ensures { result ≡ min a b }
-{
-    if a < b { a } else { b }
-}
+ghost use Rattle.std.specs.Prelude.{◌<◌};
 
 // A mix of kinds, of which each node gets one: every kind alike; more registers and XORs, as in masked blocks; no
 // registers; more registers and inputs; mostly registers and XORs; gates of two operands alone; and XORs, with a
@@ -55,49 +48,70 @@ pub fn plain(seed: u32, variables: usize, nodes: usize, mix: Mix) -> Shape {
 
 // The masked mix, but another one once in n times.
 pub fn masked_or(mix: Mix, n: usize, seed: u32) -> Mix {
-    if pick(seed, n) > 0 {
-        return Mix::Masked;
-    }
-    mix
+    if pick(seed, n) > 0 { Mix::Masked } else { mix }
 }
+
+// The kinds of nodes, as the bytes of their records.
+const INPUT: u8 = 2;
+
+const NOT: u8 = 3;
+
+const XOR: u8 = 4;
+
+const AND: u8 = 5;
+
+const OR: u8 = 6;
+
+const REGISTER: u8 = 7;
 
 // The kinds of a mix, each as often as a node is to get it in twelve.
 fn kinds_of(mix: Mix) -> [u8; 12] {
     match mix {
-        Mix::Even => [2, 3, 4, 5, 6, 7, 2, 3, 4, 5, 6, 7],
-        Mix::Masked => [2, 2, 3, 4, 4, 4, 5, 6, 7, 7, 7, 7],
-        Mix::Dense => [2, 2, 3, 4, 4, 4, 4, 4, 5, 5, 6, 6],
-        Mix::Registered => [2, 2, 2, 3, 4, 5, 6, 7, 7, 7, 7, 7],
-        Mix::Long => [2, 3, 4, 4, 4, 4, 7, 7, 7, 7, 7, 7],
-        Mix::Gates => [4, 5, 6, 4, 5, 6, 4, 4, 5, 5, 6, 6],
-        Mix::Xors => [3, 4, 4, 4, 4, 4, 4, 4, 4, 4, 4, 7],
+        Mix::Even => [
+            INPUT, NOT, XOR, AND, OR, REGISTER, INPUT, NOT, XOR, AND, OR, REGISTER,
+        ],
+        Mix::Masked => [
+            INPUT, INPUT, NOT, XOR, XOR, XOR, AND, OR, REGISTER, REGISTER, REGISTER, REGISTER,
+        ],
+        Mix::Dense => [INPUT, INPUT, NOT, XOR, XOR, XOR, XOR, XOR, AND, AND, OR, OR],
+        Mix::Registered => [
+            INPUT, INPUT, INPUT, NOT, XOR, AND, OR, REGISTER, REGISTER, REGISTER, REGISTER,
+            REGISTER,
+        ],
+        Mix::Long => [
+            INPUT, NOT, XOR, XOR, XOR, XOR, REGISTER, REGISTER, REGISTER, REGISTER, REGISTER,
+            REGISTER,
+        ],
+        Mix::Gates => [XOR, AND, OR, XOR, AND, OR, XOR, XOR, AND, AND, OR, OR],
+        Mix::Xors => [
+            NOT, XOR, XOR, XOR, XOR, XOR, XOR, XOR, XOR, XOR, XOR, REGISTER,
+        ],
     }
 }
 
 // Whether every input of a mix is to have a variable other than variable 0, mostly a mask.
 fn has_masked_inputs(mix: Mix) -> bool {
-    match mix {
-        Mix::Even | Mix::Dense => false,
-        _ => true,
-    }
+    !matches!(mix, Mix::Even | Mix::Dense)
 }
 
 // A block as far as it is made, and the state after it. There is room for the longest one, with what a fault may add.
 #[derive(Clone, Copy)]
 pub struct Made {
     pub seed: u32,
-    pub length: usize,
+    length: usize,
     bytes: [u8; 1024],
 }
 
-// The bytes of a block that is made.
-pub fn bytes_of(made: Made) -> [u8; 1024] {
-    made.bytes
+impl Made {
+    // The bytes of the block.
+    pub fn bytes(&self) -> &[u8] {
+        &self.bytes[..self.length.min(1024)]
+    }
 }
 
 // The next state of the generator.
 pub fn next(seed: u32) -> u32 {
-    (((seed as u64) * 1664525 + 1013904223) % 4294967296) as u32
+    seed.wrapping_mul(1664525).wrapping_add(1013904223)
 }
 
 // A number below n that a state stands for, or 0 where n is 0. The upper half of the state serves, whose period is
@@ -133,12 +147,10 @@ fn variables(shape: Shape) -> Made {
         length: shape.variables % 512 * 2,
         bytes: [0; 1024],
     };
-    let mut v = 0;
-    while v < shape.variables {
+    for v in 0..shape.variables {
         made.seed = next(made.seed);
         made.bytes[v % 512 * 2] = 1;
         made.bytes[v % 512 * 2 + 1] = class_of(shape.open, v, made.seed);
-        v += 1;
     }
     made.bytes[1] = 0;
     made
@@ -147,7 +159,7 @@ fn variables(shape: Shape) -> Made {
 // The operands of gate i as two bytes, low first. In an open block they are the two nodes before it.
 fn operands_of(shape: Shape, i: usize, seed: u32) -> usize {
     let above = i % 256;
-    let low = above - least(shape.near, above);
+    let low = above - shape.near.min(above);
     if shape.open > 0 {
         return low + 256 * (low + 1);
     }
@@ -160,15 +172,11 @@ fn set_of(shape: Shape, i: usize, seed: u32) -> usize {
     let labels = shape.labels % 16;
     let any = pick(seed, 1usize << labels);
     let other = next(seed);
-    let mix = shape.mix;
-    if !has_masked_inputs(mix) {
-        return any;
-    }
-    if labels < 2 {
+    if !has_masked_inputs(shape.mix) || labels < 2 {
         return any;
     }
     if shape.open > 0 {
-        let open = least(shape.open, labels - 1);
+        let open = shape.open.min(labels - 1);
         let masks = labels - open;
         let mask = open + (i % 3 + pick(other, masks - 1)) % masks % 16;
         return pick(seed, 1usize << open) | (1usize << (mask % 16));
@@ -177,35 +185,37 @@ fn set_of(shape: Shape, i: usize, seed: u32) -> usize {
 }
 
 // The block with node i; the first two are inputs, and in an open block two of three.
-fn with_node(made: Made, shape: Shape, i: usize) -> Made {
-    let mut next_made = made;
+fn with_node(mut made: Made, shape: Shape, i: usize) -> Made {
     let seed = next(made.seed);
     let at = made.length % 1000;
-    let mix = shape.mix;
-    let kinds = kinds_of(mix);
-    let mut kind = kinds[pick(seed, 12) % 12];
-    let mut body = operands_of(shape, i, next(seed));
-    if (i < 2) | ((shape.open > 0) & (i % 3 < 2)) {
-        kind = 2;
-    }
-    if kind == 2 {
-        body = set_of(shape, i, next(seed));
-    }
-    next_made.bytes[at] = kind;
-    next_made.bytes[at + 1] = (body % 256) as u8;
-    next_made.bytes[at + 2] = (body / 256 % 256) as u8;
-    next_made.length = if kind % 4 == 3 { at + 2 } else { at + 3 };
-    next_made.seed = next(next(seed));
-    next_made
+    let drawn = kinds_of(shape.mix)[pick(seed, 12) % 12];
+    let kind = if i < 2 || (shape.open > 0 && i % 3 < 2) {
+        INPUT
+    } else {
+        drawn
+    };
+    let body = if kind == INPUT {
+        set_of(shape, i, next(seed))
+    } else {
+        operands_of(shape, i, next(seed))
+    };
+    made.bytes[at] = kind;
+    made.bytes[at + 1] = (body % 256) as u8;
+    made.bytes[at + 2] = (body / 256 % 256) as u8;
+    made.length = if kind == NOT || kind == REGISTER {
+        at + 2
+    } else {
+        at + 3
+    };
+    made.seed = next(next(seed));
+    made
 }
 
 // A whole block.
 pub fn block(shape: Shape) -> Made {
     let mut made = variables(shape);
-    let mut i = 0;
-    while i < shape.nodes {
+    for i in 0..shape.nodes {
         made = with_node(made, shape, i);
-        i += 1;
     }
     let end = made.length % 1000;
     made.bytes[end] = 0;
@@ -224,7 +234,7 @@ pub fn damaged(made: Made) -> Made {
     let mut other = made;
     other.seed = next(second);
     match pick(other.seed, 24) {
-        0 | 1 | 2 => other.bytes[at] = byte as u8,
+        0..=2 => other.bytes[at] = byte as u8,
         3 => other.length = at,
         4 => {
             other.bytes[whole] = byte as u8;

@@ -6,19 +6,15 @@ use crate::products::compare_products;
 use crate::questions::ask;
 use pair_search::{Found, Search};
 use pairs::PairsAnswer;
-use rules::{Half, Node, NodeRecord, Answer, Refusal};
-use std::num::wrapping_add_usize;
+use rules::{NodeRecord, Answer, Refusal};
 use test_expected::{
-    Lent, NO_PAIR, NOTHING_TO_LOOK_AT, Numbers, PAIR, SINGLE, SPENT, Sought, Work, expected_check,
-    expected_numbers, families_differ, half_number, lengths_for, marked_of, reply_numbers,
-    same_entries, same_numbers, seek,
+    Finds, Lent, Outcome, Sought, Work, expected_answer, expected_check, families_differ,
+    lengths_for, marked_of, outcome_of, same_entries, seek,
 };
 use test_generator::next;
-use test_second_checker::{
-    LISTS, NONE, SecondBlock, Store, first_suspect, is_lower_suspect, is_tie, length_of, number_if,
-    records_of, reported, suspect_sets,
-};
+use test_second_checker::{Kind, Pair, Second};
 use test_tools::{Tally, count, count_if, raise};
+use test_trial::{Seen, SeenPairs};
 
 // The blocks, the checks answered, and behind them those refused with 1 to 11.
 const BLOCKS: usize = 0;
@@ -90,26 +86,27 @@ pub(crate) const DIFFERENCES: usize = 56;
 
 // ---- the check
 
-// Compares a check over so many entries and these work bytes: its reply, in numbers, and what both slices then hold.
-// Gives whether it is to be answered.
+// Compares a check over so many entries and these work bytes: its reply, and what both slices then hold. Gives whether
+// it is to be answered.
 fn compare_check(
     tally: &mut Tally,
-    block: SecondBlock,
-    store: &Store,
+    second: &Second,
     lent: Lent,
-    reply: Numbers,
+    reply: Outcome,
     nodes: [NodeRecord; 200],
     work: &[u8],
 ) -> bool {
-    let expected = expected_check(block, lent);
-    let answered = expected.number == 0;
-    let written = number_if(answered, block.count % 256);
-    let same = same_numbers(reply, expected_numbers(expected, block, store))
-        & same_entries(nodes, records_of(block, store), written)
-        & (test_trial::entries_kept_from(nodes) <= written)
-        & (test_trial::work_kept_from(work) <= 256 * written);
+    let expected = expected_check(&second.block, lent);
+    let answered = expected.is_ok();
+    let written = if answered { second.block.count() } else { 0 };
+    let records = second.records();
+    let same = reply == expected.map(|()| expected_answer(second))
+        && same_entries(&nodes[..written], &records[..written])
+        && test_trial::entries_kept_from(nodes) <= written
+        && test_trial::work_kept_from(work) <= 256 * written;
+    let number = expected.err().map_or(0, |fault| fault.number % 12);
     count(tally, BLOCKS, 1);
-    count(tally, CHECKS + expected.number % 12, 1);
+    count(tally, CHECKS + number, 1);
     count_if(tally, DIFFERENCES, !same);
     answered
 }
@@ -118,34 +115,34 @@ fn compare_check(
 fn check_one(
     tally: &mut Tally,
     bytes: &[u8],
-    block: SecondBlock,
-    store: &Store,
+    second: &Second,
     lent: Lent,
     work: &mut [u8],
 ) -> bool {
     let before = [test_trial::entry_before(); 200];
-    let seen = test_trial::check_over(bytes, lent.entries, before, work);
-    let reply = seen.reply;
-    let nodes = seen.nodes;
-    compare_check(tally, block, store, lent, reply_numbers(reply), nodes, work)
+    let Seen { reply, nodes } = test_trial::check_over(bytes, lent.entries, before, work);
+    compare_check(tally, second, lent, outcome_of(reply), nodes, work)
 }
 
 // Checks a block with two probes, and compares that with what is sought.
 fn check_two(
     tally: &mut Tally,
     bytes: &[u8],
-    block: SecondBlock,
-    store: &Store,
+    second: &Second,
     lent: Lent,
     sought: Sought,
     work: &mut [u8],
 ) -> bool {
     let before = [test_trial::entry_before(); 200];
-    let seen = test_trial::check_pairs_over(sought.limit, bytes, lent.entries, before, work);
-    let reply = seen.reply;
-    let nodes = seen.nodes;
-    let numbers = compare_search(tally, reply, sought);
-    compare_check(tally, block, store, lent, numbers, nodes, work)
+    let SeenPairs { reply, nodes } = test_trial::check_pairs_over(
+        sought.limit,
+        bytes,
+        lent.entries,
+        before,
+        work,
+    );
+    let outcome = compare_search(tally, reply, sought);
+    compare_check(tally, second, lent, outcome, nodes, work)
 }
 
 // The work bytes before a check.
@@ -155,65 +152,56 @@ fn work_before() -> Work {
     work
 }
 
-// Compares the families of an answered block, of which this takes the sets out, and counts its marks.
-fn compare_answered(tally: &mut Tally, block: SecondBlock, store: &Store, work: Work) {
-    let mut left = work;
-    let differ = families_differ(&mut left, store, block.count);
-    count_if(tally, DIFFERENCES, differ);
-    count_marks(tally, block, store);
+// Compares the families of an answered block, and counts its marks.
+fn compare_answered(tally: &mut Tally, second: &Second, work: Work) {
+    count_if(tally, DIFFERENCES, families_differ(work, second));
+    count_marks(tally, second);
 }
 
 // ---- one probe
 
 // Counts the set that a half of the answer reports, if it names a suspect.
-fn count_reported(tally: &mut Tally, block: SecondBlock, store: &Store, layer: usize) {
-    let suspect = first_suspect(block, store, layer);
-    let list = layer % 2 * 200 + suspect / 1024 % 200;
-    let sets = suspect_sets(store, list, 0, block.classes[0], block.classes[1]);
-    if suspect != NONE {
+fn count_reported(tally: &mut Tally, second: &Second, layer: usize) {
+    let suspect = second.first_suspect(layer);
+    if let Some(sets) = suspect.and_then(|(node, _)| second.suspects(layer, node)) {
         count(tally, SETTLED + layer % 2, 1);
-        count_if(tally, LOWER, is_lower_suspect(sets));
-        count_if(tally, TIES, is_tie(sets));
+        count_if(tally, LOWER, sets.is_lower_suspect());
+        count_if(tally, TIES, sets.is_tie());
     }
 }
 
 // Counts an answered block: its nodes, its suspects, and the sets of its families.
-fn count_answer(tally: &mut Tally, block: SecondBlock, store: &Store) {
-    count(tally, NODES, block.count);
-    count_reported(tally, block, store, 0);
-    count_reported(tally, block, store, 1);
-    count_if(tally, CLEAR, first_suspect(block, store, 1) == NONE);
-    let mut list = 0;
-    while list < LISTS {
-        let length = length_of(store, list);
-        count(tally, SETS, length);
-        count_if(tally, LARGE, length > 100);
-        raise(tally, LARGEST, length);
-        list += 1;
+fn count_answer(tally: &mut Tally, second: &Second) {
+    count(tally, NODES, second.block.count());
+    count_reported(tally, second, 0);
+    count_reported(tally, second, 1);
+    count_if(tally, CLEAR, second.first_suspect(1).is_none());
+    for layer in 0..2 {
+        for i in 0..second.block.count() {
+            let length = second.family(layer, i).sets().len();
+            count(tally, SETS, length);
+            count_if(tally, LARGE, length > 100);
+            raise(tally, LARGEST, length);
+        }
     }
 }
 
-// Whether a node is an input whose own set is suspect.
-fn is_bare(node: Node, secrets: usize, masks: usize) -> bool {
-    let set = node.set as usize;
-    (node.kind == 2) & (set & secrets != 0) & (set & masks == 0)
-}
-
 // Counts the inputs whose set is suspect.
-fn count_inputs(tally: &mut Tally, block: SecondBlock) {
-    let secrets = block.classes[0];
-    let masks = block.classes[1];
-    let mut i = 0;
-    while i < 200 {
-        let bare = is_bare(block.nodes[i], secrets, masks);
-        count_if(tally, BARE_INPUTS, bare & (i < block.count));
-        i += 1;
+fn count_inputs(tally: &mut Tally, second: &Second) {
+    let block = &second.block;
+    for node in block.nodes() {
+        count_if(
+            tally,
+            BARE_INPUTS,
+            node.kind == Kind::Input && block.is_suspect(node.set),
+        );
     }
 }
 
 // Counts the marks of an answered block.
-fn count_marks(tally: &mut Tally, block: SecondBlock, store: &Store) {
-    let marked = marked_of(records_of(block, store), 0, block.count);
+fn count_marks(tally: &mut Tally, second: &Second) {
+    let records = second.records();
+    let marked = marked_of(&records[..second.block.count()]);
     count(tally, SETTLED_MARKS, marked.settled);
     count(tally, GLITCH_MARKS, marked.glitch);
     count(tally, GLITCH_ALONE, marked.glitch_alone);
@@ -226,105 +214,107 @@ fn count_marks(tally: &mut Tally, block: SecondBlock, store: &Store) {
 }
 
 // Compares all that both checkers say of a block with one probe. Gives the generator's state after it.
-pub(crate) fn one_probe(
-    tally: &mut Tally,
-    seed: u32,
-    bytes: &[u8],
-    block: SecondBlock,
-    store: &Store,
-) -> u32 {
+pub(crate) fn one_probe(tally: &mut Tally, seed: u32, bytes: &[u8], second: &Second) -> u32 {
     let mut work = work_before();
-    let lent = lengths_for(seed, block.count);
-    let m = lent.work % 51201;
-    let answered = check_one(tally, bytes, block, store, lent, &mut work[..m]);
-    if answered {
-        count_answer(tally, block, store);
-        count_inputs(tally, block);
-        compare_products(tally, block, store, work);
-        compare_answered(tally, block, store, work);
+    let lent = lengths_for(seed, second.block.count());
+    if check_one(
+        tally,
+        bytes,
+        second,
+        lent,
+        &mut work[..lent.work.min(51200)],
+    ) {
+        count_answer(tally, second);
+        count_inputs(tally, second);
+        compare_products(tally, second, &work);
+        compare_answered(tally, second, work);
     }
-    let first = ask(tally, next(seed), bytes, block, store);
-    let second = ask(tally, first, bytes, block, store);
-    let third = ask(tally, second, bytes, block, store);
-    ask(tally, third, bytes, block, store)
+    let mut state = next(seed);
+    for _ in 0..4 {
+        state = ask(tally, state, bytes, second);
+    }
+    state
 }
 
 // ---- two probes
 
 // Whether a search finds what is sought.
 fn same_search(search: Search, sought: Sought) -> bool {
-    let found = search.found;
-    let first = sought.first;
-    let choice = first.choice;
-    let finds = sought.finds;
-    let same = match found {
-        Found::Single(node, set) => {
-            (finds == SINGLE) & (half_number(Half::Suspect(node, set)) == sought.single)
+    let same = match (search.found, sought.finds) {
+        (Found::Single(node, set), Finds::Single(other, reported)) => {
+            node == other && set == reported
         }
-        Found::NoPair => (finds == NO_PAIR) | (finds == NOTHING_TO_LOOK_AT),
-        Found::Pair(i, j, set) => {
-            (finds == PAIR) & (i == first.i) & (j == first.j) & (set == reported(choice))
+        (Found::NoPair, Finds::NoPair | Finds::Nothing) => true,
+        (Found::Pair(i, j, set), Finds::Pair(pair)) => {
+            i == pair.i && j == pair.j && set == pair.choice.reported()
         }
-        Found::Spent => finds == SPENT,
+        (Found::Spent, Finds::Spent) => true,
+        _ => false,
     };
-    same & (search.looked == sought.looked)
+    same && search.looked == sought.looked
 }
 
-// Compares the search of a reply, if there is one. Gives the rest of the reply in numbers.
-fn compare_search(tally: &mut Tally, reply: Result<PairsAnswer, Refusal>, sought: Sought) -> Numbers {
+// Compares the search of a reply, if there is one. Gives the rest of the reply.
+fn compare_search(tally: &mut Tally, reply: Result<PairsAnswer, Refusal>, sought: Sought) -> Outcome {
     match reply {
-        Err(refusal) => reply_numbers(Err(refusal)),
+        Err(refusal) => outcome_of(Err(refusal)),
         Ok(both) => {
-            let answer = both.answer;
-            let search = both.search;
-            count_if(tally, DIFFERENCES, !same_search(search, sought));
-            reply_numbers(Ok(answer))
+            count_if(tally, DIFFERENCES, !same_search(both.search, sought));
+            outcome_of(Ok(both.answer))
         }
     }
 }
 
-// Counts a pair that is found.
-fn count_pair(tally: &mut Tally, sought: Sought) {
-    let first = sought.first;
-    let choice = first.choice;
-    raise(tally, HIGHEST, first.position);
-    count_if(tally, JUST_THE_PAIR, sought.limit == first.position);
-    count_if(tally, PAIR_LOWER, is_lower_suspect(choice));
-    count_if(tally, PAIR_TIES, is_tie(choice));
+// Counts a pair that is found under a limit.
+fn count_pair(tally: &mut Tally, pair: Pair, limit: usize) {
+    raise(tally, HIGHEST, pair.position);
+    count_if(tally, JUST_THE_PAIR, limit == pair.position);
+    count_if(tally, PAIR_LOWER, pair.choice.is_lower_suspect());
+    count_if(tally, PAIR_TIES, pair.choice.is_tie());
 }
 
 // Counts the search of an answered block.
 fn count_search(tally: &mut Tally, sought: Sought) {
-    let first = sought.first;
-    let finds = sought.finds;
     let limit = sought.limit;
-    let short = (first.position <= first.pairs) & (wrapping_add_usize(limit, 1) == first.position);
-    count(tally, SEARCHES + finds % 5, 1);
     count(tally, LOOKED, sought.looked);
-    count_if(tally, JUST_SHORT, (finds == SPENT) & short);
-    count_if(tally, JUST_ALL, (finds == NO_PAIR) & (limit == first.pairs));
-    if finds == PAIR {
-        count_pair(tally, sought);
-    }
+    let place = match sought.finds {
+        Finds::Single(_, _) => 0,
+        Finds::NoPair => {
+            count_if(tally, JUST_ALL, limit == sought.pairs);
+            1
+        }
+        Finds::Pair(pair) => {
+            count_pair(tally, pair, limit);
+            2
+        }
+        Finds::Spent => {
+            let short = sought
+                .first
+                .is_some_and(|pair| limit.saturating_add(1) == pair.position);
+            count_if(tally, JUST_SHORT, short);
+            3
+        }
+        Finds::Nothing => 4,
+    };
+    count(tally, SEARCHES + place, 1);
 }
 
 // Compares all that both checkers say of a block with two probes. Gives the generator's state after it.
-pub(crate) fn two_probes(
-    tally: &mut Tally,
-    seed: u32,
-    bytes: &[u8],
-    block: SecondBlock,
-    store: &Store,
-) -> u32 {
+pub(crate) fn two_probes(tally: &mut Tally, seed: u32, bytes: &[u8], second: &Second) -> u32 {
     let mut work = work_before();
-    let lent = lengths_for(seed, block.count);
+    let lent = lengths_for(seed, second.block.count());
     let after = next(next(next(seed)));
-    let sought = seek(after, block, store);
-    let m = lent.work % 51201;
-    let answered = check_two(tally, bytes, block, store, lent, sought, &mut work[..m]);
-    if answered {
+    let sought = seek(after, second);
+    if check_two(
+        tally,
+        bytes,
+        second,
+        lent,
+        sought,
+        &mut work[..lent.work.min(51200)],
+    ) {
         count_search(tally, sought);
-        compare_answered(tally, block, store, work);
+        compare_answered(tally, second, work);
     }
     next(next(after))
 }

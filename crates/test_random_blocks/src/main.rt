@@ -5,8 +5,8 @@
 // It uses the functions that it tests, over slices that `test_trial` lends, and what the test crates expect of them.
 #![tactic(auto)]
 
-use test_generator::{bytes_of, next};
-use test_second_checker::{empty_store, work_out};
+use test_generator::{Made, next};
+use test_second_checker::{Second, work_out};
 use test_tools::{Tally, print};
 
 mod clusters;
@@ -17,46 +17,27 @@ mod products;
 mod questions;
 mod shapes;
 
-// What is tried of each block: the check with one probe, or with two, against the second checker; mask settings counted
-// at its nodes, at its pairs of nodes, or round its gates and registers.
-#[derive(Clone, Copy)]
-pub(crate) enum Trial {
-    OneProbe,
-    TwoProbes,
-    Nodes,
-    Pairs,
-    Clusters,
-}
-
-// Tries a block. Gives the generator's state after it.
-fn try_block(tally: &mut Tally, trial: Trial, seed: u32, bytes: &[u8]) -> u32 {
-    let mut store = empty_store();
-    let block = work_out(bytes, &mut store);
-    match trial {
-        Trial::OneProbe => compare::one_probe(tally, seed, bytes, block, &store),
-        Trial::TwoProbes => compare::two_probes(tally, seed, bytes, block, &store),
-        Trial::Nodes => counts::nodes(tally, seed, bytes, block),
-        Trial::Pairs => counts::pairs(tally, seed, bytes, block, &store),
-        Trial::Clusters => clusters::clusters(tally, seed, bytes, block, &store),
-    }
-}
-
-// Makes a block and tries it. Gives the generator's state after it.
-fn one_block(tally: &mut Tally, trial: Trial, seed: u32, turn: usize) -> u32 {
-    let made = shapes::block_for(trial, seed, turn);
-    let bytes = bytes_of(made);
-    let n = made.length % 1025;
-    try_block(tally, trial, next(made.seed), &bytes[..n])
-}
-
-// Tries so many random blocks. Gives what was seen.
-fn run(trial: Trial, blocks: usize) -> Tally {
-    let mut tally = [0usize; 64];
+// Tries so many random blocks, each of which `block` makes from the generator's state and the number of those before
+// it, and `trial` tries: the check with one probe, or with two, against the second checker; mask settings counted at
+// its nodes, at its pairs of nodes, or round its gates and registers. A trial gives the generator's state after it.
+// Gives what was seen.
+fn run<B, T>(blocks: usize, block: B, trial: T) -> Tally
+where
+    B: Fn(u32, usize) -> Made,
+    T: Fn(&mut Tally, u32, &[u8], &Second) -> u32,
+    requires block { B.IsAlwaysCallable block }
+    requires trial { T.IsAlwaysCallable trial }
+{
+    let mut tally = [0; 64];
     let mut seed = 1;
-    let mut turn = 0;
-    while turn < blocks {
-        seed = one_block(&mut tally, trial, seed, turn);
-        turn += 1;
+    for turn in 0..blocks {
+        let made = block(seed, turn);
+        seed = trial(
+            &mut tally,
+            next(made.seed),
+            made.bytes(),
+            &work_out(made.bytes()),
+        );
     }
     tally
 }
@@ -65,26 +46,20 @@ fn run(trial: Trial, blocks: usize) -> Tally {
 // of a mask and its opposite, holds back a secret, or the first of its three shares.
 fn main() {
     print(b"against the second checker\n");
-    printed::one_probe(run(Trial::OneProbe, 4000));
+    printed::one_probe(run(4000, shapes::one_probe, compare::one_probe));
     print(b"against counted mask settings\n");
-    let mut nodes = run(Trial::Nodes, 1500);
-    try_block(
-        &mut nodes,
-        Trial::Nodes,
-        0,
-        b"\x01\x00\x01\x01\x02\x03\x00\x02\x02\x00\x03\x01\x05\x01\x02\x07\x03\x04\x00\x04\x00",
-    );
+    let mut nodes = run(1500, shapes::for_nodes, counts::nodes);
+    let alarm =
+        b"\x01\x00\x01\x01\x02\x03\x00\x02\x02\x00\x03\x01\x05\x01\x02\x07\x03\x04\x00\x04\x00";
+    counts::nodes(&mut nodes, 0, alarm, &work_out(alarm));
     printed::nodes(nodes);
     print(b"against the second checker\n");
-    printed::two_probes(run(Trial::TwoProbes, 2000));
+    printed::two_probes(run(2000, shapes::two_probes, compare::two_probes));
     print(b"against counted mask settings\n");
-    let mut pairs = run(Trial::Pairs, 800);
-    try_block(
-        &mut pairs,
-        Trial::Pairs,
-        0,
-        b"\x01\x00\x01\x01\x01\x01\x02\x02\x00\x02\x04\x00\x02\x07\x00\x03\x00\x05\x00\x03\x07\x04\x04\x05\x01\x07\x02\x00",
-    );
+    let mut pairs = run(800, shapes::for_pairs, counts::pairs);
+    let alarm =
+        b"\x01\x00\x01\x01\x01\x01\x02\x02\x00\x02\x04\x00\x02\x07\x00\x03\x00\x05\x00\x03\x07\x04\x04\x05\x01\x07\x02\x00";
+    counts::pairs(&mut pairs, 0, alarm, &work_out(alarm));
     printed::pairs(pairs);
-    printed::clusters(run(Trial::Clusters, 1000));
+    printed::clusters(run(1000, shapes::for_clusters, clusters::clusters));
 }

@@ -9,39 +9,73 @@
 
 ghost use Rattle.std.specs.Prelude.{◌<◌};
 
-use rules::Node;
-use std::num::wrapping_add_usize;
-use test_generator::{Mix, Shape, least, next, pick};
-use test_second_checker::{SecondBlock, Store, number_if};
+use test_generator::{Mix, Shape, next, pick};
+use test_second_checker::{Fault, Kind, Second, SecondBlock, SecondNode};
 use test_tools::{Tally, count, count_if, print_counts, raise};
 
 const BLOCKS: usize = 200;
 
-// A claim is that a set is in the family of a node in a layer. It is one number, 1,024 × (16 × layer + node) + set: a
-// block has fewer than 16 nodes.
-const CLAIMS: usize = 32768;
-
-const LAYER: usize = 16384;
-
 const SETS: usize = 1024;
 
-// Of each claim whether it is true.
-type Families = [bool; CLAIMS];
+// A block has fewer nodes than this.
+const NODES: usize = 16;
 
-// A slice with room for one step more than there may be, and what each of its bytes holds before.
-const ROOM: usize = 2565;
+// A claim: that a set is in the family of a node in a layer.
+#[derive(Clone, Copy, PartialEq, Eq)]
+struct Claim {
+    layer: usize,
+    node: usize,
+    set: usize,
+}
 
-type Slice = [u8; ROOM];
+// Of each claim, by layer, node and set, whether it is true.
+type Families = [[[bool; SETS]; NODES]; 2];
+
+// Whether a claim is true.
+fn is_true(families: &Families, claim: Claim) -> bool {
+    families[claim.layer % 2][claim.node % NODES][claim.set % SETS]
+}
+
+// The steps of a derivation, five bytes to each: there is room for one step more than there may be. And what each byte
+// holds before.
+type Steps = [[u8; 5]; 513];
 
 const BEFORE: u8 = 170;
+
+const UNWRITTEN: Steps = [[BEFORE; 5]; 513];
+
+const ROOM: usize = 2565;
 
 // The most steps of a derivation.
 const MOST: usize = 512;
 
-// A stack of claims: there are never so many.
-const HEIGHT: usize = 1024;
+// A stack with room for more than there ever is on it.
+#[derive(Clone, Copy)]
+struct Stack<T> {
+    entries: [T; 1024],
+    height: usize,
+}
 
-type Stack = [usize; HEIGHT];
+impl<T: Copy> Stack<T> {
+    // A stack with nothing on it, in which unused places hold this.
+    fn empty(unused: T) -> Stack<T> {
+        Stack {
+            entries: [unused; 1024],
+            height: 0,
+        }
+    }
+
+    fn push(&mut self, entry: T) {
+        let at = self.height % 1024;
+        self.entries[at] = entry;
+        self.height = at + 1;
+    }
+
+    fn pop(&mut self) -> Option<T> {
+        self.height = self.height.checked_sub(1)?;
+        Some(self.entries[self.height % 1024])
+    }
+}
 
 // Sets that are derived, and behind them steps of rules 1 to 6.
 const DERIVED: usize = 1;
@@ -61,409 +95,403 @@ const WRONG: usize = 15;
 
 const DIFFERENCES: usize = 16;
 
-// The greater of two numbers.
-fn most(a: usize, b: usize) -> usize {
-    if a < b { b } else { a }
-}
-
-// The claim of a set at a node in a layer.
-fn claim_of(node: usize, layer: usize, set: usize) -> usize
-    ensures { result < 32768 }
-{
-    layer % 2 * LAYER + node % 16 * SETS + set % SETS
-}
-
 // ---- steps
 
-// A step: by which rule a set is in the family of a node in a layer.
+// A step: by which rule a claim is true.
 #[derive(Clone, Copy)]
 struct Step {
-    node: usize,
-    layer: usize,
+    claim: Claim,
     rule: u8,
-    set: usize,
 }
 
-// A byte as a number.
-fn wide(x: u8) -> usize
-    ensures { result < 256 }
-{
-    x as usize
-}
+impl Step {
+    // The step that five bytes say.
+    fn of(bytes: [u8; 5]) -> Step {
+        let [node, layer, rule, low, high] = bytes;
+        Step {
+            claim: Claim {
+                layer: layer as usize,
+                node: node as usize,
+                set: low as usize + 256 * high as usize,
+            },
+            rule,
+        }
+    }
 
-// The step behind the first `at` steps.
-fn step_at(steps: &Slice, at: usize) -> Step {
-    let from = at % 513 * 5;
-    Step {
-        node: wide(steps[from]),
-        layer: wide(steps[from + 1]),
-        rule: steps[from + 2],
-        set: wide(steps[from + 3]) + 256 * wide(steps[from + 4]),
+    // Its bytes.
+    fn bytes(self) -> [u8; 5] {
+        let claim = self.claim;
+        [
+            (claim.node % 256) as u8,
+            (claim.layer % 256) as u8,
+            self.rule,
+            (claim.set % 256) as u8,
+            (claim.set / 256 % 256) as u8,
+        ]
+    }
+
+    // How many operands its rule needs.
+    fn needs(self) -> usize {
+        match self.rule {
+            2 | 4 | 5 => 1,
+            6 => 2,
+            _ => 0,
+        }
     }
 }
 
-// How many operands a rule needs.
-fn needs_of(rule: u8) -> usize
-    ensures { result < 3 }
-{
-    match rule {
-        2 | 4 | 5 => 1,
-        6 => 2,
-        _ => 0,
-    }
+// Whether a node is a gate whose family in a layer has its operands' sets and the empty set.
+fn spreads(node: SecondNode, layer: usize) -> bool {
+    node.kind.is_gate() && (node.kind != Kind::Xor || layer == 1)
 }
 
 // ---- the judge
 
-// Claims that are established are on a stack, each with 32,768 × the longest chain of steps that leads to it. Gives the
-// one below the upper k of so many.
-fn from_top(stack: &Stack, high: usize, k: usize) -> usize {
-    stack[(high % HEIGHT + 1023 - k % HEIGHT) % HEIGHT]
+// A claim that is established, and the longest chain of steps that leads to it.
+#[derive(Clone, Copy)]
+struct Established {
+    claim: Claim,
+    chain: usize,
 }
 
-// Whether a step at a node of this record follows by its rule, where the steps behind it establish claim `first`, and
-// those behind them `second`.
-fn follows(node: Node, step: Step, first: usize, second: usize) -> bool {
-    let kind = node.kind;
-    let layer = step.layer;
-    let rule = step.rule;
-    let set = step.set;
-    let a = node.first as usize;
-    let b = node.second as usize;
-    let gate = (kind > 3) & (kind < 7);
-    let spreads = gate & ((kind > 4) | (layer == 1));
-    match rule {
-        1 => (kind == 2) & (set == node.set as usize),
-        2 => ((kind == 3) & (first == claim_of(a, layer, set)))
-            | ((kind == 7) & (first == claim_of(a, 0, set))),
-        3 => (set == 0) & (spreads | ((kind == 3) & (layer == 1))),
-        4 => spreads & (first == claim_of(a, layer, set)),
-        5 => spreads & (first == claim_of(b, layer, set)),
-        6 => gate
-            & (first == claim_of(a, layer, first))
-            & (second == claim_of(b, layer, second))
-            & ((first ^ second) % SETS == set),
+// Whether a step at this node follows by its rule, where the steps behind it establish claim `first`, and those behind
+// them `second`.
+fn follows(node: SecondNode, step: Step, first: Option<Claim>, second: Option<Claim>) -> bool {
+    let Claim { layer, set, .. } = step.claim;
+    let of_first = |layer, set| {
+        let node = node.first;
+        Some(Claim { layer, node, set })
+    };
+    let of_second = |set| {
+        let node = node.second;
+        Some(Claim { layer, node, set })
+    };
+    match step.rule {
+        1 => node.kind == Kind::Input && set == node.set,
+        2 => {
+            (node.kind == Kind::Not && first == of_first(layer, set))
+                || (node.kind == Kind::Register && first == of_first(0, set))
+        }
+        3 => set == 0 && (spreads(node, layer) || (node.kind == Kind::Not && layer == 1)),
+        4 => spreads(node, layer) && first == of_first(layer, set),
+        5 => spreads(node, layer) && first == of_second(set),
+        6 => match (first, second) {
+            (Some(one), Some(other)) => {
+                node.kind.is_gate()
+                    && first == of_first(layer, one.set)
+                    && second == of_second(other.set)
+                    && one.set ^ other.set == set
+            }
+            _ => false,
+        },
         _ => false,
     }
 }
 
-// Whether a step is right, where the steps behind it establish so many claims.
-fn is_right(block: SecondBlock, step: Step, stack: &Stack, high: usize) -> bool {
-    let node = block.nodes[step.node % 200];
-    let first = from_top(stack, high, 0) % CLAIMS;
-    let second = from_top(stack, high, 1) % CLAIMS;
-    (step.node < block.count)
-        & (step.layer < 2)
-        & (step.set < SETS)
-        & (needs_of(step.rule) <= high)
-        & follows(node, step, first, second)
+// Whether a step is right, where the steps behind it establish these claims.
+fn is_right(
+    block: &SecondBlock,
+    step: Step,
+    first: Option<Established>,
+    second: Option<Established>,
+) -> bool {
+    let Some(node) = block.nodes().get(step.claim.node) else {
+        return false;
+    };
+    step.claim.layer < 2
+        && step.claim.set < SETS
+        && follows(
+            *node,
+            step,
+            first.map(|held| held.claim),
+            second.map(|held| held.claim),
+        )
 }
 
-// Takes the claims that a step needs from the stack, and puts its own there; gives how many there are then.
-fn establish(stack: &mut Stack, high: usize, step: Step) -> usize {
-    let needs = needs_of(step.rule);
-    let chain = most(
-        number_if(needs > 0, from_top(stack, high, 0) / CLAIMS),
-        number_if(needs > 1, from_top(stack, high, 1) / CLAIMS),
-    );
-    let low = (high - least(high, needs)) % HEIGHT;
-    let claim = claim_of(step.node, step.layer, step.set);
-    stack[low] = (chain % HEIGHT + 1) * CLAIMS + claim;
-    low + 1
-}
-
-// Judges so many steps, from the last one back: in the end one claim is established, which was asked for. Gives the
-// longest chain of steps, or 0 where anything is wrong.
-fn judge(tally: &mut Tally, block: SecondBlock, steps: &Slice, many: usize, asked: usize) -> usize {
-    let mut stack = [0usize; HEIGHT];
-    let mut high = 0;
-    let mut right = many <= MOST;
-    let mut at = many % 513;
-    while 0 < at {
-        at -= 1;
-        let step = step_at(steps, at);
-        right = right & is_right(block, step, &stack, high);
-        high = establish(&mut stack, high, step);
-        count_if(tally, DERIVED + wide(step.rule) % 8, right);
+// Judges steps, from the last one back, each of which takes the claims that it needs from a stack and puts its own
+// there: in the end one claim is established, which was asked for. Gives the longest chain of steps, if all is right.
+fn judge(tally: &mut Tally, block: &SecondBlock, steps: &[[u8; 5]], asked: Claim) -> Option<usize> {
+    let mut stack = Stack::empty(Established {
+        claim: asked,
+        chain: 0,
+    });
+    let mut right = steps.len() <= MOST;
+    for bytes in steps.iter().rev() {
+        let step = Step::of(*bytes);
+        let first = if step.needs() > 0 { stack.pop() } else { None };
+        let second = if step.needs() > 1 { stack.pop() } else { None };
+        right = right && is_right(block, step, first, second);
+        let chain = first
+            .map_or(0, |held| held.chain)
+            .max(second.map_or(0, |held| held.chain));
+        stack.push(Established {
+            claim: step.claim,
+            chain: chain.saturating_add(1),
+        });
+        count_if(tally, DERIVED + (step.rule % 8) as usize, right);
     }
-    right = right & (high == 1) & (stack[0] % CLAIMS == asked);
-    number_if(right, stack[0] / CLAIMS)
+    let last = stack.pop()?;
+    if right && stack.height == 0 && last.claim == asked {
+        Some(last.chain)
+    } else {
+        None
+    }
 }
 
 // ---- a second derivation
 
-// Which rules work for a true claim, bit k for rule k; and of rule 6 how many sets of the first operand do, and the
-// lowest of them.
+// Which rules work for a true claim, by their numbers; and of rule 6 the lowest set of the first operand that does, and
+// whether others do.
 #[derive(Clone, Copy)]
 struct Ways {
-    rules: u32,
-    sets: usize,
-    lowest: usize,
+    rules: [bool; 7],
+    lowest: Option<usize>,
+    several: bool,
 }
 
-// Rule 6, with each of so many sets, from the highest down.
-fn ways_of_both(families: &Families, node: Node, layer: usize, set: usize, all: usize) -> Ways {
-    let a = node.first as usize;
-    let b = node.second as usize;
-    let mut ways = Ways {
-        rules: 0,
-        sets: 0,
-        lowest: 0,
+impl Ways {
+    // The lowest rule that works, or 0 where none does.
+    fn rule(self) -> u8 {
+        (self.rules.iter().position(|works| *works).unwrap_or(0) % 8) as u8
+    }
+
+    // How many rules work.
+    fn many(self) -> usize {
+        self.rules.iter().filter(|works| **works).count()
+    }
+}
+
+// All rules, at this node, for a claim over so many variables.
+fn ways_of(families: &Families, node: SecondNode, claim: Claim, variables: usize) -> Ways {
+    let Claim { layer, set, .. } = claim;
+    let has = |node, layer, set| is_true(families, Claim { layer, node, set });
+    let is_not = node.kind == Kind::Not;
+    let is_register = node.kind == Kind::Register;
+    let spreads = spreads(node, layer);
+    let first = has(node.first, if is_register { 0 } else { layer }, set);
+    let sets = if node.kind.is_gate() {
+        1usize << (variables % 16)
+    } else {
+        0
     };
-    let mut left = all % 1025;
-    while 0 < left {
-        left -= 1;
-        if families[claim_of(a, layer, left)] & families[claim_of(b, layer, set ^ left)] {
-            ways = Ways {
-                rules: 64,
-                sets: wrapping_add_usize(ways.sets, 1),
-                lowest: left,
-            };
-        }
-    }
-    ways
-}
-
-// Bit k where the answer is yes.
-fn bit_if(yes: bool, k: u32) -> u32 {
-    if yes { 1u32 << (k % 8) } else { 0 }
-}
-
-// All rules, at a node of this record.
-fn ways_of(families: &Families, node: Node, layer: usize, set: usize, all: usize) -> Ways {
-    let kind = node.kind;
-    let a = node.first as usize;
-    let gate = (kind > 3) & (kind < 7);
-    let spreads = gate & ((kind > 4) | (layer == 1));
-    let none = spreads | ((kind == 3) & (layer == 1));
-    let first = families[claim_of(a, number_if(kind != 7, layer), set)];
-    let second = families[claim_of(node.second as usize, layer, set)];
-    let both = ways_of_both(families, node, layer, set, number_if(gate, all));
-    let rules = bit_if(kind == 2, 1)
-        | bit_if(((kind == 3) | (kind == 7)) & first, 2)
-        | bit_if(none & (set == 0), 3)
-        | bit_if(spreads & first, 4)
-        | bit_if(spreads & second, 5);
+    let mut both = (0..sets).filter(|one| has(node.first, layer, *one)
+        && has(node.second, layer, set ^ *one));
+    let lowest = both.next();
     Ways {
-        rules: rules | both.rules,
-        sets: both.sets,
-        lowest: both.lowest,
+        rules: [
+            false,
+            node.kind == Kind::Input,
+            (is_not || is_register) && first,
+            (spreads || (is_not && layer == 1)) && set == 0,
+            spreads && first,
+            spreads && has(node.second, layer, set),
+            lowest.is_some(),
+        ],
+        lowest,
+        several: both.next().is_some(),
     }
 }
 
-// Writes a step of five bytes behind the first `at` steps.
-fn put_step(steps: &mut Slice, at: usize, claim: usize, rule: u8) {
-    let from = at % 513 * 5;
-    steps[from] = (claim / SETS % 16) as u8;
-    steps[from + 1] = (claim / LAYER % 2) as u8;
-    steps[from + 2] = rule;
-    steps[from + 3] = (claim % 256) as u8;
-    steps[from + 4] = (claim % SETS / 256) as u8;
-}
-
-// Puts what a step needs on a stack of so many claims, the first operand's claim on top; gives how many there are then.
-fn put_needs(
-    stack: &mut Stack,
-    low: usize,
-    node: Node,
-    claim: usize,
-    rule: u8,
-    lowest: usize,
-) -> usize {
-    let layer = number_if(node.kind != 7, claim / LAYER);
-    let a = node.first as usize;
-    let b = node.second as usize;
-    let at = low % MOST;
-    match rule {
-        2 | 4 => stack[at] = claim_of(a, layer, claim),
-        5 => stack[at] = claim_of(b, layer, claim),
+// Puts what a step at this node needs on a stack, the first operand's claim on top; `lowest` is the first operand's set
+// for rule 6.
+fn put_needs(stack: &mut Stack<Claim>, node: SecondNode, step: Step, lowest: usize) {
+    let set = step.claim.set;
+    let layer = if node.kind == Kind::Register {
+        0
+    } else {
+        step.claim.layer
+    };
+    let first = node.first;
+    let second = node.second;
+    match step.rule {
+        2 | 4 => stack.push(Claim {
+            layer,
+            node: first,
+            set,
+        }),
+        5 => stack.push(Claim {
+            layer,
+            node: second,
+            set,
+        }),
         6 => {
-            stack[at] = claim_of(b, layer, claim ^ lowest);
-            stack[at + 1] = claim_of(a, layer, lowest);
+            stack.push(Claim {
+                layer,
+                node: second,
+                set: set ^ lowest,
+            });
+            stack.push(Claim {
+                layer,
+                node: first,
+                set: lowest,
+            });
         }
         _ => {}
     }
-    at + needs_of(rule)
+}
+
+// A block with its bytes, and which claims are true of it.
+#[derive(Clone, Copy)]
+struct Case<'a> {
+    bytes: &'a [u8],
+    block: &'a SecondBlock,
+    families: &'a Families,
+}
+
+// The rules that work for a claim.
+fn ways_in(case: Case<'_>, claim: Claim) -> Option<(SecondNode, Ways)> {
+    let node = *case.block.nodes().get(claim.node)?;
+    Some((
+        node,
+        ways_of(case.families, node, claim, case.block.variables),
+    ))
 }
 
 // Writes the derivation of a true claim, by the lowest rule that works at each step; the claim on top of the stack is
 // next. Gives the number of steps, or 513 where they are more than 512.
-fn expected_steps(
-    block: SecondBlock,
-    families: &Families,
-    claim: usize,
-    steps: &mut Slice,
-) -> usize {
-    let all = 1usize << (block.variables % 16);
-    let mut stack = [claim; HEIGHT];
-    let mut high = 1;
-    let mut many = 0;
-    while many < 513 {
-        if high == 0 {
-            break;
+fn expected_steps(case: Case<'_>, claim: Claim, steps: &mut Steps) -> usize {
+    let mut stack = Stack::empty(claim);
+    stack.push(claim);
+    for (many, bytes) in steps.iter_mut().enumerate() {
+        let Some(next) = stack.pop() else {
+            return many;
+        };
+        if let Some((node, ways)) = ways_in(case, next) {
+            let step = Step {
+                claim: next,
+                rule: ways.rule(),
+            };
+            *bytes = step.bytes();
+            put_needs(&mut stack, node, step, ways.lowest.unwrap_or(0));
         }
-        let next = stack[(high - 1) % HEIGHT];
-        let node = block.nodes[next / SETS % 16];
-        let ways = ways_of(families, node, next / LAYER, next % SETS, all);
-        let rule = (u32::trailing_zeros(ways.rules) % 8) as u8;
-        put_step(steps, many, next, rule);
-        high = put_needs(&mut stack, high - 1, node, next, rule, ways.lowest);
-        many += 1;
     }
-    many
+    513
 }
 
 // Counts a set that several rules give, and one that rule 6 alone gives, in several ways.
-fn count_ways(tally: &mut Tally, block: SecondBlock, families: &Families, claim: usize) {
-    let node = block.nodes[claim / SETS % 16];
-    let all = 1usize << (block.variables % 16);
-    let ways = ways_of(families, node, claim / LAYER, claim % SETS, all);
-    count_if(tally, SEVERAL, u32::count_ones(ways.rules) > 1);
-    count_if(tally, SEVERAL + 1, (ways.rules == 64) & (ways.sets > 1));
+fn count_ways(tally: &mut Tally, case: Case<'_>, claim: Claim) {
+    if let Some((_, ways)) = ways_in(case, claim) {
+        count_if(tally, SEVERAL, ways.many() > 1);
+        count_if(tally, SEVERAL + 1, ways.rule() == 6 && ways.several);
+    }
 }
 
 // ---- every set of every node
 
-// A reply: a refusal's number and place, or 0 and the number of steps.
-#[derive(Clone, Copy)]
-struct Result<Answer, Refusal> {
-    number: usize,
-    value: usize,
-}
+// A reply: the number of steps, or the refusal.
+type Result<Answer, Refusal> = Result<usize, Fault>;
 
 // Asks for the derivation of a claim in a slice.
-fn ask(bytes: &[u8], claim: usize, slice: &mut [u8]) -> Result<Answer, Refusal> {
-    let reply = derivations::derive(bytes, claim / SETS % 16, claim / LAYER, claim % SETS, slice);
-    match reply {
-        Err(refusal) => Result<Answer, Refusal> {
+fn ask(bytes: &[u8], claim: Claim, slice: &mut [u8]) -> Result<Answer, Refusal> {
+    match derivations::derive(bytes, claim.node, claim.layer, claim.set, slice) {
+        Err(refusal) => Err(Fault {
             number: refusals::number_of(refusal),
-            value: refusal.place,
-        },
-        Ok(value) => Result<Answer, Refusal> { number: 0, value },
+            place: refusal.place,
+        }),
+        Ok(steps) => Ok(steps),
     }
-}
-
-// Whether a slice does not hold so many of these steps, and beyond them what stood there.
-fn holds_other(slice: &Slice, steps: &Slice, many: usize) -> bool {
-    let mut other = false;
-    let mut k = 0;
-    while k < ROOM {
-        let byte = if k / 5 < many { steps[k] } else { BEFORE };
-        other = other | (slice[k] != byte);
-        k += 1;
-    }
-    other
 }
 
 // The reply to a claim whose derivation has so many steps, or none where it is not true, in a slice of so many bytes.
-fn expected_reply(claim: usize, many: usize, bytes: usize) -> Result<Answer, Refusal> {
-    let fits = least(bytes / 5, MOST);
-    if many == 0 {
-        return Result<Answer, Refusal> {
+fn expected_reply(claim: Claim, steps: Option<usize>, bytes: usize) -> Result<Answer, Refusal> {
+    let fits = (bytes / 5).min(MOST);
+    match steps {
+        None => Err(Fault {
             number: 16,
-            value: claim % SETS,
-        };
-    }
-    Result<Answer, Refusal> {
-        number: number_if(many > fits, 15),
-        value: least(many, fits),
+            place: claim.set,
+        }),
+        Some(steps) if steps > fits => Err(Fault {
+            number: 15,
+            place: fits,
+        }),
+        Some(steps) => Ok(steps),
     }
 }
 
-// Judges an answer of so many steps.
-fn judge_answer(tally: &mut Tally, block: SecondBlock, slice: &Slice, many: usize, claim: usize) {
-    let depth = judge(tally, block, slice, many, claim);
+// Judges an answer.
+fn judge_answer(tally: &mut Tally, block: &SecondBlock, steps: &[[u8; 5]], claim: Claim) {
+    let depth = judge(tally, block, steps, claim);
     count(tally, DERIVED, 1);
-    count_if(tally, WRONG, depth == 0);
-    raise(tally, DEEPEST, depth);
-    raise(tally, LONGEST, many);
+    count_if(tally, WRONG, depth.is_none());
+    raise(tally, DEEPEST, depth.unwrap_or(0));
+    raise(tally, LONGEST, steps.len());
 }
 
-// Asks for a claim in the first `lent` bytes of a slice, where its derivation has these steps, so many. What is
-// answered in the longest slice is judged.
+// Asks for a claim in the first `lent` bytes of a slice, where its derivation has so many steps, which are these, and
+// none where it is not true. What is answered in the longest slice is judged.
 fn try_in(
     tally: &mut Tally,
-    bytes: &[u8],
-    block: SecondBlock,
-    claim: usize,
+    case: Case<'_>,
+    claim: Claim,
     lent: usize,
-    many: usize,
-    steps: &Slice,
+    many: Option<usize>,
+    steps: &Steps,
 ) {
-    let mut slice = [BEFORE; ROOM];
-    let length = lent % 2566;
-    let reply = ask(bytes, claim, &mut slice[0..length]);
+    let mut slice = UNWRITTEN;
+    let length = lent.min(ROOM);
+    let reply = ask(case.bytes, claim, &mut slice.as_flattened_mut()[..length]);
     let expected = expected_reply(claim, many, length);
-    let different = (reply.number != expected.number)
-        | (reply.value != expected.value)
-        | holds_other(&slice, steps, number_if(expected.number == 0, many));
-    let short = number_if(many <= MOST, 1);
-    count_if(tally, DIFFERENCES, different);
-    count_if(tally, REFUSED + short, reply.number == 15);
-    count_if(tally, REFUSED + 2, reply.number == 16);
-    if (reply.number == 0) & (length == ROOM) {
-        judge_answer(tally, block, &slice, reply.value, claim);
+    let held = if expected.is_ok() { *steps } else { UNWRITTEN };
+    count_if(tally, DIFFERENCES, reply != expected || slice != held);
+    match reply {
+        Ok(found) if length == ROOM => {
+            judge_answer(tally, case.block, &slice[..found.min(513)], claim)
+        }
+        Ok(_) => {}
+        Err(fault) => {
+            let is_long = many.is_some_and(|steps| steps > MOST);
+            count_if(tally, REFUSED, fault.number == 15 && is_long);
+            count_if(tally, REFUSED + 1, fault.number == 15 && !is_long);
+            count_if(tally, REFUSED + 2, fault.number == 16);
+        }
     }
 }
 
 // Asks for a claim. One that is true is asked for with room to spare, in a slice that just takes its steps, or 512
-// where they are more, and in one a byte shorter.
-fn try_claim(
-    tally: &mut Tally,
-    bytes: &[u8],
-    block: SecondBlock,
-    families: &Families,
-    claim: usize,
-) {
-    let mut steps = [BEFORE; ROOM];
-    if !families[claim % CLAIMS] {
-        try_in(tally, bytes, block, claim, claim % ROOM, 0, &steps);
+// where they are more, and in one a byte shorter; another one in a slice of some length.
+fn try_claim(tally: &mut Tally, case: Case<'_>, claim: Claim, some: usize) {
+    let mut steps = UNWRITTEN;
+    if !is_true(case.families, claim) {
+        try_in(tally, case, claim, some % ROOM, None, &steps);
         return;
     }
-    let many = expected_steps(block, families, claim, &mut steps);
-    let enough = 5 * least(many, MOST);
-    try_in(tally, bytes, block, claim, ROOM, many, &steps);
-    try_in(tally, bytes, block, claim, enough, many, &steps);
-    try_in(
-        tally,
-        bytes,
-        block,
-        claim,
-        enough - least(enough, 1),
-        many,
-        &steps,
-    );
-    count_ways(tally, block, families, claim);
+    let many = expected_steps(case, claim, &mut steps);
+    let enough = 5 * many.min(MOST);
+    for lent in [ROOM, enough, enough.saturating_sub(1)] {
+        try_in(tally, case, claim, lent, Some(many), &steps);
+    }
+    count_ways(tally, case, claim);
 }
 
 // The families of all nodes, by the second checker's lists of sets.
-fn families_of(store: &Store) -> Families {
-    let mut families = [false; CLAIMS];
-    let mut k = 0;
-    while k < CLAIMS {
-        let node = k / SETS % 16;
-        let layer = k / LAYER;
-        let list = 200 * layer + node;
-        if k % SETS < test_second_checker::length_of(store, list) {
-            families[claim_of(node, layer, test_second_checker::set_at(store, list, k))] = true;
+fn families_of(second: &Second) -> Families {
+    let mut families = [[[false; SETS]; NODES]; 2];
+    for layer in 0..2 {
+        for node in 0..NODES {
+            for set in second.family(layer, node).sets() {
+                families[layer][node][*set as usize % SETS] = true;
+            }
         }
-        k += 1;
     }
     families
 }
 
 // Tries every set of every node of a block, in both layers.
 fn try_block(tally: &mut Tally, bytes: &[u8]) {
-    let mut store = test_second_checker::empty_store();
-    let block = test_second_checker::work_out(bytes, &mut store);
-    let families = families_of(&store);
-    let mut claim = 0;
-    while claim < CLAIMS {
-        let beyond = (claim % SETS) >> (block.variables % 16);
-        if (claim / SETS % 16 < block.count) & (beyond == 0) {
-            try_claim(tally, bytes, block, &families, claim);
+    let second = test_second_checker::work_out(bytes);
+    let families = families_of(&second);
+    let case = Case {
+        bytes,
+        block: &second.block,
+        families: &families,
+    };
+    for layer in 0..2 {
+        for node in 0..second.block.count().min(NODES) {
+            for set in 0..1usize << (second.block.variables % 16) {
+                let number = (NODES * layer + node) * SETS + set;
+                try_claim(tally, case, Claim { layer, node, set }, number);
+            }
         }
-        claim += 1;
     }
 }
 
@@ -517,10 +545,8 @@ fn shape_of(seed: u32, turn: usize) -> Shape {
 // Makes a block and tries it. Gives the generator's state after it.
 fn try_random(tally: &mut Tally, seed: u32, turn: usize) -> u32 {
     let made = test_generator::block(shape_of(seed, turn));
-    let bytes = test_generator::bytes_of(made);
-    let length = made.length % 1025;
     count(tally, 0, 1);
-    try_block(tally, &bytes[..length]);
+    try_block(tally, made.bytes());
     next(made.seed)
 }
 
@@ -539,10 +565,8 @@ fn print_tally(tally: Tally) {
 fn main() {
     let mut tally = [0usize; 64];
     let mut seed = 1;
-    let mut turn = 0;
-    while turn < BLOCKS {
+    for turn in 0..BLOCKS {
         seed = try_random(&mut tally, seed, turn);
-        turn += 1;
     }
     print_tally(tally);
 }

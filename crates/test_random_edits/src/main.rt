@@ -8,17 +8,16 @@
 // It uses opening and edits, over slices that `test_trial` lends, and what the test crates expect of them.
 #![tactic(auto)]
 
-use check::same;
 use edit_rules::{Edit, State};
 use rules::NodeRecord;
-use test_expected::written::{Changed, Written, added, bytes_of, removed, written_of};
+use test_expected::written::{Written, added, removed};
 use test_expected::{
-    Expected, Lent, Numbers, Work, expected_numbers, families_differ, marked_of, reply_numbers,
-    same_entries, same_numbers,
+    Lent, Outcome, Work, expected_answer, families_differ, marked_of, outcome_of, same_entries,
 };
-use test_generator::{Mix, Shape, least, masked_or, next, pick, plain};
-use test_second_checker::{SecondBlock, Store, body_of, empty_store, records_of, work_out};
+use test_generator::{Mix, Shape, masked_or, next, pick, plain};
+use test_second_checker::{Fault, Kind, Second, work_out};
 use test_tools::{Tally, count, count_if, print_counts};
+use test_trial::SeenEdit;
 
 const BLOCKS: usize = 400;
 
@@ -74,137 +73,142 @@ const CONTRADICTIONS: usize = 35;
 
 // Where an addition or a removal is counted that is made, or refused with this number; with a number that is not to
 // come, among the runs, whose count is then wrong.
-fn place_of(adds: bool, number: usize) -> usize {
-    if adds {
-        return match number {
+fn place_of(change: Change, changed: &Result<Written, Fault>) -> usize {
+    let number = changed.err().map_or(0, |fault| fault.number);
+    match change {
+        Change::Add(_) => match number {
             0 => 1,
             1 => 2,
             3 => 3,
             4 => 4,
-            6 => 5,
-            7 => 6,
-            8 => 7,
-            9 => 8,
-            10 => 9,
-            11 => 10,
+            6..=11 => number - 1,
             _ => RUNS,
-        };
-    }
-    match number {
-        0 => 11,
-        10 => 12,
-        11 => 13,
-        12 => 14,
-        14 => 15,
-        _ => RUNS,
+        },
+        Change::Remove(_) => match number {
+            0 => 11,
+            10..=12 => number + 2,
+            14 => 15,
+            _ => RUNS,
+        },
     }
 }
 
 // An open block: the reply to the last call, the state, what both slices hold, and the block written out.
 #[derive(Clone, Copy)]
 struct Open {
-    reply: Numbers,
+    reply: Outcome,
     state: State,
     nodes: [NodeRecord; 200],
     work: Work,
     written: Written,
 }
 
-// The work bytes of an open block.
-fn work_of(open: Open) -> Work {
-    open.work
-}
-
-// An edit that is asked for: a node to remove, or the first `length` bytes of a record.
+// A record of up to five bytes.
 #[derive(Clone, Copy)]
-struct Asked {
-    adds: bool,
-    node: usize,
+struct Record {
     bytes: [u8; 5],
     length: usize,
-    lent: Lent,
 }
 
-// The record that is asked for.
-fn record_of(asked: Asked) -> [u8; 5] {
-    asked.bytes
+impl Record {
+    fn bytes(&self) -> &[u8] {
+        &self.bytes[..self.length.min(5)]
+    }
+}
+
+// A record to add, or a node to remove.
+#[derive(Clone, Copy)]
+enum Change {
+    Add(Record),
+    Remove(usize),
+}
+
+// An edit that is asked for, in slices of these lengths.
+#[derive(Clone, Copy)]
+struct Asked {
+    change: Change,
+    lent: Lent,
 }
 
 // ---- what is asked for
 
+// The kinds of nodes.
+const KINDS: [Kind; 6] = [
+    Kind::Input,
+    Kind::Not,
+    Kind::Xor,
+    Kind::And,
+    Kind::Or,
+    Kind::Register,
+];
+
 // A record of a kind that can be taken by a block of so many variables and nodes, with two bytes behind it.
-fn new_record(kind: u8, seed: u32, variables: usize, nodes: usize) -> [u8; 5] {
-    let mut first = pick(seed, nodes);
-    let mut last = pick(next(seed), nodes);
-    if kind == 2 {
+fn new_record(kind: Kind, seed: u32, variables: usize, nodes: usize) -> [u8; 5] {
+    let (first, last) = if kind == Kind::Input {
         let set = pick(seed, 1usize << (variables % 16));
-        first = set % 256;
-        last = set / 256;
-    }
-    [kind, (first % 256) as u8, (last % 256) as u8, 0, 7]
+        (set % 256, set / 256)
+    } else {
+        (pick(seed, nodes), pick(next(seed), nodes))
+    };
+    [kind as u8, (first % 256) as u8, (last % 256) as u8, 0, 7]
 }
 
 // A record for a block of so many variables and nodes: mostly one that can be taken; else no bytes, another kind, a
 // body that is cut short, bytes too many, an operand that is too high or a variable that is not declared.
-fn offer(seed: u32, variables: usize, nodes: usize, lent: Lent) -> Asked {
+fn offer(seed: u32, variables: usize, nodes: usize) -> Record {
     let second = next(seed);
     let third = next(second);
     let other = next(third);
     let fault = pick(seed, 20);
-    let mut kind = (2 + pick(second, 6) % 6) as u8;
-    if (nodes == 0) & (fault > 3) {
-        kind = 2;
-    }
+    let kind = if nodes == 0 && fault > 3 {
+        Kind::Input
+    } else {
+        KINDS[pick(second, 6) % 6]
+    };
     let mut bytes = new_record(kind, third, variables, nodes);
-    let mut length = 1 + body_of(kind);
+    let mut length = 1 + kind.body();
     match fault {
         0 => length = 0,
         1 => bytes[0] = (pick(other, 260) % 256) as u8,
-        2 => length = length - 1,
-        3 => length = length + 1 + pick(other, 2) % 2,
+        2 => length -= 1,
+        3 => length += 1 + pick(other, 2) % 2,
         4 => bytes[1] = ((nodes % 256 + pick(other, 3)) % 256) as u8,
         5 => bytes[2] = bytes[2] % 252 + 4,
         _ => {}
     }
-    Asked {
-        adds: true,
-        node: 0,
-        bytes,
-        length,
-        lent,
-    }
+    Record { bytes, length }
 }
 
 // Slices for an edit of a block of so many nodes: mostly long enough, else just so or too short.
 fn lent_for(seed: u32, nodes: usize) -> Lent {
     let second = next(seed);
-    let needed = nodes % 256 * 256;
-    let mut entries = 200;
-    let mut work = 51200;
+    let needed = nodes.saturating_mul(256);
+    let mut lent = Lent {
+        entries: 200,
+        work: 51200,
+    };
     match pick(seed, 16) {
-        0 => entries = least(200, nodes % 256 + pick(second, 2)),
-        1 => work = least(51200, needed + pick(second, 512)),
-        2 => entries = pick(second, nodes),
-        3 => work = pick(second, needed),
+        0 => lent.entries = nodes.saturating_add(pick(second, 2)).min(200),
+        1 => lent.work = needed.saturating_add(pick(second, 512)).min(51200),
+        2 => lent.entries = pick(second, nodes),
+        3 => lent.work = pick(second, needed),
         _ => {}
     }
-    Lent { entries, work }
+    lent
 }
 
 // An edit of a block of so many variables and nodes; `growing` in eight of the edits are additions.
 fn ask(seed: u32, growing: usize, variables: usize, nodes: usize) -> Asked {
-    let lent = lent_for(seed, nodes);
     let third = next(next(seed));
     let fourth = next(third);
-    if pick(third, 8) < growing {
-        return offer(next(fourth), variables, nodes, lent);
-    }
+    let change = if pick(third, 8) < growing {
+        Change::Add(offer(next(fourth), variables, nodes))
+    } else {
+        Change::Remove(pick(fourth, nodes.saturating_add(1)))
+    };
     Asked {
-        adds: false,
-        node: pick(fourth, nodes % 256 + 1),
-        bytes: [0; 5],
-        length: 0,
-        lent,
+        change,
+        lent: lent_for(seed, nodes),
     }
 }
 
@@ -213,97 +217,69 @@ fn ask(seed: u32, growing: usize, variables: usize, nodes: usize) -> Asked {
 // Opens a written-out block in slices of these lengths, whose entries and work bytes hold what is handed over.
 fn open_in(written: Written, nodes: [NodeRecord; 200], before: Work, lent: Lent) -> Open {
     let mut work = before;
-    let m = lent.work % 51201;
-    let all = bytes_of(written);
-    let n = written.length % 1025;
-    let seen = test_trial::open_over(&all[..n], lent.entries, nodes, &mut work[..m]);
-    let edited = seen.edited;
-    let reply = edited.reply;
-    let state = edited.state;
-    let nodes_after = seen.nodes;
+    let lent_work = &mut work[..lent.work.min(51200)];
+    let SeenEdit { edited, nodes } = test_trial::open_over(
+        written.bytes(),
+        lent.entries,
+        nodes,
+        lent_work,
+    );
     Open {
-        reply: reply_numbers(reply),
-        state,
-        nodes: nodes_after,
+        reply: outcome_of(edited.reply),
+        state: edited.state,
+        nodes,
         work,
         written,
     }
-}
-
-// The edit that is asked for.
-fn edit_of(asked: Asked) -> Edit {
-    if asked.adds {
-        return Edit::Add;
-    }
-    Edit::Remove(asked.node)
 }
 
 // Makes an edit of an open block, which is written out so after it.
-fn edit_in(open: Open, asked: Asked, written: Written) -> Open {
-    let state = open.state;
-    let nodes = open.nodes;
-    let mut work = work_of(open);
-    let lent = asked.lent;
-    let bytes = record_of(asked);
-    let length = asked.length % 6;
-    let m = lent.work % 51201;
-    let seen = test_trial::edit_over(
-        state,
-        edit_of(asked),
-        &bytes[..length],
-        lent.entries,
-        nodes,
-        &mut work[..m],
+fn edit_in(open: &Open, asked: Asked, written: Written) -> Open {
+    let mut work = open.work;
+    let (edit, record) = match &asked.change {
+        Change::Add(record) => (Edit::Add, record.bytes()),
+        Change::Remove(node) => (Edit::Remove(*node), [].as_slice()),
+    };
+    let lent_work = &mut work[..asked.lent.work.min(51200)];
+    let SeenEdit { edited, nodes } = test_trial::edit_over(
+        open.state,
+        edit,
+        record,
+        asked.lent.entries,
+        open.nodes,
+        lent_work,
     );
-    let edited = seen.edited;
-    let reply = edited.reply;
-    let state_after = edited.state;
-    let nodes_after = seen.nodes;
     Open {
-        reply: reply_numbers(reply),
-        state: state_after,
-        nodes: nodes_after,
+        reply: outcome_of(edited.reply),
+        state: edited.state,
+        nodes,
         work,
         written,
     }
 }
 
-// Whether two states are the same.
+// Whether two states are the same: `edit_rules` derives no `==` for them.
 fn same_state(a: State, b: State) -> bool {
-    let ours = a.classes;
-    let theirs = b.classes;
-    (a.variables == b.variables) & (a.count == b.count) & same(&ours, &theirs)
+    a.variables == b.variables && a.count == b.count && a.classes == b.classes
 }
 
 // Whether a call gave this reply, and left the state, all entries and all work bytes of another open block.
-fn leaves(open: Open, reply: Numbers, other: Open) -> bool {
-    let given = open.reply;
-    let state = open.state;
-    let nodes = open.nodes;
-    let work = open.work;
-    let other_state = other.state;
-    let other_nodes = other.nodes;
-    let other_work = other.work;
-    same_numbers(given, reply)
-        & same_state(state, other_state)
-        & same_entries(nodes, other_nodes, 200)
-        & same(&work, &other_work)
+fn leaves(open: &Open, reply: Outcome, other: &Open) -> bool {
+    open.reply == reply
+        && same_state(open.state, other.state)
+        && same_entries(&open.nodes, &other.nodes)
+        && open.work == other.work
 }
 
 // ---- the second checker
 
 // Compares the answer and the node records with the second checker's, and counts the marks.
-fn try_marks(tally: &mut Tally, open: Open, block: SecondBlock, store: &Store) {
-    let nodes = open.nodes;
-    let reply = open.reply;
-    let none = Expected {
-        number: 0,
-        place: 0,
-    };
-    let records = records_of(block, store);
-    let marked = marked_of(records, 0, block.count);
-    let alike = same_numbers(reply, expected_numbers(none, block, store))
-        & same_entries(nodes, records, block.count);
+fn try_marks(tally: &mut Tally, open: &Open, second: &Second) {
+    let nodes = second.block.count();
+    let records = second.records();
+    let marked = marked_of(&records[..nodes]);
+    let alike = open.reply == Ok(expected_answer(second))
+        && same_entries(&open.nodes[..nodes], &records[..nodes]);
     count(tally, MARKS_COMPARED, 1);
     count_if(tally, DIFFERENCES, !alike);
     count(tally, SETTLED_MARKS, marked.settled);
@@ -314,128 +290,99 @@ fn try_marks(tally: &mut Tally, open: Open, block: SecondBlock, store: &Store) {
 
 // Compares the families with the second checker's. Where the block is small enough, counts mask settings by force:
 // where the glitch half is clear, those of no tested node may differ.
-fn try_families(tally: &mut Tally, work: Work, block: SecondBlock, store: &Store, clear: bool) {
-    let mut left = work;
-    let differ = families_differ(&mut left, store, block.count);
+fn try_families(tally: &mut Tally, work: Work, second: &Second, clear: bool) {
     count(tally, AGAINST_SECOND, 1);
-    count_if(tally, DIFFERENCES, differ);
-    if (block.variables > 5) | (block.count >= test_counting::NODES) {
+    count_if(tally, DIFFERENCES, families_differ(work, second));
+    if second.block.variables > 5 || second.block.count() >= test_counting::NODES {
         return;
     }
-    let counted = test_counting::count_pairs(block, store);
+    let differs = test_counting::count_pairs(second).lowest == Some(0);
     count_if(tally, CLEAR_COUNTED, clear);
-    count_if(tally, COUNTS_DIFFER, counted.lowest == 0);
-    count_if(tally, CONTRADICTIONS, clear & (counted.lowest == 0));
+    count_if(tally, COUNTS_DIFFER, differs);
+    count_if(tally, CONTRADICTIONS, clear && differs);
 }
 
 // Compares what an edit gave with the second checker's, with the families where that is asked for.
-fn try_second(tally: &mut Tally, open: Open, with_families: bool) {
-    let mut store = empty_store();
-    let written = open.written;
-    let work = open.work;
-    let reply = open.reply;
-    let clear = reply[4] == test_second_checker::NONE;
-    let all = bytes_of(written);
-    let n = written.length % 1025;
-    let block = work_out(&all[..n], &mut store);
-    try_marks(tally, open, block, &store);
+fn try_second(tally: &mut Tally, open: &Open, with_families: bool) {
+    let second = work_out(open.written.bytes());
+    let clear = open.reply.is_ok_and(|answer| answer.glitch.is_none());
+    try_marks(tally, open, &second);
     count_if(tally, CLEAR, clear);
     if with_families {
-        try_families(tally, work, block, &store, clear);
+        try_families(tally, open.work, &second, clear);
     }
 }
 
 // ---- marks of one node
 
-// Counts a new node, the last of so many, by its mark for glitches, which it has wherever it has one for settled
-// signals.
-fn count_new(tally: &mut Tally, nodes: [NodeRecord; 200], number: usize) {
-    let marked = marked_of(nodes, number - least(number, 1), number);
-    count(tally, ADDED_MARKED, marked.glitch);
-    count_if(tally, ADDED_UNMARKED, marked.glitch == 0);
+// How many nodes are marked for glitches, of those from one to another.
+fn glitch_marks(open: &Open, from: usize, to: usize) -> usize {
+    let end = to.min(200);
+    marked_of(&open.nodes[from.min(end)..end]).glitch
 }
 
-// Counts a node that goes, of so many, by its mark for glitches and those of the nodes around it.
-fn count_removed(tally: &mut Tally, nodes: [NodeRecord; 200], removed: usize, number: usize) {
-    let behind = removed % 256 + 1;
-    let lower = marked_of(nodes, 0, removed);
-    let itself = marked_of(nodes, removed, behind);
-    let higher = marked_of(nodes, behind, number);
-    let first = (lower.glitch == 0) & (itself.glitch > 0) & (higher.glitch > 0);
-    count_if(tally, MOVING, higher.glitch > 0);
-    count(tally, MOVED, higher.glitch);
-    count(tally, REMOVED_MARKED, itself.glitch);
-    count_if(tally, REMOVED_FIRST, first);
+// Counts a new node, the last one, by its mark for glitches, which it has wherever it has one for settled signals.
+fn count_new(tally: &mut Tally, after: &Open) {
+    let number = after.state.count;
+    let marked = glitch_marks(after, number.saturating_sub(1), number);
+    count(tally, ADDED_MARKED, marked);
+    count_if(tally, ADDED_UNMARKED, marked == 0);
+}
+
+// Counts a node that goes by its mark for glitches and those of the nodes around it.
+fn count_removed(tally: &mut Tally, open: &Open, removed: usize) {
+    let behind = removed.saturating_add(1);
+    let lower = glitch_marks(open, 0, removed);
+    let itself = glitch_marks(open, removed, behind);
+    let higher = glitch_marks(open, behind, open.state.count);
+    count_if(tally, MOVING, higher > 0);
+    count(tally, MOVED, higher);
+    count(tally, REMOVED_MARKED, itself);
+    count_if(tally, REMOVED_FIRST, lower == 0 && itself > 0 && higher > 0);
 }
 
 // ---- one edit, and a run of them
 
-// What an edit is to come to.
-fn expected_of(asked: Asked, open: Open) -> Changed {
-    let written = open.written;
-    let state = open.state;
-    let lent = asked.lent;
-    let bytes = record_of(asked);
-    let length = asked.length % 6;
-    if asked.adds {
-        return added(written, state.count, &bytes[..length], lent);
+// What an edit is to come to: the block after it, or the refusal.
+fn expected_of(asked: Asked, open: &Open) -> Result<Written, Fault> {
+    let nodes = open.state.count;
+    match &asked.change {
+        Change::Add(record) => added(&open.written, nodes, record.bytes(), asked.lent),
+        Change::Remove(node) => removed(&open.written, nodes, *node, asked.lent),
     }
-    removed(written, state.count, asked.node, lent)
 }
 
 // Counts an edit that is refused, and whether it is with this number and place, and all is as it was.
-fn count_refused(tally: &mut Tally, open: Open, after: Open, expected: Expected) {
-    let state = open.state;
-    let nodes = open.nodes;
-    let reply = [expected.number, expected.place, 0, 0, 0];
-    let kept = marked_of(nodes, 0, state.count);
-    count(tally, KEPT_MARKS, kept.glitch);
-    count_if(tally, DIFFERENCES, !leaves(after, reply, open));
+fn count_refused(tally: &mut Tally, open: &Open, after: &Open, fault: Fault) {
+    count(tally, KEPT_MARKS, glitch_marks(open, 0, open.state.count));
+    count_if(tally, DIFFERENCES, !leaves(after, Err(fault), open));
 }
 
 // Counts an edit that is made, and whether it leaves what a fresh check of the written-out block does in the slices
 // before it.
-fn count_made(tally: &mut Tally, open: Open, after: Open, lent: Lent) {
-    let nodes = open.nodes;
-    let work = open.work;
-    let written = after.written;
-    let state = after.state;
-    let fresh = open_in(written, nodes, work, lent);
-    let reply = fresh.reply;
-    count_if(tally, DIFFERENCES, !leaves(after, reply, fresh));
-    count_if(tally, FULL, state.count == 200);
-    count_if(tally, EMPTY, state.count == 0);
-}
-
-// Counts an edit that is made by the marks of the node that it adds or removes.
-fn count_node(tally: &mut Tally, open: Open, after: Open, asked: Asked) {
-    let state = open.state;
-    let nodes = open.nodes;
-    let state_after = after.state;
-    let nodes_after = after.nodes;
-    if asked.adds {
-        count_new(tally, nodes_after, state_after.count);
-    } else {
-        count_removed(tally, nodes, asked.node, state.count);
-    }
+fn count_made(tally: &mut Tally, open: &Open, after: &Open, lent: Lent) {
+    let fresh = open_in(after.written, open.nodes, open.work, lent);
+    count_if(tally, DIFFERENCES, !leaves(after, fresh.reply, &fresh));
+    count_if(tally, FULL, after.state.count == 200);
+    count_if(tally, EMPTY, after.state.count == 0);
 }
 
 // Makes an edit and compares what it gives, the families with the second checker's too where that is asked for. Gives
 // the block after it.
 fn try_edit(tally: &mut Tally, open: Open, asked: Asked, with_families: bool) -> Open {
-    let changed = expected_of(asked, open);
-    let expected = changed.expected;
-    let written = changed.written;
-    let lent = asked.lent;
-    let after = edit_in(open, asked, written);
-    count(tally, place_of(asked.adds, expected.number), 1);
-    if expected.number > 0 {
-        count_refused(tally, open, after, expected);
+    let changed = expected_of(asked, &open);
+    let after = edit_in(&open, asked, changed.unwrap_or(open.written));
+    count(tally, place_of(asked.change, &changed), 1);
+    if let Err(fault) = changed {
+        count_refused(tally, &open, &after, fault);
         return open;
     }
-    count_made(tally, open, after, lent);
-    count_node(tally, open, after, asked);
-    try_second(tally, after, with_families);
+    count_made(tally, &open, &after, asked.lent);
+    match asked.change {
+        Change::Add(_) => count_new(tally, &after),
+        Change::Remove(node) => count_removed(tally, &open, node),
+    }
+    try_second(tally, &after, with_families);
     after
 }
 
@@ -445,20 +392,11 @@ fn shape_of(seed: u32, turn: usize) -> Shape {
     let second = next(seed);
     let third = next(second);
     let variables = 2 + pick(seed, 5);
+    let mix = masked_or(Mix::Even, 2, third);
     match turn % 20 {
         1 => plain(third, variables, 194 + pick(second, 6), Mix::Long),
-        2 | 3 => plain(
-            third,
-            variables,
-            1 + pick(second, 4),
-            masked_or(Mix::Even, 2, third),
-        ),
-        _ => plain(
-            third,
-            variables,
-            2 + pick(second, 23),
-            masked_or(Mix::Even, 2, third),
-        ),
+        2 | 3 => plain(third, variables, 1 + pick(second, 4), mix),
+        _ => plain(third, variables, 2 + pick(second, 23), mix),
     }
 }
 
@@ -472,19 +410,15 @@ fn growing_of(turn: usize) -> usize {
 }
 
 // A block made and opened.
-fn opened(made: test_generator::Made) -> Open {
+fn opened(bytes: &[u8]) -> Open {
     let lent = Lent {
         entries: 200,
         work: 51200,
     };
     let mut work = [0u8; 51200];
     test_trial::fill(&mut work);
-    open_in(
-        written_of(made),
-        [test_trial::entry_before(); 200],
-        work,
-        lent,
-    )
+    let nodes = [test_trial::entry_before(); 200];
+    open_in(Written::of(bytes), nodes, work, lent)
 }
 
 // A run of edits over one block. Gives the generator's state after it.
@@ -492,15 +426,14 @@ fn run(tally: &mut Tally, seed: u32, turn: usize) -> u32 {
     let made = test_generator::block(shape_of(seed, turn));
     let growing = growing_of(turn);
     let mut state = next(made.seed);
-    let mut open = opened(made);
-    let mut edits: usize = 0;
+    let mut open = opened(made.bytes());
     count(tally, RUNS, 1);
-    while edits < EDITS {
-        let at = open.state;
-        let asked = ask(state, growing, at.variables, at.count);
-        open = try_edit(tally, open, asked, edits % 6 == 0);
-        state = next(next(next(next(next(state)))));
-        edits += 1;
+    for edit in 0..EDITS {
+        let asked = ask(state, growing, open.state.variables, open.state.count);
+        open = try_edit(tally, open, asked, edit % 6 == 0);
+        for _ in 0..5 {
+            state = next(state);
+        }
     }
     state
 }
@@ -526,10 +459,8 @@ fn print_tally(tally: Tally) {
 fn main() {
     let mut tally = [0usize; 64];
     let mut seed = 1;
-    let mut turn = 0;
-    while turn < BLOCKS {
+    for turn in 0..BLOCKS {
         seed = run(&mut tally, seed, turn);
-        turn += 1;
     }
     print_tally(tally);
 }

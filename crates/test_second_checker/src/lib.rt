@@ -9,467 +9,593 @@
 // `test_random_*`.
 #![tactic(auto)]
 
-ghost use Rattle.std.specs.Prelude.{◌<◌, ◌≤◌};
+ghost use Rattle.std.specs.Prelude.{◌<◌, ◌≤◌, length};
 
 use rules::{Node, NodeRecord};
-use test_generator::least;
+use std::cmp::Ordering;
 
-// All that is worked out of a block is in one array of numbers. First the lists of sets: list i is the settled family
-// of node i, and list 200 + i its glitch family; then their lengths; then for each set the last list that it went to.
-const LONGEST: usize = 1024;
+const NODES: usize = 200;
 
-pub const LISTS: usize = 400;
+const SETS: usize = 1024;
 
-const LENGTHS: usize = 409600;
-
-const SEEN: usize = 410000;
-
-// Then 80 words of 16 bits to a node: bit x is the node's value under assignment x, and bit 1,024 + j says whether node
-// j feeds it.
-const BITS: usize = 411024;
-
+// Words of 16 bits to a node: bit x is the node's value under assignment x, and bit 1,024 + j says whether node j feeds
+// it.
 const WORDS: usize = 80;
 
 const TABLE: usize = 64;
 
-const ALL: u16 = 65535;
-
-pub type Store = [u16; 427024];
-
-// Where nothing is worked out yet. Made in one place: the prover lays out the whole array wherever one is written.
-pub fn empty_store() -> Store {
-    [0u16; 427024]
+// The kinds of records, in the order of their bytes.
+#[derive(Clone, Copy, PartialEq, Eq)]
+pub enum Kind {
+    End,
+    Variable,
+    Input,
+    Not,
+    Xor,
+    And,
+    Or,
+    Register,
 }
 
-// No suspect: the number behind those of all pairs of node and set.
-pub const NONE: usize = 204800;
+impl Kind {
+    // The kind that a byte stands for, if any does.
+    pub fn of(byte: u8) -> Option<Kind> {
+        match byte {
+            0 => Some(Kind::End),
+            1 => Some(Kind::Variable),
+            2 => Some(Kind::Input),
+            3 => Some(Kind::Not),
+            4 => Some(Kind::Xor),
+            5 => Some(Kind::And),
+            6 => Some(Kind::Or),
+            7 => Some(Kind::Register),
+            _ => None,
+        }
+    }
 
-// No suspect set: the number behind those of all pairs of a number of variables and a set.
-const NO_SET: usize = 11264;
+    // How many bytes follow the kind byte: none behind the end, two with an input's set or two operands, else one.
+    pub fn body(self) -> usize
+        ensures { result ≤ 2 }
+    {
+        match self {
+            Kind::End => 0,
+            Kind::Variable | Kind::Not | Kind::Register => 1,
+            _ => 2,
+        }
+    }
 
-// A file as far as it is read. `fault` is the number of its refusal, or 0, and `start` then that refusal's place: until
-// the end, where the last record started. Of that record `missing` body bytes are still to come, and `body` is what is
-// there, low byte first, with the next byte's place in `shift`. `classes` has the variables of each class as a set.
+    // Whether it is that of a node.
+    pub fn is_node(self) -> bool {
+        !matches!(self, Kind::End | Kind::Variable)
+    }
+
+    // Whether it is that of a gate of two operands.
+    pub fn is_gate(self) -> bool {
+        matches!(self, Kind::Xor | Kind::And | Kind::Or)
+    }
+}
+
+// A node: an input with its set, or another one with its operands, of which a NOT and a register have the first alone.
+#[derive(Clone, Copy)]
+pub struct SecondNode {
+    pub kind: Kind,
+    pub first: usize,
+    pub second: usize,
+    pub set: usize,
+}
+
+impl SecondNode {
+    // The node as the product has it.
+    fn record(self) -> Node {
+        Node {
+            kind: self.kind as u8,
+            first: (self.first % 256) as u8,
+            second: (self.second % 256) as u8,
+            set: (self.set % 65536) as u16,
+        }
+    }
+}
+
+// What a file is refused with: the number of the refusal and its place.
+#[derive(Clone, Copy, PartialEq, Eq)]
+pub struct Fault {
+    pub number: usize,
+    pub place: usize,
+}
+
+// A file as far as it can be read, and what it is refused with. `classes` has the variables of each class as a set.
 #[derive(Clone, Copy)]
 pub struct SecondBlock {
-    pub fault: usize,
-    pub start: usize,
+    pub fault: Option<Fault>,
     pub variables: usize,
-    pub count: usize,
     pub classes: [usize; 3],
-    pub nodes: [Node; 200],
-    kind: u8,
-    missing: usize,
-    body: usize,
-    shift: usize,
-    ended: bool,
+    count: usize,
+    nodes: [SecondNode; NODES],
 }
 
-// The number where the answer is yes, and 0 where it is no.
-pub fn number_if(yes: bool, number: usize) -> usize
-    ensures { result ≤ number }
-{
-    if yes { number } else { 0 }
+impl SecondBlock {
+    // Its nodes.
+    pub fn nodes(&self) -> &[SecondNode] {
+        &self.nodes[..self.count.min(NODES)]
+    }
+
+    // How many nodes it has.
+    pub fn count(&self) -> usize
+        ensures { result ≤ 200 }
+    {
+        self.count.min(NODES)
+    }
+
+    // Its secret variables.
+    pub fn secrets(&self) -> usize {
+        self.classes[0]
+    }
+
+    // Its masks.
+    pub fn masks(&self) -> usize {
+        self.classes[1]
+    }
+
+    // Whether a set is suspect: it has a secret and no mask.
+    pub fn is_suspect(&self, set: usize) -> bool {
+        set & self.classes[0] != 0 && set & self.classes[1] == 0
+    }
 }
 
 // ---- reading, byte by byte
 
-// How many bytes follow a kind byte: none behind the end, two with an input's set or two operands, else one.
-pub fn body_of(kind: u8) -> usize
-    ensures { result ≤ 2 }
-{
-    match kind {
-        0 => 0,
-        1 | 3 | 7 => 1,
-        _ => 2,
-    }
+// A record of which `missing` body bytes are still to come; `body` is what is there, low byte first, with the next
+// byte's place in `shift`.
+#[derive(Clone, Copy)]
+struct Partial {
+    kind: Kind,
+    missing: usize,
+    body: usize,
+    shift: u32,
 }
 
-// The refusal of a kind byte, or 0.
-fn kind_fault(block: SecondBlock, kind: u8) -> usize {
-    if block.ended {
-        return 9;
-    }
-    if kind > 7 {
-        return 1;
-    }
-    if (kind == 1) & (block.count > 0) {
-        return 2;
-    }
-    if kind == 1 {
-        return number_if(block.variables > 9, 3);
-    }
-    number_if((kind > 1) & (block.count > 199), 3)
+// A reader of a file: the block as far as it is read, where the last record started, that record where it is not whole,
+// and whether the end has come.
+#[derive(Clone, Copy)]
+struct Reader {
+    block: SecondBlock,
+    start: usize,
+    partial: Option<Partial>,
+    ended: bool,
 }
 
-// The block with the record whose last byte has come.
-fn with_record(block: SecondBlock) -> SecondBlock {
-    let mut next = block;
-    let kind = block.kind;
-    let body = block.body % 65536;
-    let count = block.count % 200;
-    let variables = block.variables % 16;
-    match kind {
-        1 => {
-            next.fault = number_if(body > 2, 5);
-            next.variables = variables + number_if(body < 3, 1);
-            next.classes[body % 3] = next.classes[body % 3] | (1usize << variables);
+impl Reader {
+    // Takes a kind byte, or gives the number of its refusal.
+    fn take_kind(&mut self, byte: u8) -> Result<(), usize> {
+        if self.ended {
+            return Err(9);
         }
-        2 => {
-            next.fault = number_if(body >> variables > 0, 6);
-            next.count = count + number_if(body >> variables == 0, 1);
-            next.nodes[count] = Node {
-                kind: 2,
-                first: 0,
-                second: 0,
-                set: body as u16,
-            };
+        let kind = Kind::of(byte).ok_or(1usize)?;
+        if kind == Kind::Variable && self.block.count > 0 {
+            return Err(2);
         }
-        _ => {
-            let right = (body % 256 < block.count) & (body / 256 < block.count);
-            next.fault = number_if(!right, 7);
-            next.count = count + number_if(right, 1);
-            next.nodes[count] = Node {
+        if kind == Kind::Variable && self.block.variables > 9 {
+            return Err(3);
+        }
+        if kind.is_node() && self.block.count >= NODES {
+            return Err(3);
+        }
+        if kind == Kind::End {
+            self.ended = true;
+        } else {
+            self.partial = Some(Partial {
                 kind,
-                first: (body % 256) as u8,
-                second: (body / 256) as u8,
-                set: 0,
-            };
+                missing: kind.body(),
+                body: 0,
+                shift: 0,
+            });
         }
+        Ok(())
     }
-    next
-}
 
-// The block with one byte more.
-fn with_byte(block: SecondBlock, at: usize, byte: u8) -> SecondBlock {
-    let mut next = block;
-    if block.fault > 0 {
-        return next;
+    // Takes a record, or gives the number of its refusal.
+    fn take_record(&mut self, kind: Kind, body: usize) -> Result<(), usize> {
+        let variables = self.block.variables % 16;
+        let count = self.block.count % NODES;
+        let first = body % 256;
+        let second = body / 256;
+        let node = match kind {
+            Kind::End => return Ok(()),
+            Kind::Variable => {
+                if body > 2 {
+                    return Err(5);
+                }
+                self.block.classes[body] |= 1usize << variables;
+                self.block.variables = variables + 1;
+                return Ok(());
+            }
+            Kind::Input => {
+                if body >> variables > 0 {
+                    return Err(6);
+                }
+                SecondNode {
+                    kind,
+                    first: 0,
+                    second: 0,
+                    set: body,
+                }
+            }
+            _ => {
+                if first >= count || second >= count {
+                    return Err(7);
+                }
+                SecondNode {
+                    kind,
+                    first,
+                    second,
+                    set: 0,
+                }
+            }
+        };
+        self.block.nodes[count] = node;
+        self.block.count = count + 1;
+        Ok(())
     }
-    if block.missing == 0 {
-        next.fault = kind_fault(block, byte);
-        next.start = at;
-        next.kind = byte;
-        next.missing = body_of(byte);
-        next.body = 0;
-        next.shift = 0;
-        next.ended = byte == 0;
-        return next;
+
+    // Takes the next byte, or gives the number of a refusal.
+    fn take(&mut self, at: usize, byte: u8) -> Result<(), usize> {
+        let Some(partial) = self.partial else {
+            self.start = at;
+            return self.take_kind(byte);
+        };
+        let body = partial.body | ((byte as usize) << (partial.shift % 16));
+        if partial.missing > 1 {
+            self.partial = Some(Partial {
+                kind: partial.kind,
+                missing: partial.missing - 1,
+                body,
+                shift: 8,
+            });
+            return Ok(());
+        }
+        self.partial = None;
+        self.take_record(partial.kind, body)
     }
-    next.missing = block.missing - 1;
-    next.body = block.body | ((byte as usize) << (block.shift % 16));
-    next.shift = 8;
-    if block.missing == 1 {
-        return with_record(next);
+
+    // The block with this refusal.
+    fn refused(self, number: usize, place: usize) -> SecondBlock {
+        let mut block = self.block;
+        block.fault = Some(Fault { number, place });
+        block
     }
-    next
 }
 
 // The block that a file holds, as far as it can be read.
 pub fn read(bytes: &[u8]) -> SecondBlock {
-    let mut block = SecondBlock {
-        fault: 0,
+    let none = SecondNode {
+        kind: Kind::End,
+        first: 0,
+        second: 0,
+        set: 0,
+    };
+    let mut reader = Reader {
+        block: SecondBlock {
+            fault: None,
+            variables: 0,
+            classes: [0; 3],
+            count: 0,
+            nodes: [none; NODES],
+        },
         start: 0,
-        variables: 0,
-        count: 0,
-        classes: [0; 3],
-        nodes: [Node {
-            kind: 0,
-            first: 0,
-            second: 0,
-            set: 0,
-        }; 200],
-        kind: 0,
-        missing: 0,
-        body: 0,
-        shift: 0,
+        partial: None,
         ended: false,
     };
-    let mut at = 0;
-    while at < bytes.len() {
-        block = with_byte(block, at, bytes[at]);
-        at += 1;
+    for (at, byte) in bytes.iter().enumerate() {
+        if let Err(number) = reader.take(at, *byte) {
+            return reader.refused(number, reader.start);
+        }
     }
-    if block.fault > 0 || block.ended {
-        return block;
+    if reader.partial.is_some() {
+        return reader.refused(4, reader.start);
     }
-    block.fault = 4;
-    if block.missing == 0 {
-        block.fault = 8;
-        block.start = at;
+    if !reader.ended {
+        return reader.refused(8, bytes.len());
     }
-    block
+    reader.block
 }
 
 // ---- families, as lists of sets
 
-// An entry of the store as a number.
-fn wide(x: u16) -> usize {
-    x as usize
+// A family: its sets in the order in which they arise, and of each set whether it has come.
+#[derive(Clone, Copy)]
+pub struct List {
+    length: usize,
+    sets: [u16; SETS],
+    seen: [bool; SETS],
 }
 
-// How many sets a list has.
-pub fn length_of(store: &Store, list: usize) -> usize {
-    wide(store[LENGTHS + list % LISTS])
-}
-
-// The set at a place of a list.
-pub fn set_at(store: &Store, list: usize, k: usize) -> usize {
-    wide(store[list % LISTS * LONGEST + k % LONGEST])
-}
-
-// Puts a set behind those of a list, unless it is there.
-fn add(store: &mut Store, list: usize, set: usize) {
-    let into = list % LISTS;
-    let place = SEEN + set % LONGEST;
-    let length = length_of(store, into) % LONGEST;
-    let mark = (into + 1) as u16;
-    if store[place] == mark {
-        return;
+impl List {
+    // No sets.
+    fn empty() -> List {
+        List {
+            length: 0,
+            sets: [0; SETS],
+            seen: [false; SETS],
+        }
     }
-    store[place] = mark;
-    store[into * LONGEST + length] = (set % LONGEST) as u16;
-    store[LENGTHS + into] = (length + 1) as u16;
-}
 
-// Adds the symmetric differences of one set with all sets of a list.
-fn add_differences(store: &mut Store, list: usize, from: usize, with: usize) {
-    let many = length_of(store, from);
-    let mut k = 0;
-    while k < many {
-        let set = set_at(store, from, k) ^ with;
-        add(store, list, set);
-        k += 1;
+    // Its sets.
+    pub fn sets(&self) -> &[u16]
+        ensures { length result.now ≤ 1024 }
+    {
+        &self.sets[..self.length.min(SETS)]
+    }
+
+    // Whether it has a set.
+    pub fn has(&self, set: usize) -> bool {
+        self.sets().iter().any(|x| *x as usize == set)
+    }
+
+    // Puts a set behind the others, unless it is there.
+    fn add(&mut self, set: usize) {
+        let set = set % SETS;
+        let at = self.length % SETS;
+        if !self.seen[set] {
+            self.seen[set] = true;
+            self.sets[at] = set as u16;
+            self.length = at + 1;
+        }
+    }
+
+    // Adds the symmetric differences of one set with all sets of another list.
+    fn add_differences(&mut self, from: &List, with: usize) {
+        for set in from.sets() {
+            self.add(*set as usize ^ with);
+        }
+    }
+
+    // Adds the product of two lists.
+    fn add_product(&mut self, first: &List, second: &List) {
+        for with in second.sets() {
+            self.add_differences(first, *with as usize);
+        }
     }
 }
 
-// Adds the product of two lists.
-fn add_product(store: &mut Store, list: usize, first: usize, second: usize) {
-    let many = length_of(store, second);
-    let mut k = 0;
-    while k < many {
-        let with = set_at(store, second, k);
-        add_differences(store, list, first, with);
-        k += 1;
-    }
+// All that is worked out of a block: its settled families, and behind them its glitch families; and the words of its
+// nodes.
+#[derive(Clone, Copy)]
+pub struct Second {
+    pub block: SecondBlock,
+    families: [[List; NODES]; 2],
+    words: [[u16; WORDS]; NODES],
 }
 
-// Makes the list of a node's family, settled (layer 0) or glitch (layer 1).
-fn add_family(store: &mut Store, node: Node, layer: usize, i: usize) {
-    let kind = node.kind;
-    let base = layer % 2 * 200;
-    let list = base + i % 200;
-    let first = base + (node.first as usize);
-    let second = base + (node.second as usize);
-    match kind {
-        2 => add(store, list, node.set as usize),
-        3 => {
-            add_differences(store, list, first, 0);
-            if base > 0 {
-                add(store, list, 0);
+impl Second {
+    // The family of a node, settled (layer 0) or glitch (layer 1).
+    pub fn family(&self, layer: usize, i: usize) -> &List {
+        &self.families[layer % 2][i % NODES]
+    }
+
+    // Makes the family of a node from those of its operands.
+    fn new_family(&self, node: SecondNode, layer: usize) -> List {
+        let first = self.family(layer, node.first);
+        let second = self.family(layer, node.second);
+        let glitch = layer > 0;
+        let mut list = List::empty();
+        match node.kind {
+            Kind::Input => list.add(node.set),
+            Kind::Not => {
+                list.add_differences(first, 0);
+                if glitch {
+                    list.add(0);
+                }
+            }
+            Kind::Register => list.add_differences(self.family(0, node.first), 0),
+            _ => {
+                list.add_product(first, second);
+                if glitch || node.kind != Kind::Xor {
+                    list.add_differences(second, 0);
+                    list.add_differences(first, 0);
+                    list.add(0);
+                }
             }
         }
-        7 => add_differences(store, list, node.first as usize, 0),
-        _ => {
-            add_product(store, list, first, second);
-            if base > 0 || kind > 4 {
-                add_differences(store, list, second, 0);
-                add_differences(store, list, first, 0);
-                add(store, list, 0);
-            }
-        }
+        list
     }
 }
 
 // ---- suspects
 
-// What suspect sets some sets hold: of those with fewest variables the lowest as 1,024 × variables + set, or `NO_SET`;
-// the highest of them as 1,024 × variables + 1,023 - set; and the lowest of all.
+// What suspect sets some sets hold: the least number of variables that one has, the lowest and the highest of those
+// with so many, and the lowest of all.
 #[derive(Clone, Copy)]
 pub struct Choice {
-    pub first: usize,
-    pub last: usize,
-    pub lowest: usize,
+    variables: usize,
+    first: usize,
+    last: usize,
+    lowest: usize,
 }
 
-// No suspect set.
-fn no_choice() -> Choice {
-    Choice {
-        first: NO_SET,
-        last: NO_SET,
-        lowest: LONGEST,
-    }
-}
-
-// The set to report, the lowest of those with fewest variables.
-pub fn reported(choice: Choice) -> usize {
-    choice.first % LONGEST
-}
-
-// Whether a set below the reported one is suspect too.
-pub fn is_lower_suspect(choice: Choice) -> bool {
-    choice.lowest != choice.first % LONGEST
-}
-
-// Whether another suspect set has as few variables.
-pub fn is_tie(choice: Choice) -> bool {
-    choice.last % LONGEST + choice.first % LONGEST != 1023
-}
-
-// How many variables a set has.
-fn size_of(set: usize) -> usize
-    ensures { result < 16 }
-{
-    (u32::count_ones((set % LONGEST) as u32) % 16) as usize
-}
-
-// The suspect ones, with a secret and no mask, among the symmetric differences of one set with all sets of a list.
-pub fn suspect_sets(
-    store: &Store,
-    list: usize,
-    with: usize,
-    secrets: usize,
-    masks: usize,
-) -> Choice {
-    let many = length_of(store, list);
-    let mut first = NO_SET;
-    let mut last = NO_SET;
-    let mut lowest = LONGEST;
-    let mut k = 0;
-    while k < many {
-        let set = (set_at(store, list, k) ^ with) % LONGEST;
-        if (set & secrets != 0) & (set & masks == 0) {
-            let variables = size_of(set);
-            first = least(variables * LONGEST + set, first);
-            last = least(variables * LONGEST + 1023 - set, last);
-            lowest = least(set, lowest);
-        }
-        k += 1;
-    }
-    Choice {
-        first,
-        last,
-        lowest,
-    }
-}
-
-// The mark of a node whose family is a list: the set that it reports, or 0 where no set is suspect (`NO_SET` leaves 0)
-// or the node is an input.
-fn mark_of(store: &Store, node: Node, list: usize, secrets: usize, masks: usize) -> u16 {
-    let choice = suspect_sets(store, list, 0, secrets, masks);
-    if node.kind == 2 {
-        return 0;
-    }
-    (choice.first % LONGEST) as u16
-}
-
-// The first suspect of a layer as 1,024 × node + set, or `NONE`: the last one found from the last node down.
-pub fn first_suspect(block: SecondBlock, store: &Store, layer: usize) -> usize {
-    let mut found = NONE;
-    let mut i = block.count % 256;
-    while 0 < i {
-        i -= 1;
-        let at = i % 200;
-        let node = block.nodes[at];
-        let list = layer % 2 * 200 + at;
-        let mark = mark_of(store, node, list, block.classes[0], block.classes[1]);
-        if mark != 0 {
-            found = at * LONGEST + wide(mark) % LONGEST;
+impl Choice {
+    // One set.
+    fn of(set: usize) -> Choice {
+        Choice {
+            variables: set.count_ones() as usize,
+            first: set,
+            last: set,
+            lowest: set,
         }
     }
-    found
-}
 
-// The node records of a block, each with its marks in both layers.
-pub fn records_of(block: SecondBlock, store: &Store) -> [NodeRecord; 200] {
-    let none = Node {
-        kind: 0,
-        first: 0,
-        second: 0,
-        set: 0,
-    };
-    let mut records = [NodeRecord {
-        node: none,
-        settled: 0,
-        glitch: 0,
-    }; 200];
-    let secrets = block.classes[0];
-    let masks = block.classes[1];
-    let mut i = 0;
-    while i < block.count {
-        let node = block.nodes[i % 200];
-        let settled = mark_of(store, node, i % 200, secrets, masks);
-        let glitch = mark_of(store, node, 200 + i % 200, secrets, masks);
-        records[i % 200] = NodeRecord {
-            node,
-            settled,
-            glitch,
+    // What both hold, where the other holds any.
+    fn or(self, other: Option<Choice>) -> Choice {
+        let Some(other) = other else {
+            return self;
         };
-        i += 1;
+        let mut choice = match self.variables.cmp(&other.variables) {
+            Ordering::Less => self,
+            Ordering::Greater => other,
+            Ordering::Equal => Choice {
+                variables: self.variables,
+                first: self.first.min(other.first),
+                last: self.last.max(other.last),
+                lowest: self.lowest,
+            },
+        };
+        choice.lowest = self.lowest.min(other.lowest);
+        choice
     }
-    records
+
+    // The set to report, the lowest of those with fewest variables.
+    pub fn reported(self) -> usize {
+        self.first
+    }
+
+    // Whether a set below the reported one is suspect too.
+    pub fn is_lower_suspect(self) -> bool {
+        self.lowest != self.first
+    }
+
+    // Whether another suspect set has as few variables.
+    pub fn is_tie(self) -> bool {
+        self.last != self.first
+    }
 }
 
-// ---- pairs of tested nodes
-
-// How many pairs there are, and the first suspect one, i below j: its position, counted from 1, and its sets. Where no
-// pair is suspect the position is that behind the last pair.
+// The first suspect pair of tested nodes, i below j: its position, counted from 1, and its sets.
 #[derive(Clone, Copy)]
-pub struct FirstPair {
-    pub pairs: usize,
+pub struct Pair {
     pub position: usize,
     pub i: usize,
     pub j: usize,
     pub choice: Choice,
 }
 
-// The suspect sets among the symmetric differences of a set of one node's glitch family with a set of another's.
-fn pair_sets(store: &Store, i: usize, j: usize, secrets: usize, masks: usize) -> Choice {
-    let many = length_of(store, 200 + i % 200);
-    let mut choice = no_choice();
-    let mut k = 0;
-    while k < many {
-        let with = set_at(store, 200 + i % 200, k);
-        let more = suspect_sets(store, 200 + j % 200, with, secrets, masks);
-        choice = Choice {
-            first: least(more.first, choice.first),
-            last: least(more.last, choice.last),
-            lowest: least(more.lowest, choice.lowest),
-        };
-        k += 1;
+impl Second {
+    // The suspect ones among the symmetric differences of one set with all sets of a list.
+    fn suspect_sets(&self, list: &List, with: usize) -> Option<Choice> {
+        let mut choice = None;
+        for x in list.sets() {
+            let set = (*x as usize ^ with) % SETS;
+            if self.block.is_suspect(set) {
+                choice = Some(Choice::of(set).or(choice));
+            }
+        }
+        choice
     }
-    choice
+
+    // The suspect sets of a family of a node.
+    pub fn suspects(&self, layer: usize, i: usize) -> Option<Choice> {
+        self.suspect_sets(self.family(layer, i), 0)
+    }
+
+    // The mark of a node in a layer, unless it is an input: the set that it reports, if any is suspect.
+    fn mark(&self, layer: usize, i: usize) -> Option<usize> {
+        if self.block.nodes[i % NODES].kind == Kind::Input {
+            return None;
+        }
+        Some(self.suspects(layer, i)?.reported())
+    }
+
+    // The first suspect of a layer, its node and set: the last one found from the last node down.
+    pub fn first_suspect(&self, layer: usize) -> Option<(usize, usize)> {
+        let mut found = None;
+        for i in (0..self.block.count()).rev() {
+            if let Some(set) = self.mark(layer, i) {
+                found = Some((i, set));
+            }
+        }
+        found
+    }
+
+    // The node records of the block, each with its marks in both layers, and behind them records of zeros.
+    pub fn records(&self) -> [NodeRecord; NODES] {
+        let none = Node {
+            kind: 0,
+            first: 0,
+            second: 0,
+            set: 0,
+        };
+        let mut records = [NodeRecord {
+            node: none,
+            settled: 0,
+            glitch: 0,
+        }; NODES];
+        for (i, (record, node)) in records.iter_mut().zip(self.block.nodes()).enumerate() {
+            record.node = node.record();
+            record.settled = (self.mark(0, i).unwrap_or(0) % 65536) as u16;
+            record.glitch = (self.mark(1, i).unwrap_or(0) % 65536) as u16;
+        }
+        records
+    }
+
+    // ---- pairs of tested nodes
+
+    // The suspect sets among the symmetric differences of a set of one node's glitch family with a set of another's.
+    fn pair_sets(&self, i: usize, j: usize) -> Option<Choice> {
+        let mut choice = None;
+        for with in self.family(1, i).sets() {
+            if let Some(more) = self.suspect_sets(self.family(1, j), *with as usize) {
+                choice = Some(more.or(choice));
+            }
+        }
+        choice
+    }
+
+    // How many pairs there are.
+    pub fn pairs(&self) -> usize
+        ensures { result < 32768 }
+    {
+        pairs_of(self.block.tested().nodes().len())
+    }
+
+    // The first suspect pair: the last one found from the last pair back.
+    pub fn first_pair(&self) -> Option<Pair> {
+        let tested = self.block.tested();
+        let nodes = tested.nodes();
+        let mut found = None;
+        for b in (0..nodes.len()).rev() {
+            for a in (0..b).rev() {
+                if let Some(choice) = self.pair_sets(nodes[a], nodes[b]) {
+                    found = Some(Pair {
+                        position: position_of(a, b),
+                        i: nodes[a],
+                        j: nodes[b],
+                        choice,
+                    });
+                }
+            }
+        }
+        found
+    }
 }
 
 // The tested nodes of a block, from the lowest on.
 #[derive(Clone, Copy)]
 pub struct Tested {
-    pub count: usize,
-    pub nodes: [usize; 200],
+    count: usize,
+    nodes: [usize; NODES],
 }
 
-// Their numbers.
-fn tested_of(tested: Tested) -> [usize; 200] {
-    tested.nodes
-}
-
-// Those that are no inputs.
-pub fn tested_nodes(block: SecondBlock) -> Tested {
-    let mut tested = Tested {
-        count: 0,
-        nodes: [0; 200],
-    };
-    let mut i = 0;
-    while i < 200 {
-        let entry = block.nodes[i];
-        if (i < block.count) & (entry.kind != 2) {
-            let at = tested.count % 200;
-            tested.nodes[at] = i;
-            tested.count = at + 1;
-        }
-        i += 1;
+impl Tested {
+    // Their numbers.
+    pub fn nodes(&self) -> &[usize] {
+        &self.nodes[..self.count.min(NODES)]
     }
-    tested
+}
+
+impl SecondBlock {
+    // Those of its nodes that are no inputs.
+    pub fn tested(&self) -> Tested {
+        let mut tested = Tested {
+            count: 0,
+            nodes: [0; NODES],
+        };
+        for (i, node) in self.nodes().iter().enumerate() {
+            if node.kind != Kind::Input {
+                let at = tested.count % NODES;
+                tested.nodes[at] = i;
+                tested.count = at + 1;
+            }
+        }
+        tested
+    }
 }
 
 // The number of pairs of so many nodes.
@@ -477,78 +603,24 @@ fn pairs_of(nodes: usize) -> usize
     ensures { result < 32768 }
 {
     let many = nodes % 256;
-    many * (many - least(many, 1)) / 2
+    many * many.saturating_sub(1) / 2
 }
 
-// The position of the pair of tested nodes a and b, counted from 0: before it stand all pairs of the tested nodes below
+// The position of the pair of tested nodes a and b, counted from 1: before it stand all pairs of the tested nodes below
 // b, and a more.
 pub fn position_of(a: usize, b: usize) -> usize {
     pairs_of(b) + a % 256 + 1
 }
 
-// The suspect sets of tested nodes a and b, where k is 200 × b + a and a is below b.
-fn sets_at(store: &Store, tested: &[usize; 200], k: usize, secrets: usize, masks: usize) -> Choice {
-    let a = k % 200;
-    let b = k / 200 % 200;
-    if a >= b {
-        return no_choice();
-    }
-    pair_sets(store, tested[a], tested[b], secrets, masks)
-}
-
-// The first suspect pair: the last one found from the last pair back.
-pub fn first_pair(block: SecondBlock, store: &Store) -> FirstPair {
-    let tested = tested_nodes(block);
-    let nodes = tested_of(tested);
-    let pairs = pairs_of(tested.count);
-    let mut found = 0;
-    let mut k = tested.count % 256 * 200;
-    while 0 < k {
-        k -= 1;
-        let sets = sets_at(store, &nodes, k, block.classes[0], block.classes[1]);
-        if sets.first < NO_SET {
-            found = k;
-        }
-    }
-    let a = found % 200;
-    let b = found / 200 % 200;
-    let choice = sets_at(store, &nodes, found, block.classes[0], block.classes[1]);
-    FirstPair {
-        pairs,
-        position: if found == 0 {
-            pairs + 1
-        } else {
-            position_of(a, b)
-        },
-        i: nodes[a],
-        j: nodes[b],
-        choice,
-    }
-}
-
-// Whether a list has a set.
-pub fn has_set(store: &Store, list: usize, set: usize) -> bool {
-    let many = length_of(store, list);
-    let mut has = false;
-    let mut k = 0;
-    while k < many {
-        has = has | (set_at(store, list, k) == set);
-        k += 1;
-    }
-    has
-}
-
 // ---- settled values as truth tables, and feeding points as rows of bits
 
 // Word `w` of the truth table of an input.
-fn input_word(set: u16, w: usize) -> u16 {
+fn input_word(set: usize, w: usize) -> u16 {
     let mut word = 0;
-    let mut v = 0;
-    while v < 10 {
+    for v in 0..10 {
         if (set >> v) % 2 == 1 {
-            word = word ^ variable_word(v, w);
+            word ^= variable_word(v, w);
         }
-        v += 1;
     }
     word
 }
@@ -560,71 +632,73 @@ fn variable_word(v: usize, w: usize) -> u16 {
         1 => 0xCCCC,
         2 => 0xF0F0,
         3 => 0xFF00,
-        _ => if (w >> ((v - 4) % 16)) % 2 == 1 {
-            ALL
-        } else {
-            0
-        },
+        _ if (w >> ((v - 4) % 16)) % 2 == 1 => 0xFFFF,
+        _ => 0,
     }
 }
 
-// Word `w` of a node, from those of its operands.
-fn word_of(node: Node, i: usize, w: usize, first: u16, second: u16) -> u16 {
-    let kind = node.kind;
+// Word `w` of node i, from those of its operands.
+fn word_of(node: SecondNode, i: usize, w: usize, first: u16, second: u16) -> u16 {
     if w < TABLE {
-        return match kind {
-            2 => input_word(node.set, w),
-            3 => first ^ ALL,
-            4 => first ^ second,
-            5 => first & second,
-            6 => first | second,
+        return match node.kind {
+            Kind::Input => input_word(node.set, w),
+            Kind::Not => !first,
+            Kind::Xor => first ^ second,
+            Kind::And => first & second,
+            Kind::Or => first | second,
             _ => first,
         };
     }
-    match kind {
-        2 | 7 => if i / 16 + TABLE == w {
-            1u16 << (i % 16)
-        } else {
-            0
-        },
-        3 => first,
+    match node.kind {
+        Kind::Input | Kind::Register if i / 16 + TABLE == w => 1u16 << (i % 16),
+        Kind::Input | Kind::Register => 0,
+        Kind::Not => first,
         _ => first | second,
     }
 }
 
-// Word `w` of a node, as it is filled in.
-fn word_at(store: &Store, node: usize, w: usize) -> u16 {
-    store[BITS + node % 200 * WORDS + w % WORDS]
-}
-
-// Fills in the words of all nodes.
-fn fill_words(block: SecondBlock, store: &mut Store) {
-    let end = block.count % 256 * WORDS;
-    let mut k = 0;
-    while k < end {
-        let node = block.nodes[k / WORDS % 200];
-        let first = word_at(store, node.first as usize, k);
-        let second = word_at(store, node.second as usize, k);
-        store[BITS + k % 16000] = word_of(node, k / WORDS, k % WORDS, first, second);
-        k += 1;
-    }
-}
-
-// Bit `place` of the words of a node.
-pub fn has_bit(store: &Store, node: usize, place: usize) -> bool {
-    (word_at(store, node, place / 16) >> (place % 16)) % 2 == 1
-}
-
-// Reads a block, and works out its families, values and feeding points. The store holds only zeros before.
-pub fn work_out(bytes: &[u8], store: &mut Store) -> SecondBlock {
-    let block = read(bytes);
-    let mut k = 0;
-    while k < LISTS {
-        if k % 200 < block.count {
-            add_family(store, block.nodes[k % 200], k / 200, k % 200);
+impl Second {
+    // Fills in the words of all nodes.
+    fn fill_words(&mut self) {
+        for i in 0..self.block.count() {
+            let node = self.block.nodes[i];
+            let first = self.words[node.first % NODES];
+            let second = self.words[node.second % NODES];
+            for (w, word) in self.words[i].iter_mut().enumerate() {
+                *word = word_of(node, i, w, first[w], second[w]);
+            }
         }
-        k += 1;
     }
-    fill_words(block, store);
-    block
+
+    // Bit `place` of the words of a node.
+    fn has_bit(&self, node: usize, place: usize) -> bool {
+        (self.words[node % NODES][place / 16 % WORDS] >> (place % 16)) % 2 == 1
+    }
+
+    // The settled value of a node under an assignment.
+    pub fn value(&self, node: usize, assignment: usize) -> bool {
+        self.has_bit(node, assignment)
+    }
+
+    // Whether node j feeds a node.
+    pub fn feeds(&self, j: usize, node: usize) -> bool {
+        self.has_bit(node, 16 * TABLE + j % 256)
+    }
+}
+
+// Reads a block, and works out its families, values and feeding points.
+pub fn work_out(bytes: &[u8]) -> Second {
+    let block = read(bytes);
+    let mut second = Second {
+        block,
+        families: [[List::empty(); NODES]; 2],
+        words: [[0; WORDS]; NODES],
+    };
+    for layer in 0..2 {
+        for i in 0..block.count() {
+            second.families[layer][i] = second.new_family(block.nodes[i], layer);
+        }
+    }
+    second.fill_words();
+    second
 }

@@ -5,7 +5,7 @@
 ghost use Rattle.std.specs.Prelude.{◌≡◌, ◌&&◌, ◌==◌};
 
 use rules::{Answer, Half, NodeRecord, Refusal};
-use std::num::wrapping_add_usize;
+use std::slice::Iter;
 
 // Standard output's descriptor.
 const STDOUT: i32 = 1;
@@ -17,7 +17,7 @@ pub type Tally = [usize; 64];
 
 // Adds to a count.
 pub fn count(tally: &mut Tally, at: usize, more: usize) {
-    tally[at % 64] = wrapping_add_usize(tally[at % 64], more);
+    tally[at % 64] = tally[at % 64].wrapping_add(more);
 }
 
 // Adds one to a count where the answer is yes.
@@ -29,27 +29,23 @@ pub fn count_if(tally: &mut Tally, at: usize, yes: bool) {
 
 // Raises a count that is lower to this value.
 pub fn raise(tally: &mut Tally, at: usize, value: usize) {
-    if tally[at % 64] < value {
-        tally[at % 64] = value;
-    }
+    tally[at % 64] = tally[at % 64].max(value);
 }
 
 // ---- node records
 
-// Whether two node records are the same, marks included.
+// Whether two node records are the same, marks included: `rules` derives no `==` for them.
 pub fn same_record(a: NodeRecord, b: NodeRecord) -> bool
     ensures { result ≡ (a.node.kind == b.node.kind && (a.node.first == b.node.first)
         && a.node.second == b.node.second && (a.node.set == b.node.set)
         && a.settled == b.settled && a.glitch == b.glitch) }
 {
-    let ours = a.node;
-    let theirs = b.node;
-    (ours.kind == theirs.kind)
-        & (ours.first == theirs.first)
-        & (ours.second == theirs.second)
-        & (ours.set == theirs.set)
-        & (a.settled == b.settled)
-        & (a.glitch == b.glitch)
+    a.node.kind == b.node.kind
+        && a.node.first == b.node.first
+        && a.node.second == b.node.second
+        && a.node.set == b.node.set
+        && a.settled == b.settled
+        && a.glitch == b.glitch
 }
 
 // ---- printing
@@ -67,41 +63,28 @@ pub fn print_number(x: usize) {
 
 // A byte.
 pub fn print_byte(byte: u8) {
-    let one = [byte; 1];
-    print(&one);
+    print(&[byte]);
 }
 
-// The count at `k`, where there is one.
-fn print_count(counts: &[usize], k: usize) {
-    if k < counts.len() {
-        print_number(counts[k]);
+// The next of some counts, if any is left.
+fn print_next(counts: &mut Iter<'_, usize>) {
+    if let Some(x) = counts.next() {
+        print_number(*x);
     }
 }
 
 // A text with counts: a `#` stands for a blank and the next count, and the end of a line has the next one, if any is
 // left, before it.
 pub fn print_counts(text: &[u8], counts: &[usize]) {
-    let mut k: usize = 0;
-    let mut i = 0;
-    while i < text.len() {
-        k = print_letter(text[i], counts, k);
-        i += 1;
+    let mut left = counts.iter();
+    for letter in text {
+        if matches!(*letter, b'#' | b'\n') {
+            print_next(&mut left);
+        }
+        if *letter != b'#' {
+            print_byte(*letter);
+        }
     }
-}
-
-// A letter of the text, where count `k` is the next one: the next one behind the letter.
-fn print_letter(letter: u8, counts: &[usize], k: usize) -> usize {
-    if letter == b'#' {
-        print_count(counts, k);
-        return wrapping_add_usize(k, 1);
-    }
-    if letter == b'\n' {
-        print_count(counts, k);
-        print_byte(letter);
-        return wrapping_add_usize(k, 1);
-    }
-    print_byte(letter);
-    k
 }
 
 // The words of a reply, with a blank before each.
@@ -125,11 +108,9 @@ fn print_half(name: &[u8], half: Half) {
 
 // The counts and the halves of an answer.
 pub fn print_answer(answer: Answer) {
-    let settled = answer.settled;
-    let glitch = answer.glitch;
     print_counts(b" vars# nodes#", &[answer.variables, answer.nodes]);
-    print_half(b" settled", settled);
-    print_half(b" glitch", glitch);
+    print_half(b" settled", answer.settled);
+    print_half(b" glitch", answer.glitch);
 }
 
 // A refusal or an answer.
