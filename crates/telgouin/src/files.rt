@@ -2,13 +2,11 @@
 ghost use Rattle.std.specs.Prelude.{◌≡◌, ◌+◌, ◌<◌};
 ghost use Rattle.io.specs.Counts.{IsPrefixLen};
 ghost use Rattle.rules.specs.Paper.{number_of, place_of};
-ghost use Rattle.telgouin.specs.declared.files.ReadBlock.TheVariants.{None};
 ghost use Rattle.telgouin.specs.Files.{SameBehind, FrontRead, FromFile, AsBytes, has_words, line_in};
 
 use desk::say::{say, say_fault, say_found, say_no_number, say_number};
-use read_words::{BlockWords, MOST_BLOCK, MOST_TEXT};
+use read_words::{BlockSize, MOST_BLOCK, MOST_TEXT};
 use rules::Refusal;
-use scanner::Number;
 use std::env::FillError;
 use std::fs;
 use std::rt::{Env, Files};
@@ -55,11 +53,11 @@ fn take_number<R: Env>(rt: &R, i: usize, into: &mut [usize; MOST_NUMBERS], k: us
     let mut word = io::buffer();
     let length = argument(rt, i, &mut word);
     match scanner::number_of(&word[..length]) {
-        Number::Is(x) => {
-            into[k] = x;
+        Some(number) => {
+            into[k] = number;
             true
         }
-        Number::None => {
+        None => {
             say_no_number(&word[..length]);
             false
         }
@@ -71,15 +69,10 @@ fn take_number<R: Env>(rt: &R, i: usize, into: &mut [usize; MOST_NUMBERS], k: us
 pub fn take_numbers<R: Env>(rt: &R, into: &mut [usize; MOST_NUMBERS], count: usize) -> bool
     ensures { SameBehind count into.old into.new }
 {
-    let mut k = 0;
-    while k < MOST_NUMBERS {
-        if k >= count {
-            break;
-        }
+    for k in 0..count.min(MOST_NUMBERS) {
         if !take_number(rt, NUMBERS + k, into, k) {
             return false;
         }
-        k += 1;
     }
     true
 }
@@ -118,21 +111,16 @@ fn read_from<F: std::io::Read>(file: &mut F, into: &mut [u8]) -> Read
     }
 }
 
-// A block: how many bytes it has, and how many lines its text in words, or 0 for one that is given as bytes;
-// or none, and what was expected has been printed.
-#[derive(Clone, Copy)]
-pub enum ReadBlock {
-    Bytes(usize, usize),
-    None,
-}
+// A block is answered by its size: how many bytes it has, and how many lines its text in words, or 0 for one that is
+// given as bytes. Where there is none, what was expected has been printed.
 
 // No block, since a file cannot be read; says so.
-fn unreadable(name: &[u8]) -> ReadBlock
+fn unreadable(name: &[u8]) -> Option<BlockSize>
     ensures { result ≡ None }
 {
     say(b"expected a file that can be read, found: ");
     say_found(name);
-    ReadBlock::None
+    None
 }
 
 // The block that a text in words says, with the line of each record; says what was expected where it says none.
@@ -140,26 +128,26 @@ fn translated(
     text: &[u8],
     bytes: &mut [u8; MOST_BLOCK],
     lines: &mut [usize; MOST_BLOCK],
-) -> ReadBlock
+) -> Option<BlockSize>
     ensures { FromFile result bytes.old lines.old bytes.new lines.new }
 {
     match read_words::block_of(text, bytes, lines) {
-        BlockWords::Bytes(count, last) => ReadBlock::Bytes(count, last),
-        BlockWords::Wrong(fault, line) => {
-            say_fault(fault, line);
-            ReadBlock::None
+        Ok(size) => Some(size),
+        Err(found) => {
+            say_fault(found.fault, found.line);
+            None
         }
     }
 }
 
 // No block, since a text in words is too long; says so.
-fn too_long() -> ReadBlock
+fn too_long() -> Option<BlockSize>
     ensures { result ≡ None }
 {
     say(b"expected at most ");
     say_number(MOST_TEXT);
     say(b" bytes of words, found more\n");
-    ReadBlock::None
+    None
 }
 
 // Reads a block in words from a file that is open, by way of `text`.
@@ -169,7 +157,7 @@ fn read_words<F: std::io::Read>(
     text: &mut [u8],
     bytes: &mut [u8; MOST_BLOCK],
     lines: &mut [usize; MOST_BLOCK],
-) -> ReadBlock
+) -> Option<BlockSize>
     ensures { FromFile result bytes.old lines.old bytes.new lines.new }
 {
     match read_from(file, text) {
@@ -184,13 +172,15 @@ fn read_bytes<F: std::io::Read>(
     file: &mut F,
     name: &[u8],
     bytes: &mut [u8; MOST_BLOCK],
-) -> ReadBlock
+) -> Option<BlockSize>
     ensures { AsBytes result }
 {
     match read_from(file, bytes) {
         Read::Failed => unreadable(name),
-        Read::First(count) => ReadBlock::Bytes(count, 0),
-        Read::All(count) => ReadBlock::Bytes(count, 0),
+        Read::First(count) | Read::All(count) => Some(BlockSize {
+            bytes: count,
+            lines: 0,
+        }),
     }
 }
 
@@ -198,10 +188,7 @@ fn read_bytes<F: std::io::Read>(
 pub fn has_words(name: &[u8]) -> bool
     ensures { result ≡ has_words name.now }
 {
-    let mut from = 0;
-    if name.len() > 4 {
-        from = name.len() - 4;
-    }
+    let from = name.len().saturating_sub(4);
     scanner::is_word(&name[from..], b".txt")
 }
 
@@ -211,7 +198,7 @@ fn read_open<F: std::io::Read>(
     name: &[u8],
     bytes: &mut [u8; MOST_BLOCK],
     lines: &mut [usize; MOST_BLOCK],
-) -> ReadBlock
+) -> Option<BlockSize>
     ensures { FromFile result bytes.old lines.old bytes.new lines.new }
 {
     if has_words(name) {
@@ -227,7 +214,7 @@ fn read_named<R: Files>(
     name: &[u8],
     bytes: &mut [u8; MOST_BLOCK],
     lines: &mut [usize; MOST_BLOCK],
-) -> ReadBlock
+) -> Option<BlockSize>
     ensures { FromFile result bytes.old lines.old bytes.new lines.new }
 {
     match std::str::from_utf8(name) {
@@ -246,7 +233,7 @@ pub fn read_block<R: Env + Files, I: std::io::Read>(
     edits: bool,
     bytes: &mut [u8; MOST_BLOCK],
     lines: &mut [usize; MOST_BLOCK],
-) -> ReadBlock
+) -> Option<BlockSize>
     ensures { FromFile result bytes.old lines.old bytes.new lines.new }
 {
     let mut path = io::buffer();
@@ -256,7 +243,7 @@ pub fn read_block<R: Env + Files, I: std::io::Read>(
     }
     if edits {
         say(b"expected a file to edit, found: -, where the edits are\n");
-        return ReadBlock::None;
+        return None;
     }
     read_bytes(input, &path[..length], bytes)
 }
