@@ -1,17 +1,17 @@
 -- What commands are given: what `checker::examine` left. Cited by the contracts of this crate and of the program.
 -- Assumes nothing.
-use Rattle.std.specs.Prelude.{◌≡◌, ℕ, List, length}
+use Rattle.std.specs.Prelude.{◌≡◌, ℕ, List, length, Ok}
 use Rattle.rules.specs.Records.{most_nodes}
 use Rattle.rules.specs.Slices.{work_after, reply}
 use Rattle.rules.specs.Checks.{admitted, most_work}
-use Rattle.rules.specs.Paper.{reply_of}
 use Rattle.netlists.specs.Netlists.{flat_of, kept}
 use Rattle.checker.specs.declared.Examined.{Examined}
+use Rattle.checker.specs.Work.{replied}
 
 -- what it leaves of netlist bytes, where the number of entries has room for every netlist,
 -- and the work bytes were `before`
 pub record Leaves (bytes before : List ℕ) (examined : Examined) (work : List ℕ) : Type 0 where
-  pub reply : reply_of examined.reply ≡ reply bytes most_nodes (length before)
+  pub reply : replied (Ok examined) ≡ reply bytes most_nodes (length before)
   pub netlist : examined.netlist ≡ flat_of (kept (admitted bytes most_nodes (length before)))
   pub held : work ≡ work_after bytes most_nodes before
 

@@ -9,7 +9,7 @@ use crate::say::{say, say_answer, say_refused, say_set, say_text, write_text};
 use checker::Examined;
 use pair_search::{Found, Search};
 use pairs::{PairsAnswer, Progress};
-use rules::{MOST_VARIABLES, MOST_WORK};
+use rules::{MOST_VARIABLES, MOST_WORK, Refusal};
 
 // Standard error.
 const STDERR: i32 = 2;
@@ -48,7 +48,7 @@ fn searched(examined: Examined, work: &[u8; MOST_WORK], limit: usize, shown: boo
     ensures { (bytes before : List ℕ) → Leaves bytes before examined work.now →
         pairs_reply_of result ≡ pairs_reply bytes most_nodes (length before) limit }
 {
-    let mut progress = pairs::begin_pairs(examined);
+    let mut progress = pairs::begin_pairs(Ok(examined));
     while !pairs::is_done(progress) {
         progress = pairs::further(examined.netlist, work, limit, progress);
         tell_progress(shown, progress);
