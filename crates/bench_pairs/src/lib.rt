@@ -9,7 +9,6 @@ ghost use Rattle.pair_search.specs.Pairs.{pairs_reply};
 ghost use Rattle.bench_pairs.specs.Packed.{packed, packed_reply};
 
 use pair_search::Found;
-use pairs::PairsAnswer;
 use rules::{MOST_NODES, MOST_WORK};
 
 // The count of pairs, the case and three numbers of it in one number: 16, 4 and thrice 12 bits, the count highest.
@@ -27,20 +26,15 @@ pub extern "C" fn telgouin_pairs(bytes: &[u8], limit: usize) -> usize
     ensures { result ≡ packed_reply (pairs_reply bytes.now most_nodes most_work limit) }
 {
     let mut work = [0u8; MOST_WORK];
-    let examined = pairs::examine_pairs(bytes, MOST_NODES, &mut work, limit);
-    let reply = examined.reply;
-    match reply {
-        Err(refusal) => {
-            packed(0, 0, refusals::number_of(refusal), refusal.place, 0)
-        }
-        Ok(answer) => {
-            let search = answer.search;
-            let found = search.found;
-            match found {
-                Found::Single(node, set) => packed(search.looked, 1, node, set, 0),
-                Found::NoPair => packed(search.looked, 2, 0, 0, 0),
-                Found::Pair(i, j, set) => packed(search.looked, 3, i, j, set),
-                Found::Spent => packed(search.looked, 4, 0, 0, 0),
+    match pairs::examine_pairs(bytes, MOST_NODES, &mut work, limit) {
+        Err(refusal) => packed(0, 0, refusals::number_of(refusal), refusal.place, 0),
+        Ok(both) => {
+            let looked = both.search.looked;
+            match both.search.found {
+                Found::Single(node, set) => packed(looked, 1, node, set, 0),
+                Found::NoPair => packed(looked, 2, 0, 0, 0),
+                Found::Pair(i, j, set) => packed(looked, 3, i, j, set),
+                Found::Spent => packed(looked, 4, 0, 0, 0),
             }
         }
     }

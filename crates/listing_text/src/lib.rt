@@ -105,10 +105,9 @@ fn put_listing(text: &mut [u8; MOST_TEXT], bytes: &[u8]) -> usize
     ensures { Appended text.old text.new 0 result (listing bytes.now) }
 {
     let mut work = [0u8; MOST_WORK];
-    let examined = checker::examine(bytes, MOST_NODES, &mut work);
-    match examined.reply {
+    match checker::examine(bytes, MOST_NODES, &mut work) {
         Err(refusal) => put_refusal(text, refusal),
-        Ok(answer) => listing_of(answer, examined.netlist, &work, text),
+        Ok(examined) => listing_of(examined.answer, examined.netlist, &work, text),
     }
 }
 

@@ -1,8 +1,7 @@
 -- The ways through the core: where `examine` refuses so does `examine_pairs`, and else the search over the work bytes
 -- is that over the pairs of the netlist; from that follow the promises of `examine_pairs`. Assumes nothing.
-use Rattle.std.specs.Prelude.{Result, Ok}
+use Rattle.std.specs.Prelude.{Result, Ok, Err}
 use Rattle.rules.specs.declared.Refusal.{Refusal}
-use Rattle.pairs.specs.declared.PairsAnswer.{PairsAnswer}
 use Prim.Native.Nat.{ℕ}
 use mathlib.Core.Path.{◌≡◌, refl, sym, ap, ap₂, subst, ◌∙◌}
 use mathlib.Core.Logic.{◌↔◌}
@@ -25,13 +24,14 @@ use Rattle.netlists.specs.declared.Netlist as Value
 use Rattle.netlists.specs.Netlists.{flat_of, Ready, kept}
 use Rattle.netlists.proofs.Netlists.{value_count}
 use Rattle.marks.specs.Marks.{marks_of}
-use Rattle.checker.specs.declared.Examined.{Examined}
+use Rattle.checker.specs.Work.{replied, kept_netlist, kept_marks}
 use Rattle.pair_search.specs.declared.Search.{Search}
 use Rattle.pair_search.specs.Pairs.{pairs, search_from, unless_single, searched, PairFindings, pair_findings, pairs_reply, one_probe_reply, NoPair, NothingSuspectInPairs, TwoProbes}
 use Rattle.pair_search.specs.Meaning.{searched_of}
 use Rattle.pair_search.specs.Work.{report_in}
 use Rattle.pairs.proofs.Findings.{search_there}
-use Rattle.pairs.specs.Meaning.{pairs_reply_of}
+use Rattle.pairs.specs.Meaning.{pairs_reply_of, pairs_replied, examined_in}
+use Rattle.pairs.specs.declared.ExaminedPairs.{ExaminedPairs}
 use Rattle.pairs.proofs.TwoProbes.{one_probe_reply_lem, no_pair_exactly, two_probes}
 
 -- the empty netlist obeys the record rules
@@ -105,38 +105,37 @@ module _ (bytes : List ℕ) (entries limit : ℕ) where
       rw a.admits
       (ap₂ {C = Outcome PairFindings} (λ f s. answered (record { answer = f; searched = s })) a.says (found ∙ ap (unless_single (half (λ F. F.glitch) n)) held))
 
-  -- the promises of `examine_pairs`, in their order
-  pub promises : (r : Result PairsAnswer Refusal) (examined : Examined) (before after : List ℕ) → pairs_reply_of r ≡ pairs_reply bytes entries (length before) limit
-      → examined.netlist ≡ flat_of (kept (admitted bytes entries (length before))) → examined.marks ≡ marks_of (kept (admitted bytes entries (length before)))
-      → after ≡ work_after bytes entries before
-      → (pairs_reply_of r ≡ pairs_reply bytes entries (length before) limit)
-      × ((examined.netlist ≡ flat_of (kept (admitted bytes entries (length before))))
-      × ((examined.marks ≡ marks_of (kept (admitted bytes entries (length before))))
-      × ((after ≡ work_after bytes entries before)
-      × ((GlitchClear (one_probe_reply (pairs_reply_of r)) ↔ NothingSuspect bytes entries (length before))
-      × ((GlitchClear (one_probe_reply (pairs_reply_of r)) → OneProbe bytes)
-      × ((NoPair (pairs_reply_of r) ↔ NothingSuspectInPairs bytes entries (length before) limit)
-      × (NoPair (pairs_reply_of r) → TwoProbes bytes)))))))
-  promises r examined before after is is_value is-marked is_work =
-      let checked = ap one_probe_reply is ∙ one_probe_reply_lem bytes entries (length before) limit in (
-        is,
-        (
-          is_value,
-          (
-            is-marked,
-            (
-              is_work,
-              (
-                subst (λ o. GlitchClear o ↔ NothingSuspect bytes entries (length before)) (sym checked) (exactly_when bytes entries (length before)),
-                (
-                  subst (λ o. GlitchClear o → OneProbe bytes) (sym checked) (one_probe bytes entries (length before)),
-                  (
-                    subst (λ o. NoPair o ↔ NothingSuspectInPairs bytes entries (length before) limit) (sym is) (no_pair_exactly bytes entries (length before) limit),
-                    subst (λ o. NoPair o → TwoProbes bytes) (sym is) (two_probes bytes entries (length before) limit),
-                  ),
-                ),
-              ),
-            ),
-          ),
-        ),
-      )
+  -- the reply of one probe beside it
+  pub one_probe_replied : (work : ℕ) (r : Result ExaminedPairs Refusal) → pairs_replied r ≡ pairs_reply bytes entries work limit
+      → replied (examined_in r) ≡ reply bytes entries work
+  unfolding one_probe_reply and_then
+  one_probe_replied work (Ok e) is = ap one_probe_reply is ∙ one_probe_reply_lem bytes entries work limit
+  one_probe_replied work (Err e) is = ap one_probe_reply is ∙ one_probe_reply_lem bytes entries work limit
+
+  -- the promises of `examine_pairs`
+  pub record Promises (r : Result ExaminedPairs Refusal) (before after : List ℕ) : Type 0 where
+    pub reply : pairs_replied r ≡ pairs_reply bytes entries (length before) limit
+    pub netlist : kept_netlist (examined_in r) ≡ flat_of (kept (admitted bytes entries (length before)))
+    pub marks : kept_marks (examined_in r) ≡ marks_of (kept (admitted bytes entries (length before)))
+    pub work : after ≡ work_after bytes entries before
+    pub clear : GlitchClear (one_probe_reply (pairs_replied r)) ↔ NothingSuspect bytes entries (length before)
+    pub probe : GlitchClear (one_probe_reply (pairs_replied r)) → OneProbe bytes
+    pub pairs : NoPair (pairs_replied r) ↔ NothingSuspectInPairs bytes entries (length before) limit
+    pub probes : NoPair (pairs_replied r) → TwoProbes bytes
+
+  pub promises : (r : Result ExaminedPairs Refusal) (before after : List ℕ) → pairs_replied r ≡ pairs_reply bytes entries (length before) limit
+      → kept_netlist (examined_in r) ≡ flat_of (kept (admitted bytes entries (length before)))
+      → kept_marks (examined_in r) ≡ marks_of (kept (admitted bytes entries (length before)))
+      → after ≡ work_after bytes entries before → Promises r before after
+  promises r before after is is_value is-marked is_work =
+      let checked = ap one_probe_reply is ∙ one_probe_reply_lem bytes entries (length before) limit in
+      record {
+        reply = is;
+        netlist = is_value;
+        marks = is-marked;
+        work = is_work;
+        clear = subst (λ o. GlitchClear o ↔ NothingSuspect bytes entries (length before)) (sym checked) (exactly_when bytes entries (length before));
+        probe = subst (λ o. GlitchClear o → OneProbe bytes) (sym checked) (one_probe bytes entries (length before));
+        pairs = subst (λ o. NoPair o ↔ NothingSuspectInPairs bytes entries (length before) limit) (sym is) (no_pair_exactly bytes entries (length before) limit);
+        probes = subst (λ o. NoPair o → TwoProbes bytes) (sym is) (two_probes bytes entries (length before) limit);
+      }

@@ -1,6 +1,6 @@
 -- A search that goes on node by node: it begins, goes a node further, and once it is done it is the search
 -- over all pairs. Assumes nothing.
-use Rattle.std.specs.Prelude.{Result}
+use Rattle.std.specs.Prelude.{Result, Ok}
 use Rattle.rules.specs.declared.Refusal.{Refusal}
 use Rattle.rules.specs.declared.Answer.{Answer}
 use Prim.Native.Nat.{ℕ, ◌+◌, ◌-◌, ◌≤◌}
@@ -16,18 +16,19 @@ use Rattle.rules.specs.Records.{Netlist}
 use Rattle.rules.specs.Families.{half, Finding, clear, suspect_at, Findings, findings}
 use Rattle.rules.specs.Slices.{work_after, reply}
 use Rattle.rules.specs.Checks.{answered, and_then, admitted}
-use Rattle.rules.specs.Paper.{reply_of}
+use Rattle.rules.specs.Paper.{reply_of, finding_of, findings_of}
 use Rattle.netlists.specs.declared.Netlist as Value
 use Rattle.netlists.specs.Netlists.{flat_of, kept}
 use Rattle.netlists.proofs.Netlists.{value_count}
 use Rattle.pair_search.specs.declared.Search.{Search}
-use Rattle.pair_search.specs.Pairs.{row, pairs_below, pairs, no_pair, Searched, search_from, unless_single}
+use Rattle.pair_search.specs.Pairs.{row, pairs_below, pairs, no_pair, Searched, search_from, unless_single, pairs_reply}
 use Rattle.pair_search.specs.Meaning.{searched_of}
 use Rattle.pair_search.specs.Work.{report_in, over}
 use Rattle.pair_search.proofs.Growing.{goes_on, stays_over, pairs_none, pairs_more}
 use Rattle.pairs.specs.declared.Progress.{Progress}
 use Rattle.pairs.specs.Underway.{is_done, Underway}
-use Rattle.pairs.proofs.Core.{value_is, ready}
+use Rattle.pairs.specs.Meaning.{pairs_reply_of}
+use Rattle.pairs.proofs.Core.{value_is, ready, of_answered, searches}
 
 -- both tests fail, or one holds
 neither : (a b : Bool) → (a || b) ≡ false → (a ≡ false) × (b ≡ false)
@@ -44,19 +45,24 @@ not_done progress e =
     let (left, on) = neither (leb progress.nodes progress.next) (over (searched_of progress.search).found) e in
     (omega (arith, leb-false progress.nodes progress.next left), on)
 
+-- what the half of an answer decides, the findings do that it says
+pub by_findings : (answer : Answer) (looked : Search) → searched_of looked ≡ unless_single (finding_of answer.glitch) (record { found = no_pair; looked = 0 })
+    → (f : Findings) → answered (findings_of answer) ≡ answered f → searched_of looked ≡ unless_single f.glitch (record { found = no_pair; looked = 0 })
+by_findings answer looked is f e = let same : f ≡ findings_of answer = cc in rw same is
+
 module _ (bytes : List ℕ) (entries limit : ℕ) (before : List ℕ) (netlist : Value.Netlist) (work : List ℕ) where
   -- no pair was looked at
-  pub begins : (first : Result Answer Refusal) (looked : Search) → reply_of first ≡ reply bytes entries (length before)
-      → netlist ≡ flat_of (kept (admitted bytes entries (length before))) → work ≡ work_after bytes entries before
+  pub begins : (first : Result Answer Refusal) (looked : Search) (nodes : ℕ) → reply_of first ≡ reply bytes entries (length before)
+      → netlist ≡ flat_of (kept (admitted bytes entries (length before))) → work ≡ work_after bytes entries before → nodes ≡ netlist.count
       → ((f : Findings) → reply_of first ≡ answered f → searched_of looked ≡ unless_single f.glitch (record { found = no_pair; looked = 0 }))
-      → Underway bytes entries limit before netlist work (record { reply = first; search = looked; next = 0; nodes = netlist.count })
+      → Underway bytes entries limit before netlist work (record { reply = first; search = looked; next = 0; nodes = nodes })
   unfolding reply and_then findings search_from
-  begins first looked replied value held single = record {
+  begins first looked nodes replied value held count single = record {
     replied = replied;
     value = value;
     held = held;
     ready = ready bytes entries before value held;
-    nodes = refl;
+    nodes = count;
     within = omega arith;
     found = λ n admits. rw (pairs_none n) (single (findings n) (rw admits at replied));
   }
@@ -112,3 +118,10 @@ module _ (bytes : List ℕ) (entries limit : ℕ) (before : List ℕ) (netlist :
             let rest : progress.next + (length n.nodes - progress.next) ≡ length n.nodes = omega (arith, u.within, all) in
             rw rest at (stays_over _ _ (pairs_below n) (λ j. row n j j) (pairs_more n) 0 progress.next (length n.nodes - progress.next) _ found ends))
             (either (leb progress.nodes progress.next) (over (searched_of progress.search).found) e)
+
+    -- and, beside the answer of one probe, the whole reply
+    pub whole : is_done progress ≡ true → (answer : Answer) → answered (findings_of answer) ≡ reply bytes entries (length before)
+        → pairs_reply_of (Ok (record { answer = answer; search = progress.search })) ≡ pairs_reply bytes entries (length before) limit
+    whole e answer replied =
+        let answers = of_answered bytes entries (length before) (findings_of answer) replied in
+        searches bytes entries limit answer progress.search before answers u.held (all_found e answers.netlist answers.admits)

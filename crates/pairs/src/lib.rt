@@ -5,17 +5,17 @@
 #![tactic(auto)]
 
 ghost use Rattle.std.specs.Prelude.{◌≡◌, true, false, ◌↔◌, List, ℕ, ◌+◌, ◌≤◌, length};
-ghost use Rattle.rules.specs.Families.{Findings};
 ghost use Rattle.rules.specs.Slices.{nodes_after, work_after, reply};
 ghost use Rattle.rules.specs.Checks.{answered, and_then, admitted};
 ghost use Rattle.rules.specs.Demands.{GlitchClear, NothingSuspect, OneProbe};
-ghost use Rattle.rules.specs.Paper.{reply_of};
+ghost use Rattle.rules.specs.Paper.{reply_of, finding_of};
 ghost use Rattle.netlists.specs.Netlists.{flat_of, Ready, kept};
 ghost use Rattle.marks.specs.Marks.{marks_of};
+ghost use Rattle.checker.specs.Work.{replied, kept_netlist, kept_marks};
 ghost use Rattle.pair_search.specs.Pairs.{no_pair, unless_single, pairs_reply};
 ghost use Rattle.pair_search.specs.Pairs.{one_probe_reply, NoPair, NothingSuspectInPairs, TwoProbes};
 ghost use Rattle.pair_search.specs.Meaning.{searched_of};
-ghost use Rattle.pairs.specs.Meaning.{pairs_reply_of};
+ghost use Rattle.pairs.specs.Meaning.{pairs_reply_of, pairs_replied, examined_in};
 ghost use Rattle.pairs.specs.Underway.{is_done, Underway};
 
 use checker::Examined;
@@ -30,12 +30,11 @@ pub struct PairsAnswer {
     pub search: Search,
 }
 
-// What an examination with two probes gives: the reply, and what `checker::examine` gives,
-// whose netlist is empty on a refusal.
+// What an examination with two probes gives: what `checker::examine` gives, and what the search over pairs found.
 #[derive(Clone, Copy)]
 pub struct ExaminedPairs {
-    pub reply: Result<PairsAnswer, Refusal>,
     pub examined: Examined,
+    pub search: Search,
 }
 
 // ---- the search, node by node
@@ -51,36 +50,41 @@ pub struct Progress {
 }
 
 // The search before any pair is looked at: a node that is suspect by itself, with its set, or no pair so far.
-fn single_or_none(reply: Result<Answer, Refusal>) -> Search
-    ensures { (f : Findings) → reply_of reply ≡ answered f →
-        searched_of result ≡ unless_single f.glitch (record { found = no_pair; looked = 0 }) }
+fn single_or_none(glitch: Half) -> Search
+    ensures { searched_of result ≡
+        unless_single (finding_of glitch) (record { found = no_pair; looked = 0 }) }
 {
-    match reply {
-        Err(_) => pair_search::no_pair(0),
-        Ok(answer) => match answer.glitch {
-            Half::Clear => pair_search::no_pair(0),
-            Half::Suspect(node, set) => Search {
-                found: Found::Single(node, set),
-                looked: 0,
-            },
+    match glitch {
+        Half::Clear => pair_search::no_pair(0),
+        Half::Suspect(node, set) => Search {
+            found: Found::Single(node, set),
+            looked: 0,
         },
     }
 }
 
 // The search before any pair is looked at, of what `examine` gave. A node that is suspect by itself ends it;
 // on a refusal there are no nodes.
-pub fn begin_pairs(examined: Examined) -> Progress
+pub fn begin_pairs(examined: Result<Examined, Refusal>) -> Progress
     ensures { (bytes : List ℕ) (entries limit : ℕ) (before work : List ℕ) →
-        reply_of examined.reply ≡ reply bytes entries (length before) →
-        examined.netlist ≡ flat_of (kept (admitted bytes entries (length before))) →
+        replied examined ≡ reply bytes entries (length before) →
+        kept_netlist examined ≡ flat_of (kept (admitted bytes entries (length before))) →
         work ≡ work_after bytes entries before →
-        Underway bytes entries limit before examined.netlist work result }
+        Underway bytes entries limit before (kept_netlist examined) work result }
 {
-    Progress {
-        reply: examined.reply,
-        search: single_or_none(examined.reply),
-        next: 0,
-        nodes: examined.netlist.count,
+    match examined {
+        Err(refusal) => Progress {
+            reply: Err(refusal),
+            search: pair_search::no_pair(0),
+            next: 0,
+            nodes: 0,
+        },
+        Ok(examined) => Progress {
+            reply: Ok(examined.answer),
+            search: single_or_none(examined.answer.glitch),
+            next: 0,
+            nodes: examined.netlist.count,
+        },
     }
 }
 
@@ -117,41 +121,44 @@ pub fn reply_after(progress: Progress) -> Result<PairsAnswer, Refusal>
         Underway bytes entries limit before netlist work progress → is_done progress ≡ true →
         pairs_reply_of result ≡ pairs_reply bytes entries (length before) limit }
 {
-    match progress.reply {
-        Err(refusal) => Err(refusal),
-        Ok(answer) => Ok(PairsAnswer {
-            answer,
-            search: progress.search,
-        }),
-    }
+    let answer = progress.reply?;
+    Ok(PairsAnswer {
+        answer,
+        search: progress.search,
+    })
 }
 
 // Checks netlist bytes as `check_pairs` does with a slice of `entries` node records: the same reply, and the same work
 // bytes at exit. In place of node records it gives what `checker::examine` gives.
-pub fn examine_pairs(bytes: &[u8], entries: usize, work: &mut [u8], limit: usize) -> ExaminedPairs
-    ensures reply { pairs_reply_of result.reply ≡
+pub fn examine_pairs(
+    bytes: &[u8],
+    entries: usize,
+    work: &mut [u8],
+    limit: usize,
+) -> Result<ExaminedPairs, Refusal>
+    ensures reply { pairs_replied result ≡
         pairs_reply bytes.now entries (length work.old) limit }
-    ensures netlist { result.examined.netlist ≡
+    ensures netlist { kept_netlist (examined_in result) ≡
         flat_of (kept (admitted bytes.now entries (length work.old))) }
-    ensures marks { result.examined.marks ≡
+    ensures marks { kept_marks (examined_in result) ≡
         marks_of (kept (admitted bytes.now entries (length work.old))) }
     ensures work { work.new ≡ work_after bytes.now entries work.old }
-    ensures clear { GlitchClear (one_probe_reply (pairs_reply_of result.reply)) ↔
+    ensures clear { GlitchClear (one_probe_reply (pairs_replied result)) ↔
         NothingSuspect bytes.now entries (length work.old) }
-    ensures probe { GlitchClear (one_probe_reply (pairs_reply_of result.reply)) → OneProbe bytes.now }
-    ensures pairs { NoPair (pairs_reply_of result.reply) ↔
+    ensures probe { GlitchClear (one_probe_reply (pairs_replied result)) → OneProbe bytes.now }
+    ensures pairs { NoPair (pairs_replied result) ↔
         NothingSuspectInPairs bytes.now entries (length work.old) limit }
-    ensures probes { NoPair (pairs_reply_of result.reply) → TwoProbes bytes.now }
+    ensures probes { NoPair (pairs_replied result) → TwoProbes bytes.now }
 {
-    let examined = checker::examine(bytes, entries, work);
-    let mut progress = begin_pairs(examined);
+    let examined = checker::examine(bytes, entries, work)?;
+    let mut progress = begin_pairs(Ok(examined));
     while !is_done(progress) {
         progress = further(examined.netlist, work, limit, progress);
     }
-    ExaminedPairs {
-        reply: reply_after(progress),
+    Ok(ExaminedPairs {
         examined,
-    }
+        search: progress.search,
+    })
 }
 
 // ---- the entry point, over the lent slice of node records
@@ -179,7 +186,10 @@ pub fn check_pairs(
         NothingSuspectInPairs bytes.now (length nodes.old) (length work.old) limit }
     ensures probes { NoPair (pairs_reply_of result) → TwoProbes bytes.now }
 {
-    let examined = examine_pairs(bytes, nodes.len(), work, limit);
-    checker::store(nodes, examined.examined);
-    examined.reply
+    let both = examine_pairs(bytes, nodes.len(), work, limit)?;
+    checker::store(nodes, both.examined);
+    Ok(PairsAnswer {
+        answer: both.examined.answer,
+        search: both.search,
+    })
 }

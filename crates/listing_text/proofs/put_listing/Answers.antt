@@ -10,11 +10,12 @@ use Rattle.listing_text.proofs.put_listing.Goals as goal
 pub returns-in-Err : goal.returns-in-Err
 unfolding listing text_of
 returns-in-Err c =
-    rw (refused_read _ _ (length-replicate {A = ℕ} most_work 0) c.in-Err.is c.examine-examined.ensures.reply) c.put_refusal.ensures
+    rw (refused_read _ _ (length-replicate {A = ℕ} most_work 0) c.in-Err.refusal (rw c.in-Err.is at c.examine.ensures.reply)) c.put_refusal.ensures
 
 pub returns-in-Ok : goal.returns-in-Ok
 unfolding listing text_of
 returns-in-Ok c =
-    let given = c.examine-examined.ensures in
-    let checks = checked _ _ (length-replicate {A = ℕ} most_work 0) c.in-Ok.is given.reply given.netlist given.work in
+    let e = rw c.in-Ok.is at c.examine.ensures.reply in
+    let value = rw c.in-Ok.is at c.examine.ensures.netlist in
+    let checks = checked _ _ (length-replicate {A = ℕ} most_work 0) c.in-Ok.examined e value c.examine.ensures.work in
     rw checks.is_read (c.listing_of.ensures.appended checks.netlist _ (obeys checks) checks.is_value checks.found checks.is_work)

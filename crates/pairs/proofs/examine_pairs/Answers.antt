@@ -1,9 +1,28 @@
 -- `pairs::examine_pairs` meets its contract. The loop's invariant: what was under way where it began still is.
 -- The measure is how many nodes are left. Assumes nothing.
+use Rattle.std.specs.Prelude.{Ok, Err}
 use mathlib.Core.Path.{sym, ◌∙◌}
 use native.Mathlib.Omega.{arith}
-use Rattle.pairs.proofs.Core.{promises}
+use Rattle.std.proofs.lemmas.Result.{err_from_is_err_and}
+use Rattle.pairs.proofs.Core.{of_refused, promises}
+use Rattle.pairs.proofs.Underway.{whole}
 use Rattle.pairs.proofs.examine_pairs.Goals as goal
+
+pub returns-in_err-examined : goal.returns-in_err-examined
+returns-in_err-examined c =
+    let p = err_from_is_err_and c.from_residual.result c.from_residual.ensures.1 in
+    let e = c.in_err-examined.ensures in
+    let q = promises _ _ c.args.limit (Err _) _ _ (of_refused _ _ c.args.limit _ _ _ e.reply) e.netlist e.marks e.work in
+    rw (p.1, p.2) (record {
+      reply = q.reply;
+      netlist = q.netlist;
+      marks = q.marks;
+      work = q.work;
+      clear = q.clear;
+      probe = q.probe;
+      pairs = q.pairs;
+      probes = q.probes;
+    })
 
 pub loop-work-init : goal.loop-work-init
 loop-work-init c = λ before u. u
@@ -11,8 +30,8 @@ loop-work-init c = λ before u. u
 -- what is under way at a turn of the loop is what was under way where the search began
 pub further-progress-requires : goal.further-progress-requires
 further-progress-requires c =
-    let checked = c.examine-examined.ensures in
-    let u = c.loop-work.invariant _ (c.begin_pairs-progress.ensures _ _ c.args.limit _ _ checked.reply checked.netlist checked.work) in
+    let e = c.in_ok-examined.ensures in
+    let u = c.loop-work.invariant _ (c.begin_pairs-progress.ensures _ _ c.args.limit _ _ e.reply e.netlist e.work) in
     (u.ready, u.nodes, sym c.is_done.ensures ∙ c.loop-work-test.true)
 
 pub loop-work-smaller : goal.loop-work-smaller
@@ -23,17 +42,16 @@ loop-work-preserved c = λ before u. c.further-progress.ensures.by_index _ _ bef
 
 pub returns : goal.returns
 returns c =
-    let checked = c.examine-examined.ensures in
-    let u = c.loop-work.invariant _ (c.begin_pairs-progress.ensures _ _ c.args.limit _ _ checked.reply checked.netlist checked.work) in
-    let done = c.reply_after.ensures.done _ _ _ _ _ _ u (sym c.is_done.ensures ∙ c.loop-work-test.false) in
-    let p = promises _ _ _ c.reply_after.result c.examine-examined.result _ _ done checked.netlist checked.marks checked.work in
+    let e = c.in_ok-examined.ensures in
+    let u = c.loop-work.invariant _ (c.begin_pairs-progress.ensures _ _ c.args.limit _ _ e.reply e.netlist e.work) in
+    let q = promises _ _ c.args.limit (Ok (record { examined = c.in_ok-examined.examined; search = c.loop-work.progress.search })) _ _ (whole _ _ _ _ _ _ _ u (sym c.is_done.ensures ∙ c.loop-work-test.false) _ e.reply) e.netlist e.marks e.work in
     record {
-      reply = p.0;
-      netlist = p.1.0;
-      marks = p.1.1.0;
-      work = p.1.1.1.0;
-      clear = p.1.1.1.1.0;
-      probe = p.1.1.1.1.1.0;
-      pairs = p.1.1.1.1.1.1.0;
-      probes = p.1.1.1.1.1.1.1;
+      reply = q.reply;
+      netlist = q.netlist;
+      marks = q.marks;
+      work = q.work;
+      clear = q.clear;
+      probe = q.probe;
+      pairs = q.pairs;
+      probes = q.probes;
     }
