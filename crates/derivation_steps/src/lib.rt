@@ -15,6 +15,7 @@ ghost use Rattle.derivation_rules.specs.Derivations.{way, needed, first_made, ch
 ghost use Rattle.derivation_steps.specs.Meaning.{layer_meant, claim_of, way_of, Numbered, works_of, InRange};
 
 use families::SETS;
+use netlists::Kind;
 use rules::Node;
 
 // How many bytes a step has.
@@ -222,15 +223,18 @@ pub fn choose(work: &[u8], node: Node, layer: Layer, set: usize) -> Way
         second: node.second as usize,
         set,
     };
-    match node.kind {
-        2 => Way::Own,
-        3 => way_of_not(work, operand),
-        4 => gate.xor(),
-        7 => Way::Operand(Claim {
+    let Ok(kind) = Kind::try_from(node.kind) else {
+        return gate.spread();
+    };
+    match kind {
+        Kind::Input => Way::Own,
+        Kind::Not => way_of_not(work, operand),
+        Kind::Xor => gate.xor(),
+        Kind::Register => Way::Operand(Claim {
             layer: Layer::Settled,
             ..operand
         }),
-        _ => gate.spread(),
+        Kind::And | Kind::Or | Kind::End | Kind::Variable => gate.spread(),
     }
 }
 
