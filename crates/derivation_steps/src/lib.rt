@@ -205,7 +205,7 @@ fn way_of_not(work: &[u8], operand: Claim) -> Way
 
 // The first rule that works for a set of a node's family in a layer, in the order of request A5, and what it needs
 // of the operands, whose families the work bytes hold. What a set of the family needs is true (`needs_held` of
-// `derivation_rules/proofs/Derivation`).
+// `derivation_rules/proofs/Derivation`). A kind that is no node's is taken as AND's.
 pub fn choose(work: &[u8], node: Node, layer: Layer, set: usize) -> Way
     requires { (most_work ≤ length work.now) × Placed most_nodes node × (set < most_sets) }
     ensures { (cell : Cell) → node ≡ entry cell →

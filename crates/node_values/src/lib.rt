@@ -31,7 +31,8 @@ fn exclusive_or(variables: usize, set: usize, assignment: usize) -> bool
     sum
 }
 
-// The settled value of a node under an assignment, from those of the lower nodes.
+// The settled value of a node under an assignment, from those of the lower nodes. A kind that is no node's is taken as
+// a register's.
 fn value_from(values: &[bool], node: Node, variables: usize, assignment: usize) -> bool
     requires { (node.first < length values.now) × (node.second < length values.now) }
     ensures { (cell : Cell) → node ≡ entry cell →
