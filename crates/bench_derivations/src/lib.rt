@@ -14,8 +14,7 @@ use rules::Refusal;
 fn packed(refusal: Refusal) -> usize
     ensures { result ≡ packed_steps (refused (number_of refusal) (place_of refusal)) }
 {
-    let number = refusals::number_of(refusal);
-    number % 4096 * 4096 + refusal.place % 4096
+    refusals::number_of(refusal) % 4096 * 4096 + refusal.place % 4096
 }
 
 // Writes a derivation as `derive` does, and returns the number of steps, or the refusal in one number.
@@ -31,9 +30,8 @@ pub extern "C" fn telgouin_derive(
         packed_steps (steps_reply bytes.now node layer set (length steps.old)) }
     ensures steps { steps.new ≡ steps_after bytes.now node layer set steps.old }
 {
-    let reply = derivations::derive(bytes, node, layer, set, steps);
-    match reply {
-        Err(refusal) => packed(refusal),
+    match derivations::derive(bytes, node, layer, set, steps) {
         Ok(count) => count,
+        Err(refusal) => packed(refusal),
     }
 }

@@ -15,6 +15,7 @@ ghost use Rattle.derivation_rules.specs.Derivations.{way, needed, first_made, ch
 ghost use Rattle.derivation_steps.specs.Meaning.{layer_meant, claim_of, way_of, Numbered, works_of, InRange};
 
 use families::SETS;
+use netlists::Kind;
 use rules::Node;
 
 // How many bytes a step has.
@@ -204,7 +205,7 @@ fn way_of_not(work: &[u8], operand: Claim) -> Way
 
 // The first rule that works for a set of a node's family in a layer, in the order of request A5, and what it needs
 // of the operands, whose families the work bytes hold. What a set of the family needs is true (`needs_held` of
-// `derivation_rules/proofs/Derivation`).
+// `derivation_rules/proofs/Derivation`). A kind that is no node's is taken as AND's.
 pub fn choose(work: &[u8], node: Node, layer: Layer, set: usize) -> Way
     requires { (most_work ≤ length work.now) × Placed most_nodes node × (set < most_sets) }
     ensures { (cell : Cell) → node ≡ entry cell →
@@ -222,15 +223,18 @@ pub fn choose(work: &[u8], node: Node, layer: Layer, set: usize) -> Way
         second: node.second as usize,
         set,
     };
-    match node.kind {
-        2 => Way::Own,
-        3 => way_of_not(work, operand),
-        4 => gate.xor(),
-        7 => Way::Operand(Claim {
+    let Ok(kind) = Kind::try_from(node.kind) else {
+        return gate.spread();
+    };
+    match kind {
+        Kind::Input => Way::Own,
+        Kind::Not => way_of_not(work, operand),
+        Kind::Xor => gate.xor(),
+        Kind::Register => Way::Operand(Claim {
             layer: Layer::Settled,
             ..operand
         }),
-        _ => gate.spread(),
+        Kind::And | Kind::Or | Kind::End | Kind::Variable => gate.spread(),
     }
 }
 

@@ -1,8 +1,8 @@
 -- What an answer of `derive` is: the netlist was read, the set is in the family, its derivation fits; so the slice that
 -- it is copied to is a certificate, and beyond it as it was. A refusal leaves the slice as it was. Assumes nothing.
-use Rattle.std.specs.Prelude.{Result, Ok, Err}
+use Rattle.std.specs.Prelude.{Ok, Err}
 use Prim.Native.Nat.{ℕ, ◌*◌, ◌/◌, ◌≤◌, ◌<◌}
-use mathlib.Core.Path.{◌≡◌, refl, sym, ap, ◌∙◌}
+use mathlib.Core.Path.{◌≡◌, refl, sym, ◌∙◌}
 use mathlib.Core.Bool.{Bool, true, false, not, cond}
 use mathlib.Core.List.{List, ◌++◌}
 use native.Mathlib.Omega.{arith}
@@ -20,7 +20,6 @@ use Rattle.rule_laws.proofs.Records.{passes, answer}
 use Rattle.rule_laws.proofs.Reading.{read_well_formed}
 use Rattle.derivation_rules.specs.Derivations.{step_size, steps_out, layer_of, in_family, derived, set_check, most_steps, fitting, explainable, derivable, steps_reply, steps_after, Certificate}
 use Rattle.derivation_rules.proofs.Follows.{derivation_follows, out_length}
-use Rattle.derivations.specs.Meaning.{derived_of}
 use Rattle.derivations.specs.Written.{derivable_in, Told}
 use Rattle.derivations.proofs.Told.{derivable_in_lem}
 
@@ -77,12 +76,12 @@ fitting_few bytes = go (ltb most_steps (bytes / step_size)) refl
     go true e = (omega arith, omega (arith, ltb-true most_steps (bytes / step_size) e))
     go false e = (ltb-false _ _ e, omega arith)
 
-module _ (outcome : Outcome Netlist) (i k A : ℕ) (before found : List ℕ) (r : Result ℕ Refusal)
-    (told : Told outcome i k A (fitting (length before)) r found) where
+module _ (outcome : Outcome Netlist) (i k A : ℕ) (before found : List ℕ) where
   -- a refusal leaves it as it was
-  pub slice_kept : (refusal : Refusal) → r ≡ Err refusal → before ≡ filled (λ n. steps_out (derived n i k A)) outcome before
+  pub slice_kept : {refusal : Refusal} → Told outcome i k A (fitting (length before)) (Err refusal) found
+      → before ≡ filled (λ n. steps_out (derived n i k A)) outcome before
   unfolding filled and_then
-  slice_kept refusal is = go outcome (ap derived_of (sym is) ∙ told.reply)
+  slice_kept {refusal} told = go outcome told.reply
     where
       go : (o : Outcome Netlist) → refused (number_of refusal) (place_of refusal) ≡ and_then o (λ n. answered (length (derived n i k A)))
           → before ≡ filled (λ n. steps_out (derived n i k A)) o before
@@ -90,11 +89,9 @@ module _ (outcome : Outcome Netlist) (i k A : ℕ) (before found : List ℕ) (r 
       go (refused number place) e = refl
 
   -- an answer: the steps, and beyond them what stood there
-  module _ (count : ℕ) (is : r ≡ Ok count) where
+  module _ {count : ℕ} (told : Told outcome i k A (fitting (length before)) (Ok count) found) where
     answer_of : (n : Netlist) × (outcome ≡ answered n) × (length (derived n i k A) ≡ count)
-    answer_of =
-        let (n, from, e) = leads outcome _ count (sym told.reply ∙ ap derived_of is) in
-        (n, from, cc e)
+    answer_of = let (n, from, e) = leads outcome _ count (sym told.reply) in (n, from, cc e)
 
     pub count_few : count ≤ fitting (length before)
     count_few = let (n, from, many) = answer_of in rw many at (told.few n from)

@@ -1,6 +1,7 @@
 -- What comes of a claim: the rows of refusals 12, 13, 16 and 15 passed or not, and the steps that a slice then
 -- holds at its front. Assumes nothing.
-use Rattle.std.specs.Prelude.{Result, Ok}
+use Rattle.std.specs.Prelude.{Ok, Err}
+use Rattle.rules.specs.Paper.{number_of, place_of}
 use Rattle.rules.specs.declared.Refusal.{Refusal}
 use Prim.Native.Nat.{ℕ, ◌+◌, ◌*◌, ◌≤◌, ◌<◌}
 use mathlib.Core.Path.{◌≡◌, sym, ◌∙◌}
@@ -17,7 +18,6 @@ use Rattle.rules.specs.Checks.{Outcome, answered, refused, and_then, Check, judg
 use Rattle.rule_laws.proofs.Tests.{lt_or_le}
 use Rattle.query_netlists.proofs.Asking.{rows_refuse, rows_pass}
 use Rattle.derivation_rules.specs.Derivations.{Step, step_size, steps_out, in_family, derived, set_check, steps_check, explainable, derivable}
-use Rattle.derivations.specs.Meaning.{derived_of}
 use Rattle.derivations.specs.Written.{Written, derivable_in, Told}
 
 -- ---- the rows
@@ -60,15 +60,15 @@ module _ (n : Netlist) (i k A room : ℕ) where
 
 module _ (outcome : Outcome Netlist) (i k A room : ℕ) (slice : List ℕ) where
   -- a refusal, which says nothing of the slice
-  pub told_refused : (r : Result ℕ Refusal) (number place : ℕ) → outcome ≡ refused number place → derived_of r ≡ refused number place → Told outcome i k A room r slice
+  pub told_refused : (refusal : Refusal) → outcome ≡ refused (number_of refusal) (place_of refusal) → Told outcome i k A room (Err refusal) slice
   unfolding and_then
-  told_refused r number place is reply = record {
-    reply = rw is reply;
+  told_refused refusal is = record {
+    reply = rw is;
     few = λ n answer. absurd (apart (sym is ∙ answer));
     bytes = λ n answer. absurd (apart (sym is ∙ answer));
   }
     where
-      apart : {n : Netlist} → refused number place ≡ answered n → ⊥
+      apart : {n : Netlist} → refused (number_of refusal) (place_of refusal) ≡ answered n → ⊥
       apart e = let no : ◌≡◌ {A = ℕ} 0 1 = cc in absurd (omega arith)
 
   -- steps that fit, at the front of the slice

@@ -18,7 +18,7 @@ ghost use Rattle.derivations.specs.Written.{Known, Held, HeldEach, Written, deri
 
 use derivation_steps::{Claim, Layer, STEP, Way};
 use netlists::Netlist;
-use rules::{MOST_WORK, Refusal, Reason};
+use rules::{MOST_WORK, Reason, Refusal};
 
 // The most steps that a derivation has.
 pub const MOST_STEPS: usize = 512;
@@ -115,16 +115,9 @@ fn explain(
     ensures { (n : Records.Netlist) → netlist ≡ flat_of n →
         Told (derivable_in n node layer set room) node layer set room result steps.new }
 {
-    if let Err(refusal) = query_netlists::judge(netlist, node, set) {
-        return Err(refusal);
-    }
-    let Some(claim) = in_family(netlist, work, node, layer, set) else {
-        return Err(Reason::NotInFamily.at(set));
-    };
-    match explain_cell(netlist, work, claim, steps, 0, room) {
-        Some(count) => Ok(count),
-        None => Err(Reason::TooManySteps.at(room)),
-    }
+    query_netlists::judge(netlist, node, set)?;
+    let claim = in_family(netlist, work, node, layer, set).ok_or(Reason::NotInFamily.at(set))?;
+    explain_cell(netlist, work, claim, steps, 0, room).ok_or(Reason::TooManySteps.at(room))
 }
 
 // What `derive` does, for whoever holds the netlist with its families: `work` has room for every netlist
@@ -149,19 +142,23 @@ pub fn derive_held(
 {
     let mut found = [0u8; MOST_BYTES];
     let room = fitting(steps.len());
-    let reply = explain(netlist, work, node, layer, set, &mut found, room);
-    if let Ok(count) = reply {
-        let end = STEP * count;
-        steps[..end].copy_from_slice(&found[..end]);
-    }
-    reply
+    let count = explain(netlist, work, node, layer, set, &mut found, room)?;
+    let end = STEP * count;
+    steps[..end].copy_from_slice(&found[..end]);
+    Ok(count)
 }
 
 // Writes the derivation of a set in the family of a node in a layer, 0 for settled signals and 1 for glitching ones,
 // to the front of `steps`, five bytes a step. Replies with the number of steps; a refusal leaves the slice as it was.
 // `MOST_BYTES` bytes are enough for every derivation that is not refused. No family is worked out
 // for a query that is refused.
-pub fn derive(bytes: &[u8], node: usize, layer: usize, set: usize, steps: &mut [u8]) -> Result<usize, Refusal>
+pub fn derive(
+    bytes: &[u8],
+    node: usize,
+    layer: usize,
+    set: usize,
+    steps: &mut [u8],
+) -> Result<usize, Refusal>
     ensures reply { derived_of result ≡
         steps_reply bytes.now node layer set (length steps.old) }
     ensures steps { steps.new ≡ steps_after bytes.now node layer set steps.old }
@@ -169,15 +166,8 @@ pub fn derive(bytes: &[u8], node: usize, layer: usize, set: usize, steps: &mut [
         Certificate bytes.now node layer set count steps.new }
     ensures most { (count : ℕ) → derived_of result ≡ answered count → count ≤ most_steps }
 {
-    let file = query_netlists::ask_with(bytes, node, set);
-    let outcome = file.outcome;
-    let netlist = file.netlist;
-    match outcome {
-        Err(refusal) => Err(refusal),
-        Ok(()) => {
-            let mut work = [0u8; MOST_WORK];
-            nodes::all_families(netlist, &mut work);
-            derive_held(netlist, &work, node, layer, set, steps)
-        }
-    }
+    let netlist = query_netlists::ask_with(bytes, node, set)?;
+    let mut work = [0u8; MOST_WORK];
+    nodes::all_families(netlist, &mut work);
+    derive_held(netlist, &work, node, layer, set, steps)
 }

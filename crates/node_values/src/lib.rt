@@ -11,7 +11,7 @@ ghost use Rattle.rules.specs.Slices.{entry};
 ghost use Rattle.netlists.specs.Netlists.{padded, flat_of, Formed, Placed};
 ghost use Rattle.node_values.specs.Marks.{mark_all, handed_on};
 
-use netlists::{Netlist, Operands};
+use netlists::{Kind, Netlist, Operands};
 use rules::{MOST_NODES, Node};
 
 // ---- settled values
@@ -31,7 +31,8 @@ fn exclusive_or(variables: usize, set: usize, assignment: usize) -> bool
     sum
 }
 
-// The settled value of a node under an assignment, from those of the lower nodes.
+// The settled value of a node under an assignment, from those of the lower nodes. A kind that is no node's is taken as
+// a register's.
 fn value_from(values: &[bool], node: Node, variables: usize, assignment: usize) -> bool
     requires { (node.first < length values.now) × (node.second < length values.now) }
     ensures { (cell : Cell) → node ≡ entry cell →
@@ -39,13 +40,16 @@ fn value_from(values: &[bool], node: Node, variables: usize, assignment: usize) 
 {
     let first = values[node.first as usize];
     let second = values[node.second as usize];
-    match node.kind {
-        2 => exclusive_or(variables, node.set as usize, assignment),
-        3 => !first,
-        4 => first ^ second,
-        5 => first && second,
-        6 => first || second,
-        _ => first,
+    let Ok(kind) = Kind::try_from(node.kind) else {
+        return first;
+    };
+    match kind {
+        Kind::Input => exclusive_or(variables, node.set as usize, assignment),
+        Kind::Not => !first,
+        Kind::Xor => first ^ second,
+        Kind::And => first && second,
+        Kind::Or => first || second,
+        Kind::Register | Kind::End | Kind::Variable => first,
     }
 }
 
@@ -80,7 +84,10 @@ fn mark_all(marks: [bool; MOST_NODES], operands: Operands) -> [bool; MOST_NODES]
 fn is_point(node: Node) -> bool
     ensures { (cell : Cell) → node ≡ entry cell → result ≡ is_point cell }
 {
-    node.kind == 2 || node.kind == 7
+    let Ok(kind) = Kind::try_from(node.kind) else {
+        return false;
+    };
+    matches!(kind, Kind::Input | Kind::Register)
 }
 
 // The marks once node `i`, where it is a gate and marked, has handed its mark on to its operands.

@@ -1,7 +1,7 @@
 // The three queries, over netlist bytes: the settled value of a node under an assignment, its feeding points, and
 // whether a set is in each of its two families. Each reads the netlist bytes, writes to no lent slice and replies to
-// all input: where the netlist, the node or the number is refused, it gives value 0, and every mark and membership no.
-// Used by the desk, by test programs and by the library's callers.
+// all input. A reply has the outcome and a value beside it, no `Result` of the value: by document 01 "A refused query
+// gives value 0 and every mark and membership no". Used by the desk, by test programs and by the library's callers.
 #![tactic(auto)]
 
 ghost use Rattle.std.specs.Prelude.{◌≡◌, ◌<◌};
@@ -14,7 +14,7 @@ ghost use Rattle.rules.specs.Paper.{value_of, feeding_of, membership_of};
 ghost use Rattle.netlists.specs.Netlists.{flat_of, Formed};
 
 use netlists::Netlist;
-use rules::{FeedingReply, MOST_NODES, MOST_WORK, MembershipReply, Refusal, ValueReply};
+use rules::{FeedingReply, MOST_NODES, MOST_WORK, MembershipReply, ValueReply};
 
 // ---- the settled value
 
@@ -22,19 +22,15 @@ use rules::{FeedingReply, MOST_NODES, MOST_WORK, MembershipReply, Refusal, Value
 pub fn settled_value(bytes: &[u8], node: usize, assignment: usize) -> ValueReply
     ensures { value_of result ≡ value_query bytes.now node assignment }
 {
-    let file = query_netlists::ask_with(bytes, node, assignment);
-    let outcome = file.outcome;
-    let netlist = file.netlist;
-    let Ok(()) = outcome else {
-        return ValueReply {
-            outcome,
+    match query_netlists::ask_with(bytes, node, assignment) {
+        Ok(netlist) => ValueReply {
+            outcome: Ok(()),
+            value: node_values::settled_values(netlist, assignment)[node],
+        },
+        Err(refusal) => ValueReply {
+            outcome: Err(refusal),
             value: false,
-        };
-    };
-    let values = node_values::settled_values(netlist, assignment);
-    ValueReply {
-        outcome,
-        value: values[node],
+        },
     }
 }
 
@@ -44,18 +40,15 @@ pub fn settled_value(bytes: &[u8], node: usize, assignment: usize) -> ValueReply
 pub fn feeding_points(bytes: &[u8], node: usize) -> FeedingReply
     ensures { feeding_of result ≡ feeding_query bytes.now node }
 {
-    let file = query_netlists::ask(bytes, node);
-    let outcome = file.outcome;
-    let netlist = file.netlist;
-    let Ok(()) = outcome else {
-        return FeedingReply {
-            outcome,
+    match query_netlists::ask(bytes, node) {
+        Ok(netlist) => FeedingReply {
+            outcome: Ok(()),
+            marks: node_values::feeding_marks(netlist, node),
+        },
+        Err(refusal) => FeedingReply {
+            outcome: Err(refusal),
             marks: [false; MOST_NODES],
-        };
-    };
-    FeedingReply {
-        outcome,
-        marks: node_values::feeding_marks(netlist, node),
+        },
     }
 }
 
@@ -83,15 +76,12 @@ fn in_families(netlist: Netlist, node: usize, set: usize) -> MembershipReply
 pub fn memberships(bytes: &[u8], node: usize, set: usize) -> MembershipReply
     ensures { membership_of result ≡ membership_query bytes.now node set }
 {
-    let file = query_netlists::ask_with(bytes, node, set);
-    let outcome = file.outcome;
-    let netlist = file.netlist;
-    let Ok(()) = outcome else {
-        return MembershipReply {
-            outcome,
+    match query_netlists::ask_with(bytes, node, set) {
+        Ok(netlist) => in_families(netlist, node, set),
+        Err(refusal) => MembershipReply {
+            outcome: Err(refusal),
             settled: false,
             glitch: false,
-        };
-    };
-    in_families(netlist, node, set)
+        },
+    }
 }

@@ -4,4 +4,4 @@ use Rattle.bench_derivations.proofs.packed.Goals as goal
 
 pub returns : goal.returns
 unfolding packed_steps
-returns c = rw c.number_of-number.ensures
+returns c = rw c.number_of.ensures

@@ -3,6 +3,6 @@ use Rattle.std.proofs.Common.{ap}
 use Rattle.bench_derivations.specs.Packed.{packed_steps}
 use Rattle.bench_derivations.proofs.telgouin_derive.Goals as goal
 
-pub returns-in-Steps-clause-reply : goal.returns-in-Steps-clause-reply
+pub returns-in-Ok-clause-reply : goal.returns-in-Ok-clause-reply
 unfolding packed_steps
-returns-in-Steps-clause-reply c = ap packed_steps c.in-Steps.ensures.reply
+returns-in-Ok-clause-reply c = ap packed_steps c.in-Ok.ensures.reply

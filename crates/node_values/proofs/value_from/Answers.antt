@@ -2,6 +2,7 @@
 -- on the node that the record is of. Assumes nothing.
 use Prim.Native.Nat.{ℕ}
 use mathlib.Core.Path.{◌≡◌, refl, ap, ◌∙◌}
+use mathlib.Core.Logic.{◌⊎◌, inl, inr}
 use mathlib.Core.Bool.{Bool, false, not, ◌&&◌, ◌||◌, xor, cond}
 use mathlib.Core.List.{List}
 use native.Mathlib.Omega.{arith}
@@ -12,6 +13,9 @@ use Rattle.rules.specs.declared.Node.{Node}
 use Rattle.rules.specs.Records.{NOT, XOR, AND, OR, register, listed, from_operands, Cell, input, gate, kind_of, operands, set_of}
 use Rattle.rules.specs.Values.{Assignment, exclusive_or, value_of, value_rule}
 use Rattle.rules.specs.Slices.{entry}
+use Rattle.netlists.specs.declared.Kind.{Kind}
+use Rattle.netlists.specs.declared.Kind.TheVariants.{End, Variable, Register}
+use Rattle.netlists.specs.Kinds.{byte_of}
 use Rattle.node_values.proofs.value_from.Goals as goal
 
 -- the settled value of a node of this kind, from its input's and its operands' values
@@ -36,30 +40,16 @@ module _ (x : Assignment) (values : List Bool) where
   by_record : (node : Node) (r : Bool) → r ≡ byRecord node → (cell : Cell) → node ≡ entry cell → r ≡ value_rule x values cell
   by_record node r e cell is = e ∙ ap byRecord is ∙ by-kind cell
 
-pub returns-in-2 : goal.returns-in-2
-returns-in-2 c = by_record _ _ _ _ (rw c.in-2.is c.exclusive_or.ensures)
-
-pub returns-in-3 : goal.returns-in-3
-returns-in-3 c = by_record _ _ _ _ (rw c.in-3.is)
-
-pub returns-in-4 : goal.returns-in-4
-unfolding xor
-returns-in-4 c = by_record _ _ _ _ (rw c.in-4.is)
-
-pub returns-then-first : goal.returns-then-first
-returns-then-first c = by_record _ _ _ _ (rw (c.in-5.is, c.if-first.true))
-
-pub returns-else-first : goal.returns-else-first
-returns-else-first c = by_record _ _ _ _ (rw (c.in-5.is, c.if-first.false))
-
-pub returns-then-first-2 : goal.returns-then-first-2
-returns-then-first-2 c = by_record _ _ _ _ (rw (c.in-6.is, c.if-first-2.true))
-
-pub returns-else-first-2 : goal.returns-else-first-2
-returns-else-first-2 c = by_record _ _ _ _ (rw (c.in-6.is, c.if-first-2.false))
+-- a register, and what is no node's, gives the first operand's
+first_only : {kind : Kind} (own first second : Bool) → (kind ≡ Register) ⊎ ((kind ≡ End) ⊎ (kind ≡ Variable))
+    → first ≡ by_kind (byte_of kind) own first second
+first_only own first second (inl e) = rw e
+first_only own first second (inr (inl e)) = rw e
+first_only own first second (inr (inr e)) = rw e
 
 pub returns-in_default : goal.returns-in_default
 returns-in_default c =
+    let (_, over) = c.in_default.ensures in
     by_record _ _ _ _
     (rw (
       ne_eqb c.args.node.kind 2 (λ kind. omega arith),
@@ -68,3 +58,28 @@ returns-in_default c =
       ne_eqb c.args.node.kind 5 (λ kind. omega arith),
       ne_eqb c.args.node.kind 6 (λ kind. omega arith),
     ))
+
+pub returns-in-Input : goal.returns-in-Input
+returns-in-Input c = by_record _ _ _ _ (rw (← c.in-Ok.ensures, c.in-Input.is) c.exclusive_or.ensures)
+
+pub returns-in-Not : goal.returns-in-Not
+returns-in-Not c = by_record _ _ _ _ (rw (← c.in-Ok.ensures, c.in-Not.is))
+
+pub returns-in-Xor : goal.returns-in-Xor
+unfolding xor
+returns-in-Xor c = by_record _ _ _ _ (rw (← c.in-Ok.ensures, c.in-Xor.is))
+
+pub returns-then-first : goal.returns-then-first
+returns-then-first c = by_record _ _ _ _ (rw (← c.in-Ok.ensures, c.in-And.is, c.if-first.true))
+
+pub returns-else-first : goal.returns-else-first
+returns-else-first c = by_record _ _ _ _ (rw (← c.in-Ok.ensures, c.in-And.is, c.if-first.false))
+
+pub returns-then-first-2 : goal.returns-then-first-2
+returns-then-first-2 c = by_record _ _ _ _ (rw (← c.in-Ok.ensures, c.in-Or.is, c.if-first-2.true))
+
+pub returns-else-first-2 : goal.returns-else-first-2
+returns-else-first-2 c = by_record _ _ _ _ (rw (← c.in-Ok.ensures, c.in-Or.is, c.if-first-2.false))
+
+pub returns-in-Register : goal.returns-in-Register
+returns-in-Register c = by_record _ _ _ _ (rw (← c.in-Ok.ensures) (first_only _ _ _ c.in-Register.is))

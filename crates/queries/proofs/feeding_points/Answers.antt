@@ -9,18 +9,17 @@ use Rattle.read_bytes.proofs.Files.{read_stands}
 use Rattle.query_netlists.proofs.Asking.{given_refused, given_answered, stands_formed, stands_node}
 use Rattle.queries.proofs.feeding_points.Goals as goal
 
-pub returns-in_default : goal.returns-in_default
-unfolding feeding_query
-returns-in_default c =
-    rw (tabulate_constant false most_nodes) (given_refused (replicate most_nodes false) _ _ _ c.ask-file.ensures c.in_default.is)
-
 pub feeding_marks-requires : goal.feeding_marks-requires
 feeding_marks-requires c =
-    let s = read_stands _ c.ask-file.ensures c.in-Ok.is in
-    (stands_formed _ _ s, stands_node _ _ s)
+    let s = read_stands _ c.in-Ok.ensures in (stands_formed _ _ s, stands_node _ _ s)
 
-pub returns : goal.returns
+pub returns-in-Ok : goal.returns-in-Ok
 unfolding feeding_query
-returns c =
-    let s = read_stands _ c.ask-file.ensures c.in-Ok.is in
-    given_answered _ _ _ s _ _ c.in-Ok.is (c.feeding_marks.ensures s.netlist s.value)
+returns-in-Ok c =
+    let s = read_stands _ c.in-Ok.ensures in
+    given_answered _ _ _ s _ (c.feeding_marks.ensures s.netlist s.value)
+
+pub returns-in-Err : goal.returns-in-Err
+unfolding feeding_query
+returns-in-Err c =
+    rw (tabulate_constant false most_nodes) (given_refused (replicate most_nodes false) _ _ c.in-Err.ensures)

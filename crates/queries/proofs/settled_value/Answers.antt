@@ -17,21 +17,20 @@ use Rattle.queries.proofs.settled_value.Goals as goal
 value-at : (all values : List Bool) (i : ℕ) → all ≡ padded most_nodes false values → get_or all i false ≡ get_or values i false
 value-at all values i e = rw e (padded_same most_nodes false values i)
 
-pub returns-in_default : goal.returns-in_default
-unfolding value_query
-returns-in_default c = given_refused _ _ _ _ c.ask_with-file.ensures c.in_default.is
+pub settled_values-requires : goal.settled_values-requires
+settled_values-requires c = stands_formed _ _ (stands_with _ _ _ (read_stands _ c.in-Ok.ensures))
 
-pub settled_values-values-requires : goal.settled_values-values-requires
-settled_values-values-requires c =
-    stands_formed _ _ (stands_with _ _ _ (read_stands _ c.ask_with-file.ensures c.in-Ok.is))
-
-pub bounds-values-node : goal.bounds-values-node
-bounds-values-node c =
-    let s = stands_with _ _ _ (read_stands _ c.ask_with-file.ensures c.in-Ok.is) in
+pub bounds-settled_values-node : goal.bounds-settled_values-node
+bounds-settled_values-node c =
+    let s = stands_with _ _ _ (read_stands _ c.in-Ok.ensures) in
     omega (arith, stands_node _ _ s, few_nodes (stands_formed _ _ s))
 
-pub returns : goal.returns
+pub returns-in-Ok : goal.returns-in-Ok
 unfolding value_query
-returns c =
-    let s = read_stands _ c.ask_with-file.ensures c.in-Ok.is in
-    given_answered _ _ _ s _ _ c.in-Ok.is (value-at _ _ _ (c.settled_values-values.ensures s.netlist s.value))
+returns-in-Ok c =
+    let s = read_stands _ c.in-Ok.ensures in
+    given_answered _ _ _ s _ (value-at _ _ _ (c.settled_values.ensures s.netlist s.value))
+
+pub returns-in-Err : goal.returns-in-Err
+unfolding value_query
+returns-in-Err c = given_refused _ _ _ c.in-Err.ensures
