@@ -1,6 +1,6 @@
 -- The record of a new node is judged as the next of a file in which it stands at the offset of its number, and then by
 -- whether bytes are left over, row by row. Assumes nothing.
-use Rattle.std.specs.Prelude.{Result, Ok, Err}
+use Rattle.std.specs.Prelude.{Err}
 use Prim.Native.Nat.{ℕ, ◌+◌, ◌<◌, ◌≤◌}
 use mathlib.Core.Path.{◌≡◌, refl, ap, ◌∙◌}
 use mathlib.Core.Logic.{◌⊎◌, inl, inr}
@@ -16,7 +16,7 @@ use Rattle.rules.specs.declared.Refusal.{Refusal}
 use Rattle.rules.specs.Records.{Cell, Record, node, said, size, last_kind, most_body}
 use Rattle.rules.specs.Slices.{entry}
 use Rattle.rules.specs.Checks.{Outcome, answered, refused, and_then, Check, check, judged, judged_record, over_limit, undeclared, undeclared_set, bad_operand}
-use Rattle.rules.specs.Paper.{number_of, place_of, query_of}
+use Rattle.rules.specs.Paper.{number_of, place_of}
 use Rattle.rule_laws.proofs.Tests.{same_test, lt_or_le}
 use Rattle.rule_laws.proofs.Records.{passes, said_same, says_node}
 use Rattle.records.specs.declared.RecordBytes.{RecordBytes}
@@ -82,31 +82,30 @@ module _ (total v n k : ℕ) (body : List ℕ) where
       (node_rows n (over_limit v n r) (ltb total (size r)) (undeclared_set v r) (bad_operand n r) surplus cell)
 
   -- where no kind of 0 or 1 is met
-  module _ (met : (total ≤ 0) ⊎ (2 ≤ k)) where
+  module _ (met : ((0 < total) × (2 ≤ k)) ⊎ (total ≤ 0)) where
     judged_next_lem : Next
-    judged_next_lem = go met (lt_or_le 0 total) (lt_or_le last_kind k)
+    judged_next_lem = go met (lt_or_le last_kind k)
       where
-        go : (total ≤ 0) ⊎ (2 ≤ k) → (0 < total) ⊎ (total ≤ 0) → (last_kind < k) ⊎ (k ≤ last_kind) → Next
-        go met (inr nothing) kind = none_next nothing
-        go (inl nothing) (inl some) kind = none_next nothing
-        go (inr above) (inl some) (inl beyond) = beyond_next some beyond
-        go (inr above) (inl some) (inr known) = let (cell, says) = says_node k body above known in node_next some above known cell says
+        go : ((0 < total) × (2 ≤ k)) ⊎ (total ≤ 0) → (last_kind < k) ⊎ (k ≤ last_kind) → Next
+        go (inr nothing) kind = none_next nothing
+        go (inl (some, above)) (inl beyond) = beyond_next some beyond
+        go (inl (some, above)) (inr known) = let (cell, says) = says_node k body above known in node_next some above known cell says
 
     -- a refusal that is told is the offer's
-    pub refused_next : {A : Type 0} (f : Cell → Outcome A) {told : Result (Unit {0}) Refusal} (refusal : Refusal) → query_of told ≡ accepted_if judged_next
-        → told ≡ Err refusal → refused (number_of refusal) (place_of refusal) ≡ and_then (judged_node total v n k body) f
+    pub refused_next : {A : Type 0} (f : Cell → Outcome A) (refusal : Refusal) → refused (number_of refusal) (place_of refusal) ≡ accepted_if judged_next
+        → refused (number_of refusal) (place_of refusal) ≡ and_then (judged_node total v n k body) f
     unfolding accepted_if and_then
-    refused_next f refusal tells is = rw (judged_next_lem, query_refused judged_next refusal tells is)
+    refused_next f refusal tells = rw (judged_next_lem, query_refused {told = Err refusal} judged_next refusal tells refl)
 
     accepted_next : (cell : Cell) → judged_next ≡ answered (node cell) → judged_node total v n k body ≡ judged (surplus (node cell)) cell
     unfolding and_then
     accepted_next cell is = judged_next_lem ∙ rw is
 
     -- where it is told that the record is accepted, it is that of a node
-    pub found_next : {told : Result (Unit {0}) Refusal} → query_of told ≡ accepted_if judged_next → told ≡ Ok tt → FoundNext
-    unfolding judged_record
-    found_next tells is =
-        let accepted = (found_record (n + total) v n n k body own own _ is (ap (λ (o : Outcome (Unit {0})). and_then o (λ _. answered own)) tells)).0 in
+    pub found_next : answered tt ≡ accepted_if judged_next → FoundNext
+    unfolding judged_record and_then
+    found_next tells =
+        let accepted = (found_record (n + total) v n n k body own own (ap (λ (o : Outcome (Unit {0})). and_then o (λ _. answered own)) tells)).0 in
         let p = passes _ _ _ accepted in
         let known = ltb-false last_kind k (p 1) in
         let above = over met (leb-false (n + total) n (p 0)) in
@@ -116,9 +115,9 @@ module _ (total v n k : ℕ) (body : List ℕ) where
         own : RecordBytes
         own = record { kind = k; body = body }
 
-        over : (total ≤ 0) ⊎ (2 ≤ k) → n < n + total → 2 ≤ k
-        over (inl nothing) some = absurd (omega arith)
-        over (inr h) some = h
+        over : ((0 < total) × (2 ≤ k)) ⊎ (total ≤ 0) → n < n + total → 2 ≤ k
+        over (inl (some, above)) inside = above
+        over (inr nothing) inside = absurd (omega arith)
 
   -- there are more bytes than its size s, or there are not
   module _ (x : FoundNext) {A : Type 0} (f : Cell → Outcome A) (s : ℕ) (sized : s ≡ size (node x.cell)) where

@@ -15,7 +15,8 @@ ghost use Rattle.edit_rules.specs.Edits.{judged_node, without_node};
 ghost use Rattle.edit_parts.specs.Parts.{offered_of, IsLowestUser, moved_down};
 
 use netlists::Netlist;
-use rules::{Node, Refusal, Reason};
+use records::{Record, Spot};
+use rules::{Node, Reason, Refusal};
 
 // ---- a new node
 
@@ -29,21 +30,22 @@ pub fn offered(bytes: &[u8], variables: usize, nodes: usize) -> Result<Node, Ref
         (λ cell. answered (entry cell)) }
 {
     let own = records::bytes_at(bytes, 0);
-    let kind = own.kind;
-    if 0 < bytes.len() {
-        if kind < 2 {
-            return Err(Reason::UnknownKind.at(nodes));
-        }
+    if 0 < bytes.len() && own.kind < 2 {
+        return Err(Reason::UnknownKind.at(nodes));
     }
-    match records::judge(nodes + bytes.len(), variables, nodes, nodes, own) {
-        Err(refusal) => Err(refusal),
-        Ok(()) => {
-            if read_bytes::size_of(kind) < bytes.len() {
-                return Err(Reason::BytesAfterEnd.at(nodes));
-            }
-            Ok(read_bytes::entry_of(own))
-        }
+    let spot = Spot {
+        total: nodes + bytes.len(),
+        variables,
+        nodes,
+        here: nodes,
+    };
+    let kind = records::judge(spot, own)?;
+    if read_bytes::size_of(kind) < bytes.len() {
+        return Err(Reason::BytesAfterEnd.at(nodes));
     }
+    // Stored straight from the other struct, an array has no proof.
+    let body = own.body;
+    Ok(read_bytes::entry_of(Record { kind, body }))
 }
 
 // ---- a node removed

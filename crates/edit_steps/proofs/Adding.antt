@@ -28,8 +28,8 @@ use Rattle.marks.specs.declared.Marks.{Marks}
 use Rattle.marks.specs.Marks.{flat_marks, marks_in, marks_of, with_marks}
 use Rattle.marks.proofs.Layers.{flat_more}
 use Rattle.checker.specs.declared.Examined.{Examined}
-use Rattle.checker.specs.Work.{NothingKept, Examines, ReadsMarks, JudgesSlices}
-use Rattle.checker.proofs.Core.{refusal, answers, too_short, both_hold}
+use Rattle.checker.specs.Work.{Examines, ReadsMarks, JudgesSlices}
+use Rattle.checker.proofs.Core.{answers, short, both_hold, held}
 use Rattle.edit_rules.specs.Edits.{judged_node, offered, add, fits, edited}
 use Rattle.edit_rules.specs.Meaning.{state_of}
 use Rattle.edit_rules.proofs.Adding.{offered_lower, offered_small, offered_well_formed, marks_added}
@@ -87,41 +87,40 @@ marked n cell rest e formed =
         ∙ ap flat_marks (sym (marks_added layer n cell))
 
 -- what is told of the slices for one node more
-module _ (block : Value.Netlist) (marks : Marks) (e : Node) (entries : ℕ) (examined : Examined) (before : List ℕ) {told : Result (Unit {0}) Refusal}
-    (fit : JudgesSlices (block.count + 1) entries (length before) told) where
+module _ (block : Value.Netlist) (marks : Marks) (e : Node) (entries : ℕ) (before : List ℕ) where
   -- they are too short
-  pub no_room : {r : Refusal} → told ≡ Err r → examined.reply ≡ Err r → NothingKept examined → Adds block marks e entries examined before before
+  pub no_room : {r : Refusal} → JudgesSlices (block.count + 1) entries (length before) (Err r) → Adds block marks e entries (Err r) before before
   unfolding and_then
-  no_room {r} is reply nothing = record {
-    contained = contained_refused entries examined before nothing;
-    early = λ n cell same k p short. rw short at (examines n cell same).reply;
+  no_room {r} fit = record {
+    contained = contained_refused entries r before;
+    early = λ n cell same k p refuses. rw refuses at (examines n cell same).reply;
     made = λ n cell formed same known its holds. examines n cell (value_count n same);
   }
     where
-      examines : (n : Netlist) (cell : Cell) → block.count ≡ length n.nodes → Examines (slices_fit entries (length before) (with_node n cell)) examined before before
-      examines n cell same =
-          rw (too_short fit (with_node n cell) (one_more n cell same) is) (refusal r (number_of r) (place_of r) examined before refl refl reply nothing)
+      examines : (n : Netlist) (cell : Cell) → block.count ≡ length n.nodes → Examines (slices_fit entries (length before) (with_node n cell)) (Err r) before before
+      examines n cell same = short fit (with_node n cell) (one_more n cell same)
 
   -- they hold it: what is read from the marks with its own, which are found over the work bytes with its families
-  pub looked : (value : Value.Netlist) (longer : Marks) (after : List ℕ) → told ≡ Ok tt → block.count < most_nodes → value.count ≡ block.count + 1
+  pub looked : (examined : Examined) (value : Value.Netlist) (longer : Marks) (after : List ℕ) → JudgesSlices (block.count + 1) entries (length before) (Ok tt)
+      → block.count < most_nodes → value.count ≡ block.count + 1
       → ((n : Netlist) (cell : Cell) → block ≡ flat_of n → e ≡ entry cell → value ≡ flat_of (with_node n cell))
       → ((cell : Cell) → e ≡ entry cell → after ≡ with_families before block.count (families_rule (so_far before block.count) cell))
       → ((n : Netlist) → value ≡ flat_of n
       → longer ≡ with_marks marks (value.count - 1) (get_or (reports_in n 0 after) (value.count - 1) none) (get_or (reports_in n 1 after) (value.count - 1) none))
-      → ReadsMarks value longer examined → Adds block marks e entries examined before after
-  looked value longer after holds-it few more with_it written found looks =
+      → ReadsMarks value longer examined → Adds block marks e entries (Ok examined) before after
+  looked examined value longer after fit few more with_it written found looks =
       record {
-        contained = contained_looks entries value longer examined before after (omega (arith, (fit.room holds-it).0)) (omega arith) looks;
-        early = λ n cell same k p short. cc (fits_it n cell same);
+        contained = contained_looks entries value longer examined before after (omega (arith, (fit.room refl).0)) (omega arith) looks;
+        early = λ n cell same k p refuses. cc (fits_it n cell same);
         made = λ n cell formed same known its holds.
             let is = with_it n cell same its in
             let work = written cell its ∙ added n cell before (value_count n same) formed holds in
             let own : longer ≡ marks_of (with_node n cell) = found (with_node n cell) is ∙ rw (known, work) (marked n cell _ (omega (arith, value_count n same)) formed) in
-            rw (fits_it n cell (value_count n same)) (answers value (with_node n cell) is longer own examined before work looks);
+            held entries before (with_node n cell) (fits_it n cell (value_count n same)) (answers value (with_node n cell) is longer own examined before work looks);
       }
     where
       fits_it : (n : Netlist) (cell : Cell) → block.count ≡ length n.nodes → slices_fit entries (length before) (with_node n cell) ≡ answered (with_node n cell)
-      fits_it n cell same = both_hold fit (with_node n cell) (one_more n cell same) holds-it
+      fits_it n cell same = both_hold fit (with_node n cell) (one_more n cell same) refl
 
 -- what is offered to a block by value: it goes by its counts
 abbrev pub offered_to : Value.Netlist → (bytes : List ℕ) → Outcome Cell
@@ -136,18 +135,18 @@ module _ (block : Value.Netlist) (marks : Marks) (bytes : List ℕ) where
     by_state : state_in block ≡ state_of n → offered_to block bytes ≡ offered n bytes
     by_state e = by_counts (state_variables n e) (state_count n e)
 
-  module _ (entries : ℕ) (examined : Examined) (before : List ℕ) where
+  module _ (entries : ℕ) (before : List ℕ) where
     pub refuses : (r : Refusal) → refused (number_of r) (place_of r) ≡ and_then (offered_to block bytes) (λ cell. answered (entry cell))
-        → examined.reply ≡ Err r → NothingKept examined → Changes block marks (add bytes) entries examined before before
+        → Changes block marks (add bytes) entries (Err r) before before
     unfolding fits and_then
-    refuses r offer q t =
-        refused_early block marks (add bytes) entries r examined before
-        (λ n formed same. rw (sym (by_state n same) ∙ offers_none (offered_to block bytes) _ _ offer)) q t
+    refuses r offer =
+        refused_early block marks (add bytes) entries r before
+        (λ n formed same. rw (sym (by_state n same) ∙ offers_none (offered_to block bytes) _ _ offer))
 
-    pub adds : (after : List ℕ) (e : Node) → OffersNode (offered_to block bytes) e → Adds block marks e entries examined before after
-        → Changes block marks (add bytes) entries examined before after
+    pub adds : (examined : Result Examined Refusal) (after : List ℕ) (e : Node) → OffersNode (offered_to block bytes) e
+        → Adds block marks e entries examined before after → Changes block marks (add bytes) entries examined before after
     unfolding edited fits and_then
-    adds after e o a =
+    adds examined after e o a =
         record {
           contained = a.contained;
           early = λ n formed same k p early.

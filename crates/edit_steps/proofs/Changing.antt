@@ -1,22 +1,22 @@
 -- What any edit of a block by value shares: the state of a netlist by value is the netlist's; a refusal keeps nothing
 -- and changes nothing, whatever the block is, and one that goes by the state and the lengths is that of every
 -- netlist with this state. Assumes nothing.
-use Rattle.std.specs.Prelude.{Err}
+use Rattle.std.specs.Prelude.{Ok, Err}
 use Prim.Native.Nat.{ℕ, ◌≤◌}
-use mathlib.Core.Path.{◌≡◌, refl, ap, ◌∙◌}
+use mathlib.Core.Path.{◌≡◌, refl, ap}
 use mathlib.Core.List.{List}
 use native.Mathlib.Omega.{arith}
 use lib.ListN.{length}
 use Rattle.rules.specs.declared.Refusal.{Refusal}
 use Rattle.rules.specs.Records.{Netlist, empty, WellFormed, most_nodes}
 use Rattle.rules.specs.Checks.{refused, and_then}
-use Rattle.rules.specs.Paper.{number_of, place_of, reply_of}
+use Rattle.rules.specs.Paper.{number_of, place_of}
 use Rattle.netlists.specs.declared.Netlist as Value
 use Rattle.netlists.specs.Netlists.{flat_of}
 use Rattle.netlists.proofs.Netlists.{value_count}
 use Rattle.marks.specs.declared.Marks.{Marks}
 use Rattle.checker.specs.declared.Examined.{Examined}
-use Rattle.checker.specs.Work.{NothingKept, ReadsMarks}
+use Rattle.checker.specs.Work.{ReadsMarks}
 use Rattle.checker.proofs.Core.{refusal}
 use Rattle.edit_rules.specs.declared.State.{State}
 use Rattle.edit_rules.specs.Edits.{Edit, add, remove, fits, edited}
@@ -38,15 +38,15 @@ unfolding state_of
 state_variables n s = ap (λ (t : State). t.variables) s
 
 -- a refusal keeps nothing and changes nothing
-pub contained_refused : (entries : ℕ) (examined : Examined) (before : List ℕ) → NothingKept examined → Contained entries examined before before
-contained_refused entries examined before (e, m) =
-    record { few_entries = omega (arith, value_count empty e); few_nodes = omega (arith, value_count empty e); unchanged = λ k p r. (e, refl) }
+pub contained_refused : (entries : ℕ) (r : Refusal) (before : List ℕ) → Contained entries (Err r) before before
+contained_refused entries r before =
+    record { few_entries = omega (arith, value_count empty refl); few_nodes = omega (arith, value_count empty refl); unchanged = λ k p e. (refl, refl) }
 
 -- and an answer is no refusal
 pub contained_looks : (entries : ℕ) (value : Value.Netlist) (marks : Marks) (examined : Examined) (before after : List ℕ)
-    → value.count ≤ entries → value.count ≤ most_nodes → ReadsMarks value marks examined → Contained entries examined before after
+    → value.count ≤ entries → value.count ≤ most_nodes → ReadsMarks value marks examined → Contained entries (Ok examined) before after
 contained_looks entries value marks examined before after few small l =
-    record { few_entries = rw l.netlist few; few_nodes = rw l.netlist small; unchanged = λ k p r. absurd (l.stands k p r) }
+    record { few_entries = rw l.netlist few; few_nodes = rw l.netlist small; unchanged = λ k p r. let z : ◌≡◌ {A = ℕ} 0 1 = cc in absurd (omega arith) }
 
 -- what is refused by the state and the lengths alone is refused
 pub edited_refused : (n : Netlist) (e : Edit) (entries work k p : ℕ) → fits n e entries work ≡ refused k p → edited n e entries work ≡ refused k p
@@ -55,16 +55,14 @@ edited_refused n (add bytes) entries work k p f = f
 edited_refused n (remove i) entries work k p f = rw f
 
 -- a refusal that goes by the state and the lengths alone
-pub refused_early : (block : Value.Netlist) (marks : Marks) (e : Edit) (entries : ℕ) (r : Refusal) (examined : Examined) (before : List ℕ)
+pub refused_early : (block : Value.Netlist) (marks : Marks) (e : Edit) (entries : ℕ) (r : Refusal) (before : List ℕ)
     → ((n : Netlist) → WellFormed n → state_in block ≡ state_of n → fits n e entries (length before) ≡ refused (number_of r) (place_of r))
-    → examined.reply ≡ Err r → NothingKept examined → Changes block marks e entries examined before before
-refused_early block marks e entries r examined before says reply none = record {
-  contained = contained_refused entries examined before none;
+    → Changes block marks e entries (Err r) before before
+refused_early block marks e entries r before says = record {
+  contained = contained_refused entries r before;
   early = λ n formed s k p f.
       let number : number_of r ≡ k = cc (says n formed s) in
       let place : place_of r ≡ p = cc (says n formed s) in
-      ap reply_of reply ∙ rw (number, place);
-  made = λ n formed is known holds.
-      rw (edited_refused n e entries (length before) _ _ (says n formed (value_state n is)))
-      (refusal r (number_of r) (place_of r) examined before refl refl reply none);
+      rw (number, place);
+  made = λ n formed is known holds. rw (edited_refused n e entries (length before) _ _ (says n formed (value_state n is))) (refusal r before);
 }

@@ -20,7 +20,7 @@ use Rattle.netlists.proofs.Netlists.{value_count}
 use Rattle.marks.specs.declared.Marks.{Marks}
 use Rattle.marks.specs.Marks.{marks_in, marks_of}
 use Rattle.checker.specs.declared.Examined.{Examined}
-use Rattle.checker.specs.Work.{NothingKept, Examines, ReadsMarks, JudgesSlices}
+use Rattle.checker.specs.Work.{Examines, ReadsMarks, JudgesSlices}
 use Rattle.checker.proofs.Core.{refusal, answers, both_hold}
 use Rattle.edit_rules.specs.Edits.{remove, without_node, lowest_user, removed_if_unused, fits, edited}
 use Rattle.edit_parts.specs.Parts.{moved_down}
@@ -32,15 +32,15 @@ use Rattle.edit_rules.proofs.Removal.{Unused, marks_removed}
 
 -- a node is removed, which is used, the lowest time by a node `by`, or is not
 module _ (block : Value.Netlist) (marks : Marks) (removed : ℕ) where
-  pub still_used : (by : ℕ) (examined : Examined) (before : List ℕ)
-      → ((n : Netlist) → WellFormed n → block ≡ flat_of n → (by < length n.nodes) × (by ≡ lowest_user removed n.nodes)) → examined.reply ≡ Err (record { reason = StillNamed; place = by })
-      → NothingKept examined → RemovesUnused block marks removed examined before before
+  pub still_used : (by : ℕ) (before : List ℕ)
+      → ((n : Netlist) → WellFormed n → block ≡ flat_of n → (by < length n.nodes) × (by ≡ lowest_user removed n.nodes))
+      → RemovesUnused block marks removed (Err (record { reason = StillNamed; place = by })) before before
   unfolding removed_if_unused judged
-  still_used by examined before lowest r none = record {
-    contained = contained_refused block.count examined before none;
+  still_used by before lowest = record {
+    contained = contained_refused block.count _ before;
     made = λ n formed is known holds.
         let (inside, named) = lowest n formed is in
-        rw (← named, lt-ltb by (length n.nodes) inside) (refusal (record { reason = StillNamed; place = by }) 14 by examined before refl refl r none);
+        rw (← named, lt-ltb by (length n.nodes) inside) (refusal (record { reason = StillNamed; place = by }) before);
   }
 
   pub removed_unused : (value : Value.Netlist) (fewer : Marks) (examined : Examined) (before after : List ℕ)
@@ -49,7 +49,7 @@ module _ (block : Value.Netlist) (marks : Marks) (removed : ℕ) where
       → value.count + 1 ≡ block.count → ((n : Netlist) → WellFormed n → block ≡ flat_of n → value ≡ flat_of (without_node n removed))
       → ((settled glitch : List (Option ℕ)) → length settled ≡ block.count → length glitch ≡ block.count → marks ≡ marks_in settled glitch
       → fewer ≡ marks_in (without removed settled) (without removed glitch))
-      → after ≡ moved_down removed block.count before → ReadsMarks value fewer examined → RemovesUnused block marks removed examined before after
+      → after ≡ moved_down removed block.count before → ReadsMarks value fewer examined → RemovesUnused block marks removed (Ok examined) before after
   unfolding removed_if_unused judged
   removed_unused value fewer examined before after lowest there small room one_less is_without are-without moved l = record {
     contained = contained_looks block.count value fewer examined before after (omega arith) (omega arith) l;
@@ -63,7 +63,7 @@ module _ (block : Value.Netlist) (marks : Marks) (removed : ℕ) where
           ∙ ap₂ marks_in (sym (marks_removed n removed none (λ F. F.settled))) (sym (marks_removed n removed none (λ F. F.glitch))))
 
       made : (n : Netlist) → WellFormed n → block ≡ flat_of n → marks ≡ marks_of n → HoldsFamilies n before
-          → Examines (answered (without_node n removed)) examined before after
+          → Examines (answered (without_node n removed)) (Ok examined) before after
       made n formed is known holds =
           let none : Unused removed n.nodes = omega (arith, lowest n formed is, value_count n is) in
           let same = value_count n is in
@@ -83,13 +83,13 @@ module _ (count removed entries work : ℕ) (n : Netlist) (same : count ≡ leng
   by_slices there = rw (← same, lt-leb _ _ there)
 
 -- both slices hold the nodes, and the node is removed or still used
-pub removes : (block : Value.Netlist) (marks : Marks) (removed entries : ℕ) (examined : Examined) (before after : List ℕ) {told : Result (Unit {0}) Refusal} → removed < block.count
-    → JudgesSlices block.count entries (length before) told → told ≡ Ok tt → RemovesUnused block marks removed examined before after
+pub removes : (block : Value.Netlist) (marks : Marks) (removed entries : ℕ) (examined : Result Examined Refusal) (before after : List ℕ) → removed < block.count
+    → JudgesSlices block.count entries (length before) (Ok tt) → RemovesUnused block marks removed examined before after
     → Changes block marks (remove removed) entries examined before after
 unfolding edited and_then
-removes block marks removed entries examined before after there slices holds-them given = record {
+removes block marks removed entries examined before after there slices given = record {
   contained = record {
-    few_entries = omega (arith, given.contained.few_entries, (slices.room holds-them).0);
+    few_entries = omega (arith, given.contained.few_entries, (slices.room refl).0);
     few_nodes = given.contained.few_nodes;
     unchanged = given.contained.unchanged;
   };
@@ -98,4 +98,4 @@ removes block marks removed entries examined before after there slices holds-the
 }
   where
     fit : (n : Netlist) → block.count ≡ length n.nodes → fits n (remove removed) entries (length before) ≡ answered n
-    fit n same = by_slices block.count removed entries (length before) n same there ∙ both_hold slices n same holds-them
+    fit n same = by_slices block.count removed entries (length before) n same there ∙ both_hold slices n same refl

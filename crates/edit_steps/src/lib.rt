@@ -17,7 +17,7 @@ use checker::Examined;
 use edit_rules::{Edit, State};
 use marks::Marks;
 use netlists::Netlist;
-use rules::{MOST_NODES, MOST_VARIABLES, Node, Refusal, Reason};
+use rules::{MOST_NODES, MOST_VARIABLES, Node, Reason, Refusal};
 
 // A block by value, and its marks.
 #[derive(Clone, Copy)]
@@ -43,75 +43,88 @@ pub fn state_of(block: Netlist) -> State
 
 // The answer for a block with a node more, which can stand at its number, or the refusal of slices that are too short
 // for it.
-fn add_offered(loaded: Loaded, node: Node, entries: usize, work: &mut [u8]) -> Examined
+fn add_offered(
+    loaded: Loaded,
+    node: Node,
+    entries: usize,
+    work: &mut [u8],
+) -> Result<Examined, Refusal>
     requires { Limited loaded.block × (loaded.block.count < most_nodes) × Placed loaded.block.count node }
     ensures { Adds loaded.block loaded.marks node entries result work.old work.new }
 {
     let count = loaded.block.count;
-    match checker::slices_fit(count + 1, entries, work.len()) {
-        Err(refusal) => checker::refused(refusal),
-        Ok(()) => {
-            nodes::node_families(work, count, node);
-            let longer = netlists::with_node(loaded.block, node);
-            checker::read_marks(longer, marks::with_last(longer, loaded.marks, work))
-        }
-    }
+    checker::slices_fit(count + 1, entries, work.len())?;
+    nodes::node_families(work, count, node);
+    let longer = netlists::with_node(loaded.block, node);
+    Ok(checker::read_marks(longer, marks::with_last(longer, loaded.marks, work)))
 }
 
 // A new node at the end of a block: its record is judged before both slices.
-fn add_node(loaded: Loaded, bytes: &[u8], entries: usize, work: &mut [u8]) -> Examined
+fn add_node(
+    loaded: Loaded,
+    bytes: &[u8],
+    entries: usize,
+    work: &mut [u8],
+) -> Result<Examined, Refusal>
     requires { Limited loaded.block }
     ensures { Changes loaded.block loaded.marks (Edits.add bytes.now) entries result work.old work.new }
 {
-    match edit_parts::offered(bytes, loaded.block.variables, loaded.block.count) {
-        Err(refusal) => checker::refused(refusal),
-        Ok(node) => add_offered(loaded, node, entries, work),
-    }
+    let node = edit_parts::offered(bytes, loaded.block.variables, loaded.block.count)?;
+    add_offered(loaded, node, entries, work)
 }
 
 // ---- a node removed
 
 // A node removed from a block that both slices hold: 14 with the lowest node that uses it, where there is one; and only
 // else does anything move.
-fn remove_if_unused(loaded: Loaded, removed: usize, work: &mut [u8]) -> Examined
+fn remove_if_unused(loaded: Loaded, removed: usize, work: &mut [u8]) -> Result<Examined, Refusal>
     requires { Limited loaded.block × (removed < loaded.block.count) × (256 * loaded.block.count ≤ length work.old) }
     ensures { RemovesUnused loaded.block loaded.marks removed result work.old work.new }
 {
     let count = loaded.block.count;
     if let Some(by) = edit_parts::lowest_user(loaded.block, removed) {
-        return checker::refused(Reason::StillNamed.at(by));
+        return Err(Reason::StillNamed.at(by));
     }
     edit_parts::move_down(work, removed, count);
     let fewer = marks::without_marks(loaded.marks, removed, count);
-    checker::read_marks(edit_parts::without_node(loaded.block, removed), fewer)
+    Ok(checker::read_marks(edit_parts::without_node(loaded.block, removed), fewer))
 }
 
 // A node removed: 12, then both slices for the nodes that the block has, then 14 where another node uses it.
-fn remove_node(loaded: Loaded, removed: usize, entries: usize, work: &mut [u8]) -> Examined
+fn remove_node(
+    loaded: Loaded,
+    removed: usize,
+    entries: usize,
+    work: &mut [u8],
+) -> Result<Examined, Refusal>
     requires { Limited loaded.block }
     ensures { Changes loaded.block loaded.marks (Edits.remove removed) entries result work.old work.new }
 {
     let count = loaded.block.count;
     if count <= removed {
-        return checker::refused(Reason::NoSuchNode.at(removed));
+        return Err(Reason::NoSuchNode.at(removed));
     }
-    match checker::slices_fit(count, entries, work.len()) {
-        Err(refusal) => checker::refused(refusal),
-        Ok(()) => remove_if_unused(loaded, removed, work),
-    }
+    checker::slices_fit(count, entries, work.len())?;
+    remove_if_unused(loaded, removed, work)
 }
 
 // ---- an edit
 
-// An edit of a block by value with its marks, in slices of so many entries and of these work bytes: the reply, and the
-// block as it then is with its marks, which are those of no nodes on a refusal. No block has more variables or nodes
-// than there may be: a state that says so is nobody's, and is refused.
-pub fn change(loaded: Loaded, edit: Edit, bytes: &[u8], entries: usize, work: &mut [u8]) -> Examined
+// An edit of a block by value with its marks, in slices of so many entries and of these work bytes: the refusal, or the
+// answer, and the block as it then is with its marks. No block has more variables or nodes than there may be: a state
+// that says so is nobody's, and is refused.
+pub fn change(
+    loaded: Loaded,
+    edit: Edit,
+    bytes: &[u8],
+    entries: usize,
+    work: &mut [u8],
+) -> Result<Examined, Refusal>
     ensures { Changes loaded.block loaded.marks (edit_of edit bytes.now) entries result
         work.old work.new }
 {
     if MOST_VARIABLES < loaded.block.variables || MOST_NODES < loaded.block.count {
-        return checker::refused(Reason::OverLimit.at(loaded.block.count));
+        return Err(Reason::OverLimit.at(loaded.block.count));
     }
     match edit {
         Edit::Add => add_node(loaded, bytes, entries, work),

@@ -2,9 +2,8 @@
 -- made over the work bytes, the node records are stored, and reply and state are given. Assumes nothing.
 use Rattle.std.specs.Prelude.{Result, Ok, Err}
 use Rattle.rules.specs.declared.Refusal.{Refusal}
-use Rattle.rules.specs.declared.Answer.{Answer}
-use Prim.Native.Nat.{ℕ, ◌≤◌, zero-le}
-use mathlib.Core.Path.{◌≡◌, refl, sym, ap, subst, ◌∙◌}
+use Prim.Native.Nat.{ℕ, ◌≤◌}
+use mathlib.Core.Path.{◌≡◌, refl, sym, subst, ◌∙◌}
 use mathlib.Core.Logic.{◌↔◌}
 use mathlib.Core.List.{List}
 use native.Mathlib.Omega.{arith}
@@ -12,20 +11,18 @@ use lib.ListN.{length}
 use Rattle.rules.specs.declared.NodeRecord.{NodeRecord}
 use Rattle.rules.specs.Records.{Netlist, WellFormed, empty, written_out}
 use Rattle.rules.specs.Families.{findings}
-use Rattle.rules.specs.Checks.{Outcome, answered, refused, and_then}
-use Rattle.rules.specs.Lists.{tabulate}
-use Rattle.rules.specs.Slices.{node_records, filled}
+use Rattle.rules.specs.Checks.{Outcome, answered, refused, and_then, admitted}
+use Rattle.rules.specs.Slices.{node_records, filled, nodes_after, reply}
 use Rattle.rules.specs.Demands.{GlitchClear, NoSuspect, OneProbe}
 use Rattle.rules.specs.Paper.{reply_of}
 use Rattle.rule_laws.proofs.Halves.{half_clear}
 use Rattle.rule_laws.proofs.Probe.{one_probe}
-use Rattle.netlists.specs.declared.Netlist as Value
 use Rattle.netlists.specs.Netlists.{flat_of, kept}
 use Rattle.netlists.proofs.Netlists.{value_count}
 use Rattle.marks.specs.Marks.{marks_of}
 use Rattle.checker.specs.declared.Examined.{Examined}
-use Rattle.checker.specs.Work.{Examines, record_in, stored}
-use Rattle.checker.proofs.Stored.{stored_none, stored_length, netlist_stored}
+use Rattle.checker.specs.Work.{replied, kept_netlist, kept_marks, Examines, record_in}
+use Rattle.checker.proofs.Stored.{stored_length, netlist_stored, examined_stored, refused_unstored}
 use Rattle.edit_rules.specs.declared.State.{State}
 use Rattle.edit_rules.specs.Edits.{Edit, fits, edited, otherwise, netlist_after, reply_after, records_after, bytes_after, NothingSuspectAfter}
 use Rattle.edit_rules.specs.Meaning.{state_of, IsOpen}
@@ -33,7 +30,7 @@ use Rattle.edit_steps.specs.Changes.{state_in}
 use Rattle.edit_steps.specs.Changes.{Changes}
 use Rattle.edit_steps.proofs.Changing.{value_state}
 use Rattle.edits.specs.declared.Edited.{Edited}
-use Rattle.edits.specs.Edited.{loaded_of, next_state, edited_of, Kept}
+use Rattle.edits.specs.Edited.{loaded_of, edited_of, stored_of, Kept}
 use Rattle.edits.proofs.Loaded.{loaded_state, loaded_flat, loaded_marks}
 use Rattle.edit_rules.proofs.Kept.{made, afresh_reply}
 
@@ -53,22 +50,29 @@ pub record Promised (state : State) (e : Edit) (given : Edited) (ys ns : List No
 
 -- ---- the block as it then is
 
+-- the reply that is given
+pub given_reply : (state : State) (examined : Result Examined Refusal) → reply_of (edited_of state examined).reply ≡ replied examined
+given_reply state (Ok examined) = refl
+given_reply state (Err r) = refl
+
 -- the node records of what is kept, stored
-kept_records : (o : Outcome Netlist) (examined : Examined) (ys : List NodeRecord) → examined.netlist.count ≤ length ys
-    → examined.netlist ≡ flat_of (kept o) → examined.marks ≡ marks_of (kept o)
-    → stored (record_in examined) ys examined.netlist.count ≡ filled node_records o ys
-unfolding kept filled node_records tabulate
-kept_records (answered m) examined ys enough f g = netlist_stored examined m f g ys (rw (value_count m f) at enough)
-kept_records (refused k p) examined ys enough f g = netlist_stored examined empty f g ys zero-le
+kept_records : (o : Outcome Netlist) (examined : Result Examined Refusal) (ys : List NodeRecord) → replied examined ≡ and_then o (λ m. answered (findings m))
+    → (kept_netlist examined).count ≤ length ys → kept_netlist examined ≡ flat_of (kept o) → kept_marks examined ≡ marks_of (kept o)
+    → stored_of examined ys ≡ filled node_records o ys
+unfolding and_then kept filled
+kept_records (answered m) (Ok examined) ys says enough f g = netlist_stored examined m f g ys (rw (value_count m f) at enough)
+kept_records (answered m) (Err r) ys says enough f g = let z : ◌≡◌ {A = ℕ} 0 1 = cc in absurd (omega arith)
+kept_records (refused k p) (Ok examined) ys says enough f g = let z : ◌≡◌ {A = ℕ} 0 1 = cc in absurd (omega arith)
+kept_records (refused k p) (Err r) ys says enough f g = refl
 
 -- the state that is given
-kept_state : (n : Netlist) (o : Outcome Netlist) (r : Result Answer Refusal) (state after : State) → reply_of r ≡ and_then o (λ m. answered (findings m))
-    → state ≡ state_of n → after ≡ state_in (flat_of (kept o)) → next_state r state after ≡ state_of (otherwise n o)
+kept_state : (n : Netlist) (o : Outcome Netlist) (examined : Result Examined Refusal) (state : State) → replied examined ≡ and_then o (λ m. answered (findings m))
+    → state ≡ state_of n → kept_netlist examined ≡ flat_of (kept o) → (edited_of state examined).state ≡ state_of (otherwise n o)
 unfolding and_then kept otherwise
-kept_state n (answered m) (Ok a) state after says is-n is_m = is_m ∙ value_state m refl
-kept_state n (answered m) (Err r) state after says is-n is_m = let z : ◌≡◌ {A = ℕ} 0 1 = cc in absurd (omega arith)
-kept_state n (refused k p) (Ok a) state after says is-n is_m = let z : ◌≡◌ {A = ℕ} 0 1 = cc in absurd (omega arith)
-kept_state n (refused k p) (Err r) state after says is-n is_m = is-n
+kept_state n (answered m) (Ok examined) state says is-n is_m = value_state m is_m
+kept_state n (answered m) (Err r) state says is-n is_m = let z : ◌≡◌ {A = ℕ} 0 1 = cc in absurd (omega arith)
+kept_state n (refused k p) (Ok examined) state says is-n is_m = let z : ◌≡◌ {A = ℕ} 0 1 = cc in absurd (omega arith)
+kept_state n (refused k p) (Err r) state says is-n is_m = is-n
 
 -- where the glitch half is clear, and what it means
 clear_when : (n : Netlist) (e : Edit) (entries work : ℕ) → GlitchClear (reply_after n e entries work) ↔ NothingSuspectAfter n e entries work
@@ -93,49 +97,58 @@ probe_after n e entries work formed = go (edited n e entries work) refl
 
 -- ---- all clauses
 
--- the state of a refused edit
-refused_state : (r : Result Answer Refusal) (state after : State) (k p : ℕ) → reply_of r ≡ refused k p → next_state r state after ≡ state
-refused_state (Err r) state after k p e = refl
-refused_state (Ok a) state after k p e = let z : ◌≡◌ {A = ℕ} 0 1 = cc in absurd (omega arith)
+-- the slice keeps its length, and a refusal gives the state that was handed in and leaves the slice as it was
+stored_length_of : (examined : Result Examined Refusal) (ys : List NodeRecord) → length (stored_of examined ys) ≡ length ys
+stored_length_of (Ok examined) ys = stored_length (record_in examined) ys examined.netlist.count
+stored_length_of (Err r) ys = refl
 
--- what an edit promises, from what `load`, `change`, `store` and `edited_of` promise
-pub promises : (state : State) (e : Edit) (ys ns : List NodeRecord) (zs ws : List ℕ) (examined : Examined)
+refused_keeps : (state : State) (examined : Result Examined Refusal) (ys : List NodeRecord) (k p : ℕ) → replied examined ≡ refused k p
+    → ((edited_of state examined).state ≡ state) × (stored_of examined ys ≡ ys)
+refused_keeps state (Ok examined) ys k p says = let z : ◌≡◌ {A = ℕ} 0 1 = cc in absurd (omega arith)
+refused_keeps state (Err r) ys k p says = (refl, refl)
+
+-- what an edit promises, from what `load`, `change` and `given` promise
+pub promises : (state : State) (e : Edit) (ys : List NodeRecord) (zs ws : List ℕ) (examined : Result Examined Refusal)
     → Changes (loaded_of state ys).block (loaded_of state ys).marks e (length ys) examined zs ws
-    → ns ≡ stored (record_in examined) ys examined.netlist.count
     → length ws ≡ length zs
-    → Promised state e (edited_of state examined) ys ns zs ws
-unfolding reply_after netlist_after records_after bytes_after flat_of
-promises state e ys ns zs ws examined changes is-ns same =
+    → Promised state e (edited_of state examined) ys (stored_of examined ys) zs ws
+unfolding reply_after netlist_after records_after bytes_after
+promises state e ys zs ws examined changes same =
     record {
       reply = is_reply;
-      state_after = λ n o. kept_state n (edited n e (length ys) (length zs)) examined.reply state _ (examines n o).reply o.its_state (ap state_in (examines n o).netlist);
-      nodes = λ n o. records n o;
+      state_after = λ n o. kept_state n (edited n e (length ys) (length zs)) examined state (examines n o).reply o.its_state (examines n o).netlist;
+      nodes = λ n o.
+          kept_records (edited n e (length ys) (length zs)) examined ys (examines n o).reply changes.contained.few_entries (examines n o).netlist (examines n o).marks;
       work = λ n o. (examines n o).work;
       clear = λ n o. subst (λ r. GlitchClear r ↔ NothingSuspectAfter n e (length ys) (length zs)) (sym (is_reply n o)) (clear_when n e (length ys) (length zs));
       probe = λ n o c. probe_after n e (length ys) (length zs) o.obeys (subst GlitchClear (is_reply n o) c);
-      early = λ n formed is k p. changes.early n formed (loaded_state state ys ∙ is) k p;
+      early = λ n formed is k p short. given_reply state examined ∙ changes.early n formed (loaded_state state ys ∙ is) k p short;
       kept = record {
-        entries = ap length is-ns ∙ stored_length (record_in examined) ys examined.netlist.count;
+        entries = stored_length_of examined ys;
         bytes = same;
         refused = λ k p says.
-            let (empty-handed, unchanged) = changes.contained.unchanged k p says in (
-              refused_state examined.reply state _ k p says,
-              is-ns ∙ ap (λ (t : Value.Netlist). stored (record_in examined) ys t.count) empty-handed ∙ nothing_stored,
-              unchanged,
-            );
+            let refuses = sym (given_reply state examined) ∙ says in
+            let (same-state, same-nodes) = refused_keeps state examined ys k p refuses in
+            (same-state, same-nodes, (changes.contained.unchanged k p refuses).1);
       };
     }
   where
     examines : (n : Netlist) → IsOpen n state ys zs → Examines (edited n e (length ys) (length zs)) examined zs ws
     examines n o = changes.made n o.obeys (loaded_flat o) (loaded_marks o) o.holds.families
 
-    is_reply : (n : Netlist) → IsOpen n state ys zs → reply_of examined.reply ≡ reply_after n e (length ys) (length zs)
-    is_reply n o = (examines n o).reply
+    is_reply : (n : Netlist) → IsOpen n state ys zs → reply_of (edited_of state examined).reply ≡ reply_after n e (length ys) (length zs)
+    is_reply n o = given_reply state examined ∙ (examines n o).reply
 
-    records : (n : Netlist) → IsOpen n state ys zs → ns ≡ records_after n e ys (length zs)
-    records n o =
-        is-ns
-        ∙ kept_records (edited n e (length ys) (length zs)) examined ys changes.contained.few_entries (examines n o).netlist (examines n o).marks
+-- ---- a block that is opened
 
-    nothing_stored : stored (record_in examined) ys (flat_of empty).count ≡ ys
-    nothing_stored = stored_none (record_in examined) ys
+-- on a refusal the state is that of no variables and no nodes
+pub opened_state : (examined : Result Examined Refusal) (n : Netlist) → kept_netlist examined ≡ flat_of n
+    → (edited_of (state_in (flat_of empty)) examined).state ≡ state_of n
+opened_state (Ok examined) n is = value_state n is
+opened_state (Err r) n is = value_state n is
+
+pub opened_nodes : (bytes : List ℕ) (ys : List NodeRecord) (work : ℕ) (examined : Result Examined Refusal) → replied examined ≡ reply bytes (length ys) work
+    → kept_netlist examined ≡ flat_of (kept (admitted bytes (length ys) work)) → kept_marks examined ≡ marks_of (kept (admitted bytes (length ys) work))
+    → stored_of examined ys ≡ nodes_after bytes ys work
+opened_nodes bytes ys work (Ok examined) says is-flat is-marked = examined_stored bytes ys work examined says is-flat is-marked
+opened_nodes bytes ys work (Err r) says is-flat is-marked = refused_unstored bytes ys work r says

@@ -2,7 +2,6 @@
 -- call whatever it was handed. Cited by the contracts of this crate. Assumes nothing.
 use Rattle.std.specs.Prelude.{Result, Ok, Err}
 use Rattle.rules.specs.declared.Refusal.{Refusal}
-use Rattle.rules.specs.declared.Answer.{Answer}
 use Rattle.std.specs.Prelude.{ℕ, min, ◌≡◌, List, map, length, take}
 use Rattle.rules.specs.declared.NodeRecord.{NodeRecord}
 use Rattle.rules.specs.Records.{most_nodes}
@@ -10,6 +9,7 @@ use Rattle.rules.specs.Checks as Checks
 use Rattle.rules.specs.Paper.{reply_of}
 use Rattle.netlists.specs.Netlists.{padded, blank}
 use Rattle.checker.specs.declared.Examined.{Examined}
+use Rattle.checker.specs.Work.{record_in, stored}
 use Rattle.edit_rules.specs.declared.State.{State}
 use Rattle.edit_steps.specs.Changes.{state_in}
 use Rattle.edit_steps.specs.declared.Loaded.{Loaded}
@@ -35,17 +35,15 @@ loaded_from state k records = record {
 abbrev pub loaded_of : State → List NodeRecord → Loaded
 loaded_of state nodes = loaded_from state (min state.count most_nodes) nodes
 
--- the state to hand in next: a refused edit gives the state that it got
-abbrev pub next_state : Result Answer Refusal → (state after : State) → State
-next_state (Err r) state after = state
-next_state (Ok a) state after = after
+-- what a call gives of what was examined: a refusal gives the state that was handed in, and else it is the block's
+abbrev pub edited_of : State → Result Examined Refusal → Edited
+edited_of state (Err r) = record { reply = Err r; state = state }
+edited_of state (Ok examined) = record { reply = Ok examined.answer; state = state_in examined.netlist }
 
--- what an edit gives of what was examined, and what opening does
-abbrev pub edited_of : State → Examined → Edited
-edited_of state examined = record { reply = examined.reply; state = next_state examined.reply state (state_in examined.netlist) }
-
-abbrev pub opened_of : Examined → Edited
-opened_of examined = record { reply = examined.reply; state = state_in examined.netlist }
+-- and what it leaves in the slice of node records
+abbrev pub stored_of : Result Examined Refusal → List NodeRecord → List NodeRecord
+stored_of (Err r) nodes = nodes
+stored_of (Ok examined) nodes = stored (record_in examined) nodes examined.netlist.count
 
 -- Whatever state and slices an edit is handed: both slices keep their lengths, and a refusal gives the state that was
 -- handed in and leaves both slices as they were.

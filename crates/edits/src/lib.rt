@@ -12,16 +12,17 @@ ghost use Rattle.rules.specs.Checks.{refused, admitted};
 ghost use Rattle.rules.specs.Demands.{GlitchClear, NothingSuspect, OneProbe};
 ghost use Rattle.rules.specs.Paper.{reply_of};
 ghost use Rattle.netlists.specs.Netlists.{kept};
+ghost use Rattle.checker.specs.Work.{kept_netlist};
 ghost use Rattle.edit_rules.specs.Edits.{fits, netlist_after, reply_after, records_after, bytes_after, NothingSuspectAfter};
 ghost use Rattle.edit_rules.specs.Meaning.{edit_of, state_of, IsOpen};
-ghost use Rattle.edits.specs.Edited.{loaded_from, loaded_of, edited_of, opened_of, Kept};
+ghost use Rattle.edits.specs.Edited.{loaded_from, loaded_of, edited_of, stored_of, Kept};
 
 use checker::Examined;
 use edit_rules::{Edit, State};
 use edit_steps::Loaded;
 use marks::Marks;
 use netlists::Netlist;
-use rules::{MOST_NODES, NodeRecord, Answer, Refusal};
+use rules::{Answer, MOST_NODES, NodeRecord, Refusal};
 
 // What a call gives: the reply, and the state to hand in next.
 #[derive(Clone, Copy)]
@@ -76,23 +77,25 @@ fn load(state: State, nodes: &[NodeRecord]) -> Loaded
 
 // ---- what a call gives
 
-// Of what was examined: the reply and the state of the block; of an edit that is refused, the state that it got.
-fn opened_of(examined: Examined) -> Edited
-    ensures { result ≡ opened_of examined }
+// What a call gives of what was examined: the reply, and the state of the block, whose node records go to the front of
+// the slice. On a refusal it is the state that is handed in, and the slice stays as it was.
+fn given(examined: Result<Examined, Refusal>, state: State, nodes: &mut [NodeRecord]) -> Edited
+    requires { ((kept_netlist examined).count ≤ length nodes.old) × ((kept_netlist examined).count ≤ most_nodes) }
+    ensures given { result ≡ edited_of state examined }
+    ensures nodes { nodes.new ≡ stored_of examined nodes.old }
 {
-    Edited {
-        reply: examined.reply,
-        state: edit_steps::state_of(examined.netlist),
-    }
-}
-
-fn edited_of(state: State, examined: Examined) -> Edited
-    ensures { result ≡ edited_of state examined }
-{
-    let reply = examined.reply;
-    match reply {
-        Err(_) => Edited { reply, state },
-        Ok(_) => opened_of(examined),
+    match examined {
+        Err(refusal) => Edited {
+            reply: Err(refusal),
+            state,
+        },
+        Ok(examined) => {
+            checker::store(nodes, examined);
+            Edited {
+                reply: Ok(examined.answer),
+                state: edit_steps::state_of(examined.netlist),
+            }
+        }
     }
 }
 
@@ -114,8 +117,8 @@ pub fn open(bytes: &[u8], nodes: &mut [NodeRecord], work: &mut [u8]) -> Edited
     ensures probe { GlitchClear (reply_of result.reply) → OneProbe bytes.now }
 {
     let examined = checker::examine(bytes, nodes.len(), work);
-    checker::store(nodes, examined);
-    opened_of(examined)
+    let none = edit_steps::state_of(netlists::no_records());
+    given(examined, none, nodes)
 }
 
 // Edits an open block: a new node at the end, which is one record's bytes, or a node removed, for which those bytes
@@ -159,6 +162,5 @@ pub fn edit(
 {
     let loaded = load(state, nodes);
     let examined = edit_steps::change(loaded, edit, bytes, nodes.len(), work);
-    checker::store(nodes, examined);
-    edited_of(state, examined)
+    given(examined, state, nodes)
 }

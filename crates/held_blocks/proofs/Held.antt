@@ -1,17 +1,15 @@
 -- What opening or an edit gives is held: the netlist that it comes to obeys the record rules, and the work bytes hold
 -- its families; and a refused edit changes nothing. Assumes nothing.
-use Rattle.std.specs.Prelude.{Ok, Err}
+use Rattle.std.specs.Prelude.{Result, Ok, Err}
 use Prim.Native.Nat.{ℕ}
-use mathlib.Core.Path.{◌≡◌, refl, ap}
+use mathlib.Core.Path.{◌≡◌, refl}
 use mathlib.Core.List.{List}
 use native.Mathlib.Omega.{arith}
 use lib.ListN.{length}
-use Rattle.rules.specs.declared.Answer.{Answer}
 use Rattle.rules.specs.declared.Refusal.{Refusal}
 use Rattle.rules.specs.Records.{Netlist}
 use Rattle.rules.specs.Slices.{filled, work_after}
 use Rattle.rules.specs.Checks.{Outcome, answered, refused, and_then, admitted}
-use Rattle.rules.specs.Paper.{reply_of}
 use Rattle.rule_laws.proofs.Reading.{read_well_formed}
 use Rattle.rule_laws.proofs.Room.{admitted_says}
 use Rattle.netlists.specs.declared.Netlist as Value
@@ -19,7 +17,7 @@ use Rattle.netlists.specs.Netlists.{flat_of, kept}
 use Rattle.marks.specs.declared.Marks.{Marks}
 use Rattle.marks.specs.Marks.{marks_of}
 use Rattle.checker.specs.declared.Examined.{Examined}
-use Rattle.checker.specs.Work.{Examines}
+use Rattle.checker.specs.Work.{replied, Examines}
 use Rattle.edit_rules.specs.Edits.{Edit, edited, otherwise, netlist_after, reply_after}
 use Rattle.edit_rules.proofs.Kept.{made, written_families}
 use Rattle.edit_steps.specs.Changes.{Changes}
@@ -40,21 +38,22 @@ opened_held bytes entries value marks before after v m w n is =
 
 -- and one that is edited
 module _ {n : Netlist} {value : Value.Netlist} {marks : Marks} {before after : List ℕ} (held : IsHeld n value marks before)
-    (e : Edit) (entries : ℕ) {examined : Examined} (changes : Changes value marks e entries examined before after) where
+    (e : Edit) (entries : ℕ) {examined : Result Examined Refusal} (changes : Changes value marks e entries examined before after) where
   comes_to : Examines (edited n e entries (length before)) examined before after
   comes_to = changes.made n held.obeys held.its_value held.its_marks held.families
 
-  pub edit_reply : reply_of examined.reply ≡ reply_after n e entries (length before)
+  pub edit_reply : replied examined ≡ reply_after n e entries (length before)
   unfolding reply_after
   edit_reply = comes_to.reply
 
-  -- it is answered, and the block is the one that was made
-  pub made_held : {a : Answer} → examined.reply ≡ Ok a
+-- it is answered, and the block is the one that was made
+module _ {n : Netlist} {value : Value.Netlist} {marks : Marks} {before after : List ℕ} (held : IsHeld n value marks before) (e : Edit) (entries : ℕ) where
+  pub made_held : {examined : Examined} → Changes value marks e entries (Ok examined) before after
       → IsHeld (netlist_after n e entries (length before)) examined.netlist examined.marks after
   unfolding and_then kept filled netlist_after otherwise
-  made_held {a} answers = go (edited n e entries (length before)) refl comes_to
+  made_held {examined} changes = go (edited n e entries (length before)) refl (comes_to held e entries changes)
     where
-      go : (o : Outcome Netlist) → edited n e entries (length before) ≡ o → Examines o examined before after
+      go : (o : Outcome Netlist) → edited n e entries (length before) ≡ o → Examines o (Ok examined) before after
           → IsHeld (otherwise n o) examined.netlist examined.marks after
       go (answered m) is x =
           record {
@@ -63,13 +62,13 @@ module _ {n : Netlist} {value : Value.Netlist} {marks : Marks} {before after : L
             its_marks = x.marks;
             families = rw x.work (written_families m before);
           }
-      go (refused k p) is x = let z : ◌≡◌ {A = ℕ} 0 1 = cc (ap reply_of answers, x.reply) in absurd (omega arith)
+      go (refused k p) is x = let z : ◌≡◌ {A = ℕ} 0 1 = cc (x.reply) in absurd (omega arith)
 
   -- it is refused, and the block is the one of before
-  pub kept_held : {r : Refusal} → examined.reply ≡ Err r → IsHeld (netlist_after n e entries (length before)) value marks after
+  pub kept_held : {r : Refusal} → Changes value marks e entries (Err r) before after → IsHeld (netlist_after n e entries (length before)) value marks after
   unfolding and_then filled netlist_after otherwise
-  kept_held {r} refuses = go (edited n e entries (length before)) comes_to
+  kept_held {r} changes = go (edited n e entries (length before)) (comes_to held e entries changes)
     where
-      go : (o : Outcome Netlist) → Examines o examined before after → IsHeld (otherwise n o) value marks after
-      go (answered m) x = let z : ◌≡◌ {A = ℕ} 0 1 = cc (ap reply_of refuses, x.reply) in absurd (omega arith)
+      go : (o : Outcome Netlist) → Examines o (Err r) before after → IsHeld (otherwise n o) value marks after
+      go (answered m) x = let z : ◌≡◌ {A = ℕ} 0 1 = cc (x.reply) in absurd (omega arith)
       go (refused k p) x = rw x.work held

@@ -9,6 +9,7 @@ ghost use Rattle.rules.specs.Records.{most_nodes};
 ghost use Rattle.rules.specs.Slices.{reply};
 ghost use Rattle.rules.specs.Checks.{answered, admitted};
 ghost use Rattle.rules.specs.Paper.{reply_of};
+ghost use Rattle.checker.specs.Work.{replied, kept_netlist, kept_marks};
 ghost use Rattle.edit_rules.specs.Edits.{netlist_after, reply_after};
 ghost use Rattle.edit_rules.specs.Meaning.{edit_of};
 ghost use Rattle.held_blocks.specs.Held.{IsHeld};
@@ -18,14 +19,22 @@ use edit_rules::Edit;
 use edit_steps::Loaded;
 use marks::Marks;
 use netlists::Netlist;
-use rules::{MOST_NODES, Answer, Refusal};
+use rules::{Answer, MOST_NODES, Refusal};
 
-// Opens a block: the reply, and the netlist and its marks, which are those of no nodes where the block is refused.
-pub fn open_held(bytes: &[u8], work: &mut [u8]) -> Examined
-    ensures reply { reply_of result.reply ≡ reply bytes.now most_nodes (length work.old) }
+// What an edit gives: the reply, and the netlist and its marks as they then are.
+#[derive(Clone, Copy)]
+pub struct HeldBlock {
+    pub reply: Result<Answer, Refusal>,
+    pub netlist: Netlist,
+    pub marks: Marks,
+}
+
+// Opens a block: the refusal, or the answer, and the netlist and its marks.
+pub fn open_held(bytes: &[u8], work: &mut [u8]) -> Result<Examined, Refusal>
+    ensures reply { replied result ≡ reply bytes.now most_nodes (length work.old) }
     ensures held { (n : Records.Netlist) →
         admitted bytes.now most_nodes (length work.old) ≡ answered n →
-        IsHeld n result.netlist result.marks work.new }
+        IsHeld n (kept_netlist result) (kept_marks result) work.new }
 {
     checker::examine(bytes, MOST_NODES, work)
 }
@@ -38,7 +47,7 @@ pub fn edit_held(
     edit: Edit,
     bytes: &[u8],
     work: &mut [u8],
-) -> Examined
+) -> HeldBlock
     ensures reply { (n : Records.Netlist) → IsHeld n netlist marks work.old →
         reply_of result.reply ≡
         reply_after n (edit_of edit bytes.now) most_nodes (length work.old) }
@@ -50,13 +59,16 @@ pub fn edit_held(
         block: netlist,
         marks,
     };
-    let changed = edit_steps::change(loaded, edit, bytes, MOST_NODES, work);
-    match changed.reply {
-        Err(_) => Examined {
-            reply: changed.reply,
+    match edit_steps::change(loaded, edit, bytes, MOST_NODES, work) {
+        Err(refusal) => HeldBlock {
+            reply: Err(refusal),
             netlist,
             marks,
         },
-        Ok(_) => changed,
+        Ok(changed) => HeldBlock {
+            reply: Ok(changed.answer),
+            netlist: changed.netlist,
+            marks: changed.marks,
+        },
     }
 }

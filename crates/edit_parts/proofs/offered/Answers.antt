@@ -1,22 +1,21 @@
 -- `edit_parts::offered` meets its contract: a kind of 0 or 1 is refused first, and then the record is judged
 -- as the next of a file (`Offers`), which refuses it, or accepts a node's record that has bytes left over or not.
 -- Assumes nothing.
-use Prim.Native.Nat.{ℕ, ◌≤◌}
+use Prim.Native.Nat.{ℕ, ◌<◌}
 use mathlib.Core.Path.{◌≡◌, ap, ◌∙◌}
-use mathlib.Core.Logic.{◌⊎◌, inl, inr}
 use mathlib.Core.List.{List}
 use lib.ListN.{length, get_or, drop}
+use Rattle.std.proofs.lemmas.Result.{err_from_is_err_and}
 use Rattle.rules.specs.declared.Node.{Node}
-use Rattle.rules.specs.Records.{Cell, size}
+use Rattle.rules.specs.Records.{Cell, node, said, size}
 use Rattle.rules.specs.Slices.{entry}
 use Rattle.rules.specs.Checks.{Outcome, answered, and_then}
 use Rattle.records.specs.declared.RecordBytes.{RecordBytes}
 use Rattle.records.specs.Bytes.{record_bytes_at}
 use Rattle.records.proofs.Judged.{body_seen}
 use Rattle.edit_rules.specs.Edits.{judged_node}
-use Rattle.edit_parts.proofs.Offers.{no_node, refused_next, found_next, surplus_next, taken_next, offer_same}
+use Rattle.edit_parts.proofs.Offers.{FoundNext, no_node, refused_next, found_next, surplus_next, taken_next, offer_same}
 use Rattle.edit_parts.proofs.offered.Goals as goal
-use Rattle.edit_parts.proofs.offered.Goals.{else-bytes-gt0, then-bytes-gt0+else-kind-lt2}
 
 -- the record of these bytes, behind so many variables and nodes, is offered
 abbrev offer : (total variables nodes k : ℕ) (body : List ℕ) → Outcome Node
@@ -30,28 +29,28 @@ of-bytes bytes variables nodes own o e h =
     (rw e at h)
     ∙ ap (λ (x : Outcome Cell). and_then x (λ cell. answered (entry cell))) (offer_same (length bytes) _ _ _ _ _ (body_seen bytes 0))
 
-pub returns-then-kind-lt2 : goal.returns-then-kind-lt2
-returns-then-kind-lt2 c = of-bytes _ _ _ _ _ c.bytes_at-own.ensures (no_node _ _ _ _ _ _ c.if-bytes-gt0.true c.if-kind-lt2.true)
+pub returns-then-own-lt2 : goal.returns-then-own-lt2
+returns-then-own-lt2 c = rw c.at.ensures (of-bytes _ _ _ _ _ c.bytes_at-own.ensures (no_node _ _ _ _ _ _ c.if-bytes-gt0.true c.if-own-lt2.true))
+
+pub returns-in_err-kind : goal.returns-in_err-kind
+returns-in_err-kind c =
+    let p = err_from_is_err_and c.from_residual.result c.from_residual.ensures.1 in
+    rw (p.1, p.2) (of-bytes _ _ _ _ _ c.bytes_at-own.ensures (refused_next _ _ _ _ _ c.else-bytes-gt0.either _ _ c.in_err-kind.ensures.judged))
+
+-- the size of the kind that is told is that of the node
+sized : {total v n k told s : ℕ} {body : List ℕ} (x : FoundNext total v n k body) → told ≡ k
+    → ((own : List ℕ) → 0 < told → s ≡ size (said told own)) → s ≡ size (node x.cell)
+sized {body = body} x is size_is = size_is body (rw is x.above) ∙ rw is (ap size x.says)
 
 pub returns-then-size_of-bytes : goal.returns-then-size_of-bytes
 returns-then-size_of-bytes c =
-    let no_low : (length c.args.bytes.now ≤ 0) ⊎ (2 ≤ c.bytes_at-own.result.kind) =
-    elim c.if-bytes-gt0.branch [ then-bytes-gt0+else-kind-lt2 w ↦ inr w.if-kind-lt2.false | else-bytes-gt0 w ↦ inl w.if-bytes-gt0.false ] in
-    let x = found_next (length c.args.bytes.now) c.args.variables c.args.nodes c.bytes_at-own.result.kind c.bytes_at-own.result.body no_low c.judge.ensures c.in-Ok.is in
-    let sized = c.size_of.ensures.by_index _ x.above x.known ∙ ap size x.says in
-    of-bytes _ _ _ _ _ c.bytes_at-own.ensures (surplus_next _ _ _ _ _ x _ _ sized c.if-size_of-bytes.true)
+    let x = found_next _ _ _ _ _ c.else-bytes-gt0.either c.in_ok-kind.ensures.judged in
+    rw c.at-then-size_of-bytes.ensures
+    (of-bytes _ _ _ _ _ c.bytes_at-own.ensures (surplus_next _ _ _ _ _ x _ _ (sized x c.in_ok-kind.ensures.kind c.size_of.ensures.size) c.if-size_of-bytes.true))
 
-pub returns-in-Err : goal.returns-in-Err
-returns-in-Err c =
-    let no_low : (length c.args.bytes.now ≤ 0) ⊎ (2 ≤ c.bytes_at-own.result.kind) =
-    elim c.if-bytes-gt0.branch [ then-bytes-gt0+else-kind-lt2 w ↦ inr w.if-kind-lt2.false | else-bytes-gt0 w ↦ inl w.if-bytes-gt0.false ] in
-    of-bytes _ _ _ _ _ c.bytes_at-own.ensures (refused_next _ _ _ _ _ no_low _ _ c.judge.ensures c.in-Err.is)
-
-pub returns-else-size_of-bytes : goal.returns-else-size_of-bytes
-returns-else-size_of-bytes c =
-    let no_low : (length c.args.bytes.now ≤ 0) ⊎ (2 ≤ c.bytes_at-own.result.kind) =
-    elim c.if-bytes-gt0.branch [ then-bytes-gt0+else-kind-lt2 w ↦ inr w.if-kind-lt2.false | else-bytes-gt0 w ↦ inl w.if-bytes-gt0.false ] in
-    let x = found_next (length c.args.bytes.now) c.args.variables c.args.nodes c.bytes_at-own.result.kind c.bytes_at-own.result.body no_low c.judge.ensures c.in-Ok.is in
-    let sized = c.size_of.ensures.by_index _ x.above x.known ∙ ap size x.says in
+pub returns : goal.returns
+returns c =
+    let x = found_next _ _ _ _ _ c.else-bytes-gt0.either c.in_ok-kind.ensures.judged in
+    let says = ap (λ (k : ℕ). said k c.bytes_at-own.result.body) c.in_ok-kind.ensures.kind ∙ x.says in
     of-bytes _ _ _ _ _ c.bytes_at-own.ensures
-    (ap answered (c.entry_of.ensures x.cell x.says) ∙ taken_next _ _ _ _ _ x _ _ sized c.if-size_of-bytes.false)
+    (ap answered (c.entry_of.ensures x.cell says) ∙ taken_next _ _ _ _ _ x _ _ (sized x c.in_ok-kind.ensures.kind c.size_of.ensures.size) c.if-size_of-bytes.false)

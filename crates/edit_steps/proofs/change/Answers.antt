@@ -7,12 +7,12 @@ use Rattle.edit_steps.proofs.change.Goals as goal
 
 pub returns-then-loaded-gt-MOST_VARIABLES : goal.returns-then-loaded-gt-MOST_VARIABLES
 returns-then-loaded-gt-MOST_VARIABLES c =
-    refused_early _ _ _ _ _ _ _
+    rw c.at.ensures
+    (refused_early _ _ _ _ _ _
     (λ n formed s.
     absurd
     (⊎_elim (λ over. omega (arith, over, state_variables n s, formed.few_variables)) (λ over. omega (arith, over.1, state_count n s, formed.few_nodes))
-    c.then-loaded-gt-MOST_VARIABLES.either))
-    c.refused.ensures.0 c.refused.ensures.1
+    c.then-loaded-gt-MOST_VARIABLES.either)))
 
 pub returns-in-Add : goal.returns-in-Add
 returns-in-Add c =

@@ -5,7 +5,7 @@ use Rattle.edit_steps.proofs.remove_if_unused.Goals as goal
 
 pub returns-in-Some : goal.returns-in-Some
 returns-in-Some c =
-    still_used _ _ _ _ _ _ (λ n formed e. rw c.in-Some.is at (c.lowest_user.ensures n formed e)) c.refused.ensures.0 c.refused.ensures.1
+    rw c.at.ensures (still_used _ _ _ _ _ (λ n formed e. rw c.in-Some.is at (c.lowest_user.ensures n formed e)))
 
 pub returns : goal.returns
 returns c =
