@@ -49,10 +49,8 @@ fn suspect_path(netlist: Netlist, work: &[u8; MOST_WORK], glitch: Half) -> Resul
         return Ok([0; MOST_NODES]);
     };
     let mut steps = [0u8; MOST_BYTES];
-    match derivations::derive_held(netlist, work, node, 1, set, &mut steps) {
-        Ok(count) => Ok(path_of(&steps, count)),
-        Err(refusal) => Err(refusal),
-    }
+    let count = derivations::derive_held(netlist, work, node, 1, set, &mut steps)?;
+    Ok(path_of(&steps, count))
 }
 
 // Says why there is no path where its derivation is refused, to whoever reads the graph's text.

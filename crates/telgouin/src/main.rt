@@ -17,7 +17,7 @@ use desk::say::{say, say_found, say_refused};
 use desk::{ask, help, picture, search, why};
 use files::MOST_NUMBERS;
 use read_words::{BlockSize, MOST_BLOCK};
-use rules::{Answer, MOST_NODES, MOST_WORK, Refusal};
+use rules::{MOST_NODES, MOST_WORK, Refusal};
 use std::fs::File;
 use std::io::{IsTerminal, Read};
 use std::random::RandomSource;
@@ -80,7 +80,7 @@ fn say_usage(command: Command) {
     }
 }
 
-// Obeys a command over a whole block that was examined and got this answer, with these numbers.
+// Obeys a command over a whole block that was examined, with these numbers.
 // The work bytes hold the block's families. How far a search is is told if that is to be shown.
 fn obey_examined<R: Files<File = File> + RandomSource + Alloc, I: Read>(
     rt: &R,
@@ -88,14 +88,13 @@ fn obey_examined<R: Files<File = File> + RandomSource + Alloc, I: Read>(
     shown: bool,
     command: Command,
     examined: Examined,
-    answer: Answer,
     work: &mut [u8; MOST_WORK],
     numbers: &[usize],
 )
     requires { Seen examined work.old × Known examined.netlist work.old }
 {
+    let answer = examined.answer;
     let netlist = examined.netlist;
-    let marks = examined.marks;
     match command {
         Command::List => ask::list_held(answer, netlist, work),
         Command::Pairs => {
@@ -107,7 +106,7 @@ fn obey_examined<R: Files<File = File> + RandomSource + Alloc, I: Read>(
             _ => why::why_first(answer, netlist, work),
         },
         Command::Edit => editing::edit(rt, input, examined, work),
-        Command::Picture => picture::picture(answer, netlist, marks, work),
+        Command::Picture => picture::picture(answer, netlist, examined.marks, work),
         _ => {}
     }
 }
@@ -123,17 +122,9 @@ fn examine<R: Files<File = File> + RandomSource + Alloc, I: Read>(
     numbers: &[usize],
 ) -> Result<(), Refusal> {
     let mut work = [0u8; MOST_WORK];
-    let examined = checker::examine(bytes, MOST_NODES, &mut work);
-    let reply = examined.reply;
-    match reply {
-        Err(refusal) => Err(refusal),
-        Ok(answer) => {
-            obey_examined(
-                rt, input, shown, command, examined, answer, &mut work, numbers,
-            );
-            Ok(())
-        }
-    }
+    let examined = checker::examine(bytes, MOST_NODES, &mut work)?;
+    obey_examined(rt, input, shown, command, examined, &mut work, numbers);
+    Ok(())
 }
 
 // Obeys a command over the block that these bytes are, with so many numbers: the queries read it for themselves,

@@ -4,4 +4,4 @@ use Rattle.derivations.specs.Meaning.{derived_of}
 use Rattle.desk.proofs.picture.suspect_path.Goals as goal
 
 pub path_of-requires : goal.path_of-requires
-path_of-requires c = c.derive_held.ensures.most _ (ap derived_of c.in-Steps.is)
+path_of-requires c = c.derive_held.ensures.most _ (ap derived_of c.in_ok-count.was)
