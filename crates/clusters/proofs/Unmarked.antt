@@ -93,7 +93,7 @@ checked_unmarked bytes before after work a replied left = rw left (go (admitted 
         → RoundUnmarked bytes (nodes_after bytes before work)
     go (answered n) is says =
         both_round bytes n (nodes_after bytes before work) (checked_records bytes before work n is) (admitted_says bytes (length before) work n is).is_read
-    go (refused k p) is says = let z : ◌≡◌ {A = ℕ} 0 1 = cc in absurd (omega arith)
+    go (refused k p) is says = absurd cc
 
 -- And of those of an open block, after any run of edits: it obeys the record rules, and its
 -- slice holds them at its front.

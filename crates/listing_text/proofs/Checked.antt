@@ -23,12 +23,13 @@ module _ (bytes : List ℕ) (work : ℕ) (enough : work ≡ most_work) where
   all_admitted : admitted bytes most_nodes work ≡ read bytes
   all_admitted = admitted_all bytes most_nodes work (omega arith) (omega arith)
 
-  pub refused_read : (r : Refusal) → replied (Err r) ≡ reply bytes most_nodes work → read bytes ≡ refused (number_of r) (place_of r)
+  pub refused_read : (r : Refusal) → replied (Err r) ≡ reply bytes most_nodes work
+      → read bytes ≡ refused (number_of r) (place_of r)
   unfolding reply and_then
   refused_read r e = go (read bytes) (rw all_admitted at e)
     where
       go : (o : Outcome Netlist) → refused (number_of r) (place_of r) ≡ and_then o (λ n. answered (findings n)) → o ≡ refused (number_of r) (place_of r)
-      go (answered n) e = let no : ◌≡◌ {A = ℕ} 0 1 = cc in absurd (omega arith)
+      go (answered n) e = absurd cc
       go (refused k p) e = cc
 
 -- a netlist that was checked, with its families in the work bytes
@@ -40,18 +41,22 @@ pub record Checked (bytes : List ℕ) (examined : Examined) (before after : List
   pub is_work : after ≡ work_bytes (families netlist) ++ drop (length (work_bytes (families netlist))) before
 
 pub checked : (bytes before : List ℕ) → length before ≡ most_work → (examined : Examined) {after : List ℕ}
-    → replied (Ok examined) ≡ reply bytes most_nodes (length before) → examined.netlist ≡ flat_of (kept (admitted bytes most_nodes (length before)))
+    → replied (Ok examined) ≡ reply bytes most_nodes (length before)
+    → examined.netlist ≡ flat_of (kept (admitted bytes most_nodes (length before)))
     → after ≡ work_after bytes most_nodes before → Checked bytes examined before after
 unfolding reply work_after and_then kept filled
 checked bytes before enough examined {after} r t w =
     let admits = all_admitted bytes (length before) enough in
     go (read bytes) refl (rw admits at r) (rw admits at t) (rw admits at w)
   where
-    go : (o : Outcome Netlist) → read bytes ≡ o → answered (findings_of examined.answer) ≡ and_then o (λ n. answered (findings n))
-        → examined.netlist ≡ flat_of (kept o) → after ≡ filled (λ n. work_bytes (families n)) o before → Checked bytes examined before after
+    go : (o : Outcome Netlist) → read bytes ≡ o
+        → answered (findings_of examined.answer) ≡ and_then o (λ n. answered (findings n))
+        → examined.netlist ≡ flat_of (kept o)
+        → after ≡ filled (λ n. work_bytes (families n)) o before → Checked bytes examined before after
     go (answered n) e a v f =
-        let same : findings_of examined.answer ≡ findings n = cc in record { netlist = n; is_read = e; is_value = v; found = same; is_work = f }
-    go (refused k p) e a v f = let no : ◌≡◌ {A = ℕ} 0 1 = cc in absurd (omega arith)
+        let same : findings_of examined.answer ≡ findings n = cc in
+        record { netlist = n; is_read = e; is_value = v; found = same; is_work = f }
+    go (refused k p) e a v f = absurd cc
 
 module _ {bytes : List ℕ} {examined : Examined} {before after : List ℕ} (c : Checked bytes examined before after) where
   -- it obeys the record rules

@@ -56,7 +56,7 @@ module _ (bytes : List ℕ) (entries : ℕ) where
     where
       go : (o : Outcome Netlist) → admitted bytes entries work ≡ o → answered f ≡ and_then o (λ n. answered (findings n)) → Answers work f
       go (answered n) e same = record { netlist = n; admits = e; says = cc }
-      go (refused l q) e same = let z : ◌≡◌ {A = ℕ} 0 1 = cc in absurd (omega arith)
+      go (refused l q) e same = absurd cc
 
   module _ (before : List ℕ) {value : Value.Netlist} (kept-is : value ≡ flat_of (kept (admitted bytes entries (length before)))) where
     -- whose value is what `examine` kept
@@ -88,7 +88,7 @@ module _ (bytes : List ℕ) (entries limit : ℕ) where
   of_refused work k p = go (admitted bytes entries work)
     where
       go : (o : Outcome Netlist) → refused k p ≡ and_then o (λ n. answered (findings n)) → refused k p ≡ and_then o (λ n. answered (pair_findings n limit))
-      go (answered n) e = let z : ◌≡◌ {A = ℕ} 0 1 = cc in absurd (omega arith)
+      go (answered n) e = absurd cc
       go (refused l q) e = let number : k ≡ l = cc in let place : p ≡ q = cc in rw (number, place)
 
   -- the search over the work bytes that the checker leaves, and so the whole reply
@@ -106,7 +106,8 @@ module _ (bytes : List ℕ) (entries limit : ℕ) where
       (ap₂ {C = Outcome PairFindings} (λ f s. answered (record { answer = f; searched = s })) a.says (found ∙ ap (unless_single (half (λ F. F.glitch) n)) held))
 
   -- the reply of one probe beside it
-  pub one_probe_replied : (work : ℕ) (r : Result ExaminedPairs Refusal) → pairs_replied r ≡ pairs_reply bytes entries work limit
+  pub one_probe_replied : (work : ℕ) (r : Result ExaminedPairs Refusal)
+      → pairs_replied r ≡ pairs_reply bytes entries work limit
       → replied (examined_in r) ≡ reply bytes entries work
   unfolding one_probe_reply and_then
   one_probe_replied work (Ok e) is = ap one_probe_reply is ∙ one_probe_reply_lem bytes entries work limit
@@ -123,7 +124,8 @@ module _ (bytes : List ℕ) (entries limit : ℕ) where
     pub pairs : NoPair (pairs_replied r) ↔ NothingSuspectInPairs bytes entries (length before) limit
     pub probes : NoPair (pairs_replied r) → TwoProbes bytes
 
-  pub promises : (r : Result ExaminedPairs Refusal) (before after : List ℕ) → pairs_replied r ≡ pairs_reply bytes entries (length before) limit
+  pub promises : (r : Result ExaminedPairs Refusal) (before after : List ℕ)
+      → pairs_replied r ≡ pairs_reply bytes entries (length before) limit
       → kept_netlist (examined_in r) ≡ flat_of (kept (admitted bytes entries (length before)))
       → kept_marks (examined_in r) ≡ marks_of (kept (admitted bytes entries (length before)))
       → after ≡ work_after bytes entries before → Promises r before after
@@ -134,8 +136,12 @@ module _ (bytes : List ℕ) (entries limit : ℕ) where
         netlist = is_value;
         marks = is-marked;
         work = is_work;
-        clear = subst (λ o. GlitchClear o ↔ NothingSuspect bytes entries (length before)) (sym checked) (exactly_when bytes entries (length before));
+        clear =
+            subst (λ o. GlitchClear o ↔ NothingSuspect bytes entries (length before)) (sym checked)
+            (exactly_when bytes entries (length before));
         probe = subst (λ o. GlitchClear o → OneProbe bytes) (sym checked) (one_probe bytes entries (length before));
-        pairs = subst (λ o. NoPair o ↔ NothingSuspectInPairs bytes entries (length before) limit) (sym is) (no_pair_exactly bytes entries (length before) limit);
+        pairs =
+            subst (λ o. NoPair o ↔ NothingSuspectInPairs bytes entries (length before) limit) (sym is)
+            (no_pair_exactly bytes entries (length before) limit);
         probes = subst (λ o. NoPair o → TwoProbes bytes) (sym is) (two_probes bytes entries (length before) limit);
       }

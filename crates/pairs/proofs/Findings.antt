@@ -61,12 +61,12 @@ ClearAt report ps test = (k : ℕ) (p : Pair) → test k → at_position ps k �
 module _ (report : Pair → Option ℕ) where
   clear_none : (test : ℕ → Type 0) → ClearAt report [] test
   unfolding at_position
-  clear_none test k p t e = let z : ◌≡◌ {A = ℕ} 0 1 = cc in absurd (omega arith)
+  clear_none test k p t e = absurd cc
 
   clear_front : (test : ℕ → Type 0) (p : Pair) (ps : List Pair) → (test 1 → report p ≡ none) → ClearAt report ps (λ k. test (suc k))
       → ClearAt report (p ∷ ps) test
   unfolding at_position
-  clear_front test p ps here rest zero q t e = let z : ◌≡◌ {A = ℕ} 0 1 = cc in absurd (omega arith)
+  clear_front test p ps here rest zero q t e = absurd cc
   clear_front test p ps here rest (suc zero) q t e = let same : p ≡ q = cc in subst (λ (x : Pair). report x ≡ none) same (here t)
   clear_front test p ps here rest (suc (suc k)) q t e = rest (suc k) q t e
 
@@ -88,7 +88,7 @@ module _ (report : Pair → Option ℕ) where
   unfolding at_position
   says_front limit from p ps e (single node set) looked h = h
   says_front limit from p ps e no_pair looked h = (omega (arith, h.0), h.1, clear_front (λ k. Unit {0}) p ps (λ t. e) h.2)
-  says_front limit from p ps e (pair_at i j A) looked (zero, c, l, at, r, b) = let z : ◌≡◌ {A = ℕ} 0 1 = cc (none_first ps) in absurd (omega arith)
+  says_front limit from p ps e (pair_at i j A) looked (zero, c, l, at, r, b) = absurd (cc (none_first ps))
   says_front limit from p ps e (pair_at i j A) looked (suc k, c, l, at, r, b) =
       (suc (suc k), omega arith, l, at, r, clear_front (λ m. m < suc (suc k)) p ps (λ t. e) (λ m q t. b m q (omega arith)))
   says_front limit from p ps e spent looked h =
@@ -149,10 +149,10 @@ module _ (n : Netlist) (limit : ℕ) where
 
   -- two findings that both hold are one
   clear_or_suspect : {node set : ℕ} → SinglesClear → half (λ F. F.glitch) n ≡ suspect_at node set → ⊥
-  clear_or_suspect c e = let z : ◌≡◌ {A = ℕ} 0 1 = cc in omega arith
+  clear_or_suspect c e = cc
 
   none_or_some : {A : ℕ} {o : Option ℕ} → o ≡ none → o ≡ some A → ⊥
-  none_or_some e f = let z : ◌≡◌ {A = ℕ} 0 1 = cc in omega arith
+  none_or_some e f = cc
 
   one_meaning : (f g : PairFinding) (k l : ℕ) → Means f k → Means g l → ◌≡◌ {A = Searched} (record { found = f; looked = k }) (record { found = g; looked = l })
   one_meaning (single i A) (single j B) k l p q = let first = p.0 in let second = q.0 in let k-zero = p.1 in let l-zero = q.1 in cc
@@ -214,7 +214,7 @@ smaller_limit n limit less h = go (searched n less).found (searched n less).look
 
     go : (f : PairFinding) (k : ℕ) → searched n less ≡ record { found = f; looked = k } → Means n less f k
         → (searched n less ≡ searched n limit) ⊎ (searched n less ≡ record { found = spent; looked = less })
-    go (single i A) k e m = inl (same e (λ u. let z : ◌≡◌ {A = ℕ} 0 1 = cc in omega arith))
-    go no_pair k e m = inl (same e (λ u. let z : ◌≡◌ {A = ℕ} 0 1 = cc in omega arith))
-    go (pair_at i j A) k e m = inl (same e (λ u. let z : ◌≡◌ {A = ℕ} 0 1 = cc in omega arith))
+    go (single i A) k e m = inl (same e (λ u. cc))
+    go no_pair k e m = inl (same e (λ u. cc))
+    go (pair_at i j A) k e m = inl (same e (λ u. cc))
     go spent k e m = inr (e ∙ ap (λ (l : ℕ). record { found = spent; looked = l }) m.1)

@@ -32,7 +32,8 @@ same_search s t e =
 
 same_pairs : (a b : PairsAnswer) → pair_findings_of a ≡ pair_findings_of b → a ≡ b
 same_pairs a b e =
-    ap₂ (λ x s. record { answer = x; search = s }) (same_answer a.answer b.answer (ap (λ (f : PairFindings). f.answer) e))
+    ap₂ (λ x s. record { answer = x; search = s })
+    (same_answer a.answer b.answer (ap (λ (f : PairFindings). f.answer) e))
     (same_search a.search b.search (ap (λ (f : PairFindings). f.searched) e))
 
 -- a reply by what it says

@@ -169,15 +169,15 @@ module _ (n : Netlist) where
 
 at_each : (P : Pair → Type 0) (ps : List Pair) (k : ℕ) (p : Pair) → Each P ps → at_position ps k ≡ some p → P p
 unfolding at_position
-at_each P [] k p h e = let z : ◌≡◌ {A = ℕ} 0 1 = cc in absurd (omega arith)
-at_each P (q ∷ ps) zero p h e = let z : ◌≡◌ {A = ℕ} 0 1 = cc in absurd (omega arith)
+at_each P [] k p h e = absurd cc
+at_each P (q ∷ ps) zero p h e = absurd cc
 at_each P (q ∷ ps) (suc zero) p h e = let same : q ≡ p = cc in subst P same h.0
 at_each P (q ∷ ps) (suc (suc k)) p h e = at_each P ps (suc k) p h.1 e
 
 at_ordered : (ps : List Pair) (k l : ℕ) (p q : Pair) → Ordered Before ps → k < l → at_position ps k ≡ some p → at_position ps l ≡ some q → Before p q
 unfolding at_position
-at_ordered [] k l p q o h e f = let z : ◌≡◌ {A = ℕ} 0 1 = cc in absurd (omega arith)
-at_ordered (r ∷ ps) zero l p q o h e f = let z : ◌≡◌ {A = ℕ} 0 1 = cc in absurd (omega arith)
+at_ordered [] k l p q o h e f = absurd cc
+at_ordered (r ∷ ps) zero l p q o h e f = absurd cc
 at_ordered (r ∷ ps) (suc k) zero p q o h e f = absurd (omega arith)
 at_ordered (r ∷ ps) (suc k) (suc zero) p q o h e f = absurd (omega arith)
 at_ordered (r ∷ ps) (suc zero) (suc (suc l)) p q o h e f = let same : r ≡ p = cc in subst (λ (x : Pair). Before x q) same (at_each (Before r) ps (suc l) q o.0 f)
@@ -195,7 +195,7 @@ has_position p (q ∷ ps) (inl e) = (1, ap some e)
 has_position p (q ∷ ps) (inr h) = let (k, e) = has_position p ps h in further k e
   where
     further : (k : ℕ) → at_position ps k ≡ some p → (l : ℕ) × (at_position (q ∷ ps) l ≡ some p)
-    further zero e = let z : ◌≡◌ {A = ℕ} 0 1 = cc (none_first ps) in absurd (omega arith)
+    further zero e = absurd (cc (none_first ps))
     further (suc k) e = (suc (suc k), e)
 
 -- ---- what the order lists

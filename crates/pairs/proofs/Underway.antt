@@ -32,7 +32,7 @@ use Rattle.pairs.proofs.Core.{value_is, ready, of_answered, searches}
 
 -- both tests fail, or one holds
 neither : (a b : Bool) → (a || b) ≡ false → (a ≡ false) × (b ≡ false)
-neither true b e = let z : ◌≡◌ {A = ℕ} 0 1 = cc in absurd (omega arith)
+neither true b e = absurd cc
 neither false b e = (refl, e)
 
 either : (a b : Bool) → (a || b) ≡ true → (a ≡ true) ⊎ (b ≡ true)
@@ -46,16 +46,21 @@ not_done progress e =
     (omega (arith, leb-false progress.nodes progress.next left), on)
 
 -- what the half of an answer decides, the findings do that it says
-pub by_findings : (answer : Answer) (looked : Search) → searched_of looked ≡ unless_single (finding_of answer.glitch) (record { found = no_pair; looked = 0 })
-    → (f : Findings) → answered (findings_of answer) ≡ answered f → searched_of looked ≡ unless_single f.glitch (record { found = no_pair; looked = 0 })
+pub by_findings : (answer : Answer) (looked : Search)
+    → searched_of looked ≡ unless_single (finding_of answer.glitch) (record { found = no_pair; looked = 0 })
+    → (f : Findings) → answered (findings_of answer) ≡ answered f
+    → searched_of looked ≡ unless_single f.glitch (record { found = no_pair; looked = 0 })
 by_findings answer looked is f e = let same : f ≡ findings_of answer = cc in rw same is
 
 module _ (bytes : List ℕ) (entries limit : ℕ) (before : List ℕ) (netlist : Value.Netlist) (work : List ℕ) where
   -- no pair was looked at
-  pub begins : (first : Result Answer Refusal) (looked : Search) (nodes : ℕ) → reply_of first ≡ reply bytes entries (length before)
-      → netlist ≡ flat_of (kept (admitted bytes entries (length before))) → work ≡ work_after bytes entries before → nodes ≡ netlist.count
+  pub begins : (first : Result Answer Refusal) (looked : Search) (nodes : ℕ)
+      → reply_of first ≡ reply bytes entries (length before)
+      → netlist ≡ flat_of (kept (admitted bytes entries (length before))) → work ≡ work_after bytes entries before
+      → nodes ≡ netlist.count
       → ((f : Findings) → reply_of first ≡ answered f → searched_of looked ≡ unless_single f.glitch (record { found = no_pair; looked = 0 }))
-      → Underway bytes entries limit before netlist work (record { reply = first; search = looked; next = 0; nodes = nodes })
+      → Underway bytes entries limit before netlist work
+      (record { reply = first; search = looked; next = 0; nodes = nodes })
   unfolding reply and_then findings search_from
   begins first looked nodes replied value held count single = record {
     replied = replied;
@@ -94,8 +99,7 @@ module _ (bytes : List ℕ) (entries limit : ℕ) (before : List ℕ) (netlist :
         go n on finds clear e = rw (pairs_more n progress.next, goes_on _ _ 0 (pairs_below n progress.next) (row n progress.next progress.next) _ e on) finds
         go n on finds (suspect_at node set) e =
             let ended : true ≡ false = sym (ap (λ (s : Searched). over s.found) e) ∙ on in
-            let z : ◌≡◌ {A = ℕ} 0 1 = cc in
-            absurd (omega arith)
+            absurd cc
 
     -- all pairs, once it is done
     pub all_found : is_done progress ≡ true → (n : Netlist) → admitted bytes entries (length before) ≡ answered n
@@ -120,8 +124,11 @@ module _ (bytes : List ℕ) (entries limit : ℕ) (before : List ℕ) (netlist :
             (either (leb progress.nodes progress.next) (over (searched_of progress.search).found) e)
 
     -- and, beside the answer of one probe, the whole reply
-    pub whole : is_done progress ≡ true → (answer : Answer) → answered (findings_of answer) ≡ reply bytes entries (length before)
-        → pairs_reply_of (Ok (record { answer = answer; search = progress.search })) ≡ pairs_reply bytes entries (length before) limit
+    pub whole : is_done progress ≡ true → (answer : Answer)
+        → answered (findings_of answer) ≡ reply bytes entries (length before)
+        → pairs_reply_of (Ok (record { answer = answer; search = progress.search }))
+        ≡ pairs_reply bytes entries (length before) limit
     whole e answer replied =
         let answers = of_answered bytes entries (length before) (findings_of answer) replied in
-        searches bytes entries limit answer progress.search before answers u.held (all_found e answers.netlist answers.admits)
+        searches bytes entries limit answer progress.search before answers u.held
+        (all_found e answers.netlist answers.admits)

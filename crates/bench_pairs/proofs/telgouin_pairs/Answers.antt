@@ -14,17 +14,23 @@ use Rattle.bench_pairs.specs.Packed.{packed, packed_finding, packed_reply}
 use Rattle.bench_pairs.proofs.telgouin_pairs.Goals as goal
 
 -- the number of a reply in slices that hold every netlist
-told : (bytes : List ℕ) (limit : ℕ) {said : Result ExaminedPairs Refusal} (reply : Result ExaminedPairs Refusal) → said ≡ reply
+told : (bytes : List ℕ) (limit : ℕ) {said : Result ExaminedPairs Refusal} (reply : Result ExaminedPairs Refusal)
+    → said ≡ reply
     → pairs_replied said ≡ pairs_reply bytes most_nodes (length (replicate {A = ℕ} most_work 0)) limit
     → packed_reply (pairs_replied reply) ≡ packed_reply (pairs_reply bytes most_nodes most_work limit)
-told bytes limit reply is says = ap packed_reply (sym (ap pairs_replied is) ∙ says ∙ rw (length-replicate {A = ℕ} most_work 0))
+told bytes limit reply is says =
+    ap packed_reply (sym (ap pairs_replied is) ∙ says ∙ rw (length-replicate {A = ℕ} most_work 0))
 
 -- and, where it is answered, that of what was found
-found : (bytes : List ℕ) (limit : ℕ) {said : Result ExaminedPairs Refusal} (both : ExaminedPairs) {finding : Found} → said ≡ Ok both → both.search.found ≡ finding
+found : (bytes : List ℕ) (limit : ℕ) {said : Result ExaminedPairs Refusal} (both : ExaminedPairs) {finding : Found}
+    → said ≡ Ok both → both.search.found ≡ finding
     → pairs_replied said ≡ pairs_reply bytes most_nodes (length (replicate {A = ℕ} most_work 0)) limit
-    → packed_finding (pair_finding_of finding) both.search.looked ≡ packed_reply (pairs_reply bytes most_nodes most_work limit)
+    → packed_finding (pair_finding_of finding) both.search.looked
+    ≡ packed_reply (pairs_reply bytes most_nodes most_work limit)
 unfolding packed_reply
-found bytes limit both is finds says = ap (λ (f : Found). packed_finding (pair_finding_of f) both.search.looked) (sym finds) ∙ told bytes limit (Ok both) is says
+found bytes limit both is finds says =
+    ap (λ (f : Found). packed_finding (pair_finding_of f) both.search.looked) (sym finds)
+    ∙ told bytes limit (Ok both) is says
 
 pub returns-in-Err : goal.returns-in-Err
 unfolding packed_reply

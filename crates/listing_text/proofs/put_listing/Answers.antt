@@ -10,7 +10,8 @@ use Rattle.listing_text.proofs.put_listing.Goals as goal
 pub returns-in-Err : goal.returns-in-Err
 unfolding listing text_of
 returns-in-Err c =
-    rw (refused_read _ _ (length-replicate {A = ℕ} most_work 0) c.in-Err.refusal (rw c.in-Err.is at c.examine.ensures.reply)) c.put_refusal.ensures
+    let e = rw c.in-Err.is at c.examine.ensures.reply in
+    rw (refused_read _ _ (length-replicate {A = ℕ} most_work 0) c.in-Err.refusal e) c.put_refusal.ensures
 
 pub returns-in-Ok : goal.returns-in-Ok
 unfolding listing text_of

@@ -20,4 +20,5 @@ pub returns-clause-nodes : goal.returns-clause-nodes
 returns-clause-nodes c =
     let e = c.in_ok-both.ensures in
     c.store.ensures
-    ∙ examined_stored c.args.bytes.now c.args.nodes.now _ c.in_ok-both.both.examined (one_probe_replied _ _ _ _ (Ok c.in_ok-both.both) e.reply) e.netlist e.marks
+    ∙ examined_stored c.args.bytes.now c.args.nodes.now _ c.in_ok-both.both.examined
+    (one_probe_replied _ _ _ _ (Ok c.in_ok-both.both) e.reply) e.netlist e.marks

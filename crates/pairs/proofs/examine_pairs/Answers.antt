@@ -4,6 +4,7 @@ use Rattle.std.specs.Prelude.{Ok, Err}
 use mathlib.Core.Path.{sym, ◌∙◌}
 use native.Mathlib.Omega.{arith}
 use Rattle.std.proofs.lemmas.Result.{err_from_is_err_and}
+use Rattle.pairs.specs.declared.ExaminedPairs.{ExaminedPairs}
 use Rattle.pairs.proofs.Core.{of_refused, promises}
 use Rattle.pairs.proofs.Underway.{whole}
 use Rattle.pairs.proofs.examine_pairs.Goals as goal
@@ -12,7 +13,8 @@ pub returns-in_err-examined : goal.returns-in_err-examined
 returns-in_err-examined c =
     let p = err_from_is_err_and c.from_residual.result c.from_residual.ensures.1 in
     let e = c.in_err-examined.ensures in
-    let q = promises _ _ c.args.limit (Err _) _ _ (of_refused _ _ c.args.limit _ _ _ e.reply) e.netlist e.marks e.work in
+    let reply = of_refused _ _ c.args.limit _ _ _ e.reply in
+    let q = promises _ _ c.args.limit (Err _) _ _ reply e.netlist e.marks e.work in
     rw (p.1, p.2) (record {
       reply = q.reply;
       netlist = q.netlist;
@@ -44,7 +46,9 @@ pub returns : goal.returns
 returns c =
     let e = c.in_ok-examined.ensures in
     let u = c.loop-work.invariant _ (c.begin_pairs-progress.ensures _ _ c.args.limit _ _ e.reply e.netlist e.work) in
-    let q = promises _ _ c.args.limit (Ok (record { examined = c.in_ok-examined.examined; search = c.loop-work.progress.search })) _ _ (whole _ _ _ _ _ _ _ u (sym c.is_done.ensures ∙ c.loop-work-test.false) _ e.reply) e.netlist e.marks e.work in
+    let both : ExaminedPairs = record { examined = c.in_ok-examined.examined; search = c.loop-work.progress.search } in
+    let reply = whole _ _ _ _ _ _ _ u (sym c.is_done.ensures ∙ c.loop-work-test.false) _ e.reply in
+    let q = promises _ _ c.args.limit (Ok both) _ _ reply e.netlist e.marks e.work in
     record {
       reply = q.reply;
       netlist = q.netlist;

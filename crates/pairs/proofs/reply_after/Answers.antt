@@ -12,7 +12,8 @@ returns-in_err-answer c =
     let p = err_from_is_err_and c.from_residual.result c.from_residual.ensures.1 in
     rw (p.1, p.2) (record {
       beside = rw c.in_err-answer.was;
-      done = λ bytes entries limit before netlist work u e. of_refused _ _ _ _ _ _ (rw c.in_err-answer.was at u.replied);
+      done = λ bytes entries limit before netlist work u e.
+          of_refused _ _ _ _ _ _ (rw c.in_err-answer.was at u.replied);
     })
 
 pub returns : goal.returns
