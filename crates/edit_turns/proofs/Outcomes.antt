@@ -13,7 +13,7 @@ use Rattle.rules.specs.Checks.{Outcome, answered, refused, and_then, admitted, m
 use Rattle.rules.specs.Slices.{reply}
 use Rattle.rules.specs.Paper.{findings_of, reply_of}
 use Rattle.edit_rules.specs.Edits.{Edit, edited, otherwise, netlist_after, reply_after}
-use Rattle.checker.specs.declared.Examined.{Examined}
+use Rattle.held_blocks.specs.declared.HeldBlock.{HeldBlock}
 use Rattle.held_blocks.specs.Held.{IsHeld}
 use Rattle.edit_lines.specs.Asks.{Asks, changes}
 use Rattle.edit_turns.specs.declared.Turn.{Turn}
@@ -37,7 +37,7 @@ not_opened n r says = let z : ◌≡◌ {A = ℕ} 0 1 = cc in omega arith
 
 -- ---- an edit
 
-module _ (s : Standing) (turn : Turn) (changed : Examined) (before after : List ℕ) (stands : Stands s turn before) where
+module _ (s : Standing) (turn : Turn) (changed : HeldBlock) (before after : List ℕ) (stands : Stands s turn before) where
   -- by what the edit comes to
   stands_after : (o : Outcome Netlist) (r : Result Answer Refusal) → reply_of r ≡ and_then o (λ m. answered (findings m))
       → IsHeld (otherwise s.netlist o) changed.netlist changed.marks after

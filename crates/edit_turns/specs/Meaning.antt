@@ -8,7 +8,7 @@ use Rattle.rules.specs.Records.{WellFormed, written_out}
 use Rattle.rules.specs.Families.{findings}
 use Rattle.rules.specs.Demands.{NoSuspect, OneProbe}
 use Rattle.rules.specs.Paper.{findings_of, reply_of}
-use Rattle.checker.specs.declared.Examined.{Examined}
+use Rattle.held_blocks.specs.declared.HeldBlock.{HeldBlock}
 use Rattle.held_blocks.specs.Held.{IsHeld}
 use Rattle.edit_lines.specs.Asks.{Asks}
 use Rattle.edit_turns.specs.declared.Turn.{Turn}
@@ -39,7 +39,7 @@ pub record Earned (s : Standing) : Type 0 where
 -- ---- below the entry points
 
 -- the turn once an edit gave this: its reply, and the netlist and its marks as they then are
-abbrev pub turned_by : Result Answer Refusal → Turn → Examined → Turn
+abbrev pub turned_by : Result Answer Refusal → Turn → HeldBlock → Turn
 turned_by (Err r) turn changed = record { netlist = changed.netlist; marks = changed.marks; answer = turn.answer; faulty = true; made = turn.made }
 turned_by (Ok a) turn changed = record {
   netlist = changed.netlist;
@@ -49,7 +49,7 @@ turned_by (Ok a) turn changed = record {
   made = one_more turn.made;
 }
 
-abbrev pub turned_of : Turn → Examined → Turn
+abbrev pub turned_of : Turn → HeldBlock → Turn
 turned_of turn changed = turned_by changed.reply turn changed
 
 -- a turn with its own answer for the reply

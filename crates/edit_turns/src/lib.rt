@@ -9,6 +9,7 @@ ghost use Rattle.rules.specs.Families.{findings};
 ghost use Rattle.rules.specs.Checks.{answered, refused, admitted, most_work};
 ghost use Rattle.rules.specs.Slices.{reply};
 ghost use Rattle.rules.specs.Paper.{reply_of};
+ghost use Rattle.checker.specs.Work.{replied, kept_netlist, kept_marks};
 ghost use Rattle.edit_rules.specs.Meaning.{edit_of};
 ghost use Rattle.held_blocks.specs.Held.{IsHeld};
 ghost use Rattle.edit_lines.specs.Asks.{changes, asks_in};
@@ -19,6 +20,7 @@ ghost use Rattle.edit_turns.specs.Meaning.{Stands, Answers, turned_of, unchanged
 use checker::Examined;
 use edit_lines::{Ask, Asked};
 use edit_rules::Edit;
+use held_blocks::HeldBlock;
 use marks::Marks;
 use netlists::Netlist;
 use read_words::MOST_RECORD;
@@ -52,39 +54,50 @@ pub struct Obeyed {
 
 // ---- the start
 
-// An answer of nothing: what `begin_with` puts in the turn where a block is refused, since a turn has an answer.
-fn no_answer() -> Answer {
-    Answer {
+// A turn of no block, at fault: what `begin_with` gives where a block is refused, since a turn has a netlist, marks and
+// an answer.
+fn no_turn() -> Turn
+    ensures { result.faulty ≡ true }
+{
+    let answer = Answer {
         variables: 0,
         nodes: 0,
         settled: Half::Clear,
         glitch: Half::Clear,
+    };
+    Turn {
+        netlist: netlists::no_records(),
+        marks: marks::no_marks(),
+        answer,
+        faulty: true,
+        made: 0,
     }
 }
 
 // The turn of a block that was opened, and the reply to that. Where it was refused, the turn is at fault, and its
 // netlist, marks and answer are left open.
-pub fn begin_with(opened: Examined) -> Told
-    ensures reply { result.reply ≡ opened.reply }
-    ensures stands { (n : Records.Netlist) (work : List ℕ) → IsHeld n opened.netlist opened.marks work →
-        reply_of opened.reply ≡ answered (findings n) → Stands (begun n) result.turn work }
+pub fn begin_with(opened: Result<Examined, Refusal>) -> Told
+    ensures reply { reply_of result.reply ≡ replied opened }
+    ensures stands { (n : Records.Netlist) (work : List ℕ) → IsHeld n (kept_netlist opened) (kept_marks opened) work →
+        replied opened ≡ answered (findings n) → Stands (begun n) result.turn work }
     ensures refused { (k p : ℕ) → reply_of result.reply ≡ refused k p → result.turn.faulty ≡ true }
 {
-    let reply = opened.reply;
-    let mut answer = no_answer();
-    let mut faulty = true;
-    if let Ok(its) = reply {
-        answer = its;
-        faulty = false;
+    match opened {
+        Err(refusal) => Told {
+            turn: no_turn(),
+            reply: Err(refusal),
+        },
+        Ok(examined) => Told {
+            turn: Turn {
+                netlist: examined.netlist,
+                marks: examined.marks,
+                answer: examined.answer,
+                faulty: false,
+                made: 0,
+            },
+            reply: Ok(examined.answer),
+        },
     }
-    let turn = Turn {
-        netlist: opened.netlist,
-        marks: opened.marks,
-        answer,
-        faulty,
-        made: 0,
-    };
-    Told { turn, reply }
 }
 
 // Opens a block. Where it is refused, the turn is at fault, and its netlist, marks and answer are left open.
@@ -108,7 +121,7 @@ pub fn at_fault(mut turn: Turn) -> Turn
 }
 
 // The turn once an edit gave this: its reply, and the netlist and its marks as they then are.
-fn turned(turn: Turn, changed: Examined) -> Turn
+fn turned(turn: Turn, changed: HeldBlock) -> Turn
     ensures { result ≡ turned_of turn changed }
 {
     let next = Turn {
