@@ -1,11 +1,11 @@
 // `edit`: edits of a block that is held by value, a line each. It reads standard input, prints to standard output, and
 // writes the files that lines name.
-ghost use Rattle.std.specs.Prelude.{◌≡◌, true, List, ℕ, ◌+◌, ◌≤◌, ◌<◌, length, take};
+ghost use Rattle.std.specs.Prelude.{◌≡◌, Ok, true, List, ℕ, ◌+◌, ◌≤◌, ◌<◌, length, take};
 ghost use Rattle.rules.specs.Records as Records;
 ghost use Rattle.rules.specs.Records.{most_bytes};
 ghost use Rattle.rules.specs.Families.{findings};
 ghost use Rattle.rules.specs.Checks.{answered};
-ghost use Rattle.rules.specs.Paper.{reply_of};
+ghost use Rattle.checker.specs.Work.{replied};
 ghost use Rattle.write_words.specs.Worded.{most_words};
 ghost use Rattle.held_blocks.specs.Held.{IsHeld};
 ghost use Rattle.edit_turns.specs.Turns.{Standing, failed};
@@ -20,7 +20,7 @@ use desk::say::{
     say_refused_node,
 };
 use edit_lines::Ask;
-use edit_turns::{Told, Turn};
+use edit_turns::Turn;
 use netlists::Netlist;
 use read_words::Fault;
 use rules::{MOST_VARIABLES, MOST_WORK, Refusal, Answer};
@@ -204,23 +204,15 @@ fn obey<R: Files<File = File> + RandomSource + Alloc>(
     ensures { Obeyed line.now turn result.turn work.old work.new }
 {
     let obeyed = edit_turns::obey(turn, line, work);
-    let asked = obeyed.asked;
-    let ask = asked.ask;
-    let told = obeyed.told;
-    let next = told.turn;
-    let reply = told.reply;
+    let ask = obeyed.asked.ask;
+    let next = obeyed.told.turn;
     match ask {
-        Ask::Write(from, to) => {
-            let written = write(rt, next, &line[from..to]);
-            Taken {
-                turn: written,
-                more: true,
-            }
-        }
+        Ask::Write(from, to) => Taken {
+            turn: write(rt, next, &line[from..to]),
+            more: true,
+        },
         Ask::List => {
-            let answer = next.answer;
-            let netlist = next.netlist;
-            list_held(answer, netlist, work);
+            list_held(next.answer, next.netlist, work);
             Taken {
                 turn: next,
                 more: true,
@@ -231,9 +223,7 @@ fn obey<R: Files<File = File> + RandomSource + Alloc>(
             more: false,
         },
         _ => {
-            let netlist = next.netlist;
-            let classes = netlist.classes;
-            say_told(ask, line, reply, classes);
+            say_told(ask, line, obeyed.told.reply, next.netlist.classes);
             Taken {
                 turn: next,
                 more: true,
@@ -423,33 +413,22 @@ fn run_lines<R: Files<File = File> + RandomSource + Alloc, I: Read>(
 
 // ---- the whole
 
-// All edits of a block that was opened: the reply to that, and the block in the end.
+// All edits of a block that was opened: the block in the end.
 fn edit_block<R: Files<File = File> + RandomSource + Alloc, I: Read>(
     rt: &R,
     input: &mut I,
     opened: Examined,
     work: &mut [u8; MOST_WORK],
-) -> Told
-    ensures reply { result.reply ≡ opened.reply }
-    ensures edited { (n : Records.Netlist) → IsHeld n opened.netlist opened.marks work.old →
-        reply_of opened.reply ≡ answered (findings n) → Edited n result.turn work.new }
+) -> Turn
+    ensures { (n : Records.Netlist) → IsHeld n opened.netlist opened.marks work.old →
+        replied (Ok opened) ≡ answered (findings n) → Edited n result work.new }
 {
-    let begun = edit_turns::begin_with(opened);
-    let reply = begun.reply;
-    let turn = begun.turn;
     let run = Run {
-        turn,
+        turn: edit_turns::begin_with(Ok(opened)).turn,
         left: MOST_TURNS,
         more: true,
     };
-    match reply {
-        Err(_) => begun,
-        Ok(_) => {
-            let last = run_lines(rt, input, run, work);
-            let turn = last.turn;
-            Told { turn, reply }
-        }
-    }
+    run_lines(rt, input, run, work).turn
 }
 
 // Edits of a block that was opened over these work bytes; the last line says how they ended.
@@ -459,16 +438,6 @@ pub(crate) fn edit<R: Files<File = File> + RandomSource + Alloc, I: Read>(
     opened: Examined,
     work: &mut [u8; MOST_WORK],
 ) {
-    let told = edit_block(rt, input, opened, work);
-    let reply = told.reply;
-    let turn = told.turn;
-    match reply {
-        Err(refusal) => say_refused(refusal, 0),
-        Ok(_) => {
-            let netlist = turn.netlist;
-            let classes = netlist.classes;
-            let answer = turn.answer;
-            say_closing(turn.faulty, answer, turn.made, classes);
-        }
-    }
+    let turn = edit_block(rt, input, opened, work);
+    say_closing(turn.faulty, turn.answer, turn.made, turn.netlist.classes);
 }

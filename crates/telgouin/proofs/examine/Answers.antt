@@ -8,10 +8,10 @@ use Rattle.telgouin.proofs.examine.Goals as goal
 
 pub obey_examined-requires : goal.obey_examined-requires
 obey_examined-requires g c =
-    let promised = c.examine-examined.ensures in
-    let seen : Seen c.examine-examined.result c.examine-examined.new.work = record {
+    let promised = c.in_ok-examined.ensures in
+    let seen : Seen c.in_ok-examined.examined c.examine.new.work = record {
       bytes = c.args.bytes.now;
       before = replicate most_work 0;
       size = length-replicate {A = ℕ} most_work 0;
       leaves = record { reply = promised.reply; netlist = promised.netlist; held = promised.work };
-    } in (seen, seen_known seen c.in-Ok.is)
+    } in (seen, seen_known seen)

@@ -10,8 +10,8 @@ returns-in-Write g c =
     let obeyed = c.obey-obeyed.ensures in
     let asks = sym (rw c.in-Write.is at obeyed.asked) in
     record {
-      is_written = c.write-written.ensures.is_written;
-      stands = λ s stands. rw (file_told _ _ _ _ asks) (c.write-written.ensures.stands _ _ (obeyed.answers s stands).stands);
+      is_written = c.write.ensures.is_written;
+      stands = λ s stands. rw (file_told _ _ _ _ asks) (c.write.ensures.stands _ _ (obeyed.answers s stands).stands);
     }
 
 pub returns-in-List : goal.returns-in-List
