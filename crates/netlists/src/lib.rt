@@ -4,7 +4,8 @@
 #![tactic(auto)]
 
 ghost use Rattle.std.specs.Prelude.{◌≡◌, ◌+◌, ◌<◌, ◌≤◌, length, replicate};
-ghost use Rattle.rules.specs.Records.{Cell, kind_of, operands, empty, with_node, most_nodes, last_kind, most_body, class_byte};
+ghost use Rattle.rules.specs.Records.{Cell, kind_of, operands, empty, with_node, class_byte};
+ghost use Rattle.rules.specs.Records.{most_nodes, last_kind, most_body};
 ghost use Rattle.rules.specs.Records as Records;
 ghost use Rattle.rules.specs.Slices.{node_of, entry};
 ghost use Rattle.netlists.specs.Netlists.{padded, blank, flat_of};

@@ -1,7 +1,7 @@
-// The suspect sets of one family, a part of the work bytes: which of them it reports, or that it holds none. A map of the
-// suspect sets says whether it holds one, and only then its sets are tried, in the order of their report. Beside it the
-// secrets and masks of a netlist, as sets, and which nodes are tested. Reads the work bytes and writes to no lent slice.
-// Used by `suspects`, `marks`, `pair_tests` and `pair_search`.
+// The suspect sets of one family, a part of the work bytes: which of them it reports, or that it holds none. A map of
+// the suspect sets says whether it holds one, and only then its sets are tried, in the order of their report. Beside it
+// the secrets and masks of a netlist, as sets, and which nodes are tested. Reads the work bytes and writes to no lent
+// slice. Used by `suspects`, `marks`, `pair_tests` and `pair_search`.
 #![tactic(auto)]
 
 ghost use Rattle.std.specs.Prelude.{◌≡◌, ◌&&◌, List, ◌<◌, ◌≤◌, IfSome};
