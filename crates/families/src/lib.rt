@@ -5,9 +5,10 @@
 // `family_products`, `nodes`, `suspects` and what stands on them.
 #![tactic(auto)]
 
-ghost use Rattle.std.specs.Prelude.{◌≡◌, [], ◌∷◌, ◌<◌, length};
+ghost use Rattle.std.specs.Prelude.{◌≡◌, [], ◌∷◌, ◌+◌, ◌*◌, ◌^◌, ◌<◌, ◌≤◌, length};
 ghost use Rattle.rules.specs.Lists.{member, insert, union};
 ghost use Rattle.rules.specs.Records.{most_sets};
+ghost use Rattle.families.specs.Layers.{number_of, Numbered};
 ghost use Rattle.families.specs.Parts.{HasPart, family_at, with_family};
 ghost use Rattle.families.specs.Present.{bits_below};
 
@@ -18,6 +19,42 @@ pub const SETS: usize = 1 << MOST_VARIABLES;
 
 // How many bytes hold a bit for each set, and so how long a part is: 128.
 pub const PART: usize = SETS / 8;
+
+// The layer of settled signals, and that of glitching ones, by their numbers.
+#[derive(Clone, Copy, PartialEq, Eq)]
+pub enum Layer {
+    Settled = 0,
+    Glitch = 1,
+}
+
+// No layer has the number.
+#[derive(Clone, Copy, PartialEq, Eq)]
+pub struct NoLayer;
+
+impl TryFrom<usize> for Layer {
+    type Error = NoLayer;
+
+    ghost try_from_gives = { Numbered };
+
+    fn try_from(number: usize) -> Result<Self, NoLayer> {
+        match number {
+            0 => Ok(Layer::Settled),
+            1 => Ok(Layer::Glitch),
+            _ => Err(NoLayer),
+        }
+    }
+}
+
+impl Layer {
+    // The part of the work bytes that is a node's family in this layer.
+    pub fn part(self, node: usize) -> usize
+        requires { 2 * node + 1 < 2 ^ 64 }
+        ensures at { result ≡ 2 * node + number_of self }
+        ensures low { result ≤ 2 * node + 1 }
+    {
+        2 * node + self as usize
+    }
+}
 
 // Whether a part holds a set. Reads one byte.
 pub fn holds(work: &[u8], part: usize, set: usize) -> bool

@@ -12,9 +12,11 @@ ghost use Rattle.rules.specs.Families.{lowest};
 ghost use Rattle.rules.specs.Slices.{mark_number, mark_of};
 ghost use Rattle.rules.specs.Paper.{finding_of};
 ghost use Rattle.netlists.specs.Netlists.{flat_of, Sized};
+ghost use Rattle.families.specs.Layers.{number_of};
 ghost use Rattle.suspects.specs.Suspects.{reports_in};
 ghost use Rattle.marks.specs.Marks.{flat_marks, marks_in, with_marks};
 
+use families::Layer;
 use netlists::Netlist;
 use rules::{Half, MOST_NODES};
 
@@ -38,12 +40,12 @@ pub fn no_marks() -> Marks
 
 // ---- all nodes, and the last one
 
-// The marks of all nodes in one layer (settled 0, glitch 1), whose families the work bytes hold.
+// The marks of all nodes in one layer, whose families the work bytes hold.
 // A scan finds the lowest suspect node, and goes on behind it.
-fn layer_marks(netlist: Netlist, layer: usize, work: &[u8]) -> [u16; MOST_NODES]
-    requires { Sized netlist (length work.now) × (layer < 2) }
+fn layer_marks(netlist: Netlist, layer: Layer, work: &[u8]) -> [u16; MOST_NODES]
+    requires { Sized netlist (length work.now) }
     ensures { (n : Records.Netlist) → netlist ≡ flat_of n →
-        result ≡ flat_marks (reports_in n layer work.now) }
+        result ≡ flat_marks (reports_in n (number_of layer) work.now) }
 {
     let mut marks = [0u16; MOST_NODES];
     let mut from = 0;
@@ -61,23 +63,23 @@ pub fn all_marks(netlist: Netlist, work: &[u8]) -> Marks
         result ≡ marks_in (reports_in n 0 work.now) (reports_in n 1 work.now) }
 {
     Marks {
-        settled: layer_marks(netlist, 0, work),
-        glitch: layer_marks(netlist, 1, work),
+        settled: layer_marks(netlist, Layer::Settled, work),
+        glitch: layer_marks(netlist, Layer::Glitch, work),
     }
 }
 
 // The mark of the last node in one layer. No other node is scanned.
-fn last_mark(netlist: Netlist, layer: usize, work: &[u8]) -> u16
-    requires { Sized netlist (length work.now) × (layer < 2) × (0 < netlist.count) }
+fn last_mark(netlist: Netlist, layer: Layer, work: &[u8]) -> u16
+    requires { Sized netlist (length work.now) × (0 < netlist.count) }
     ensures { (n : Records.Netlist) → netlist ≡ flat_of n →
-        result ≡ mark_number (get_or (reports_in n layer work.now) (netlist.count - 1) none) }
+        result ≡ mark_number (get_or (reports_in n (number_of layer) work.now) (netlist.count - 1) none) }
 {
     let last = netlist.count - 1;
     if !suspect_sets::is_tested(netlist.nodes[last].kind) {
         return 0;
     }
     let classes = suspect_sets::classes_of(netlist);
-    match suspect_sets::first_suspect(work, 2 * last + layer, classes) {
+    match suspect_sets::first_suspect(work, layer.part(last), classes) {
         Some(set) => set as u16,
         None => 0,
     }
@@ -94,8 +96,8 @@ pub fn with_last(netlist: Netlist, marks: Marks, work: &[u8]) -> Marks
 {
     let last = netlist.count - 1;
     let mut longer = marks;
-    longer.settled[last] = last_mark(netlist, 0, work);
-    longer.glitch[last] = last_mark(netlist, 1, work);
+    longer.settled[last] = last_mark(netlist, Layer::Settled, work);
+    longer.glitch[last] = last_mark(netlist, Layer::Glitch, work);
     longer
 }
 

@@ -1,6 +1,6 @@
 -- What the number of a kind says of it. By its cases. Assumes nothing.
-use Prim.Native.Nat.{◌≤◌}
-use mathlib.Core.Path.{◌≡◌, refl}
+use Prim.Native.Nat.{ℕ, zero, suc, ◌≤◌}
+use mathlib.Core.Path.{◌≡◌, refl, sym, ap, ◌∙◌}
 use native.Mathlib.Omega.{arith}
 use Rattle.rules.specs.Records.{last_kind}
 use Rattle.netlists.specs.declared.Kind.{Kind}
@@ -29,23 +29,34 @@ node_byte And e v = omega arith
 node_byte Or e v = omega arith
 node_byte Register e v = omega arith
 
--- and only an input has number 2, only a variable number 1
+-- no two kinds have the same number: each is read back off its own
+kind_at : ℕ → Kind
+kind_at zero = End
+kind_at (suc zero) = Variable
+kind_at (suc (suc zero)) = Input
+kind_at (suc (suc (suc zero))) = Not
+kind_at (suc (suc (suc (suc zero)))) = Xor
+kind_at (suc (suc (suc (suc (suc zero))))) = And
+kind_at (suc (suc (suc (suc (suc (suc zero)))))) = Or
+kind_at (suc (suc (suc (suc (suc (suc (suc k))))))) = Register
+
+kind_back : (k : Kind) → kind_at (byte_of k) ≡ k
+unfolding kind_at
+kind_back End = refl
+kind_back Variable = refl
+kind_back Input = refl
+kind_back Not = refl
+kind_back Xor = refl
+kind_back And = refl
+kind_back Or = refl
+kind_back Register = refl
+
+pub one_kind : (k m : Kind) → byte_of k ≡ byte_of m → k ≡ m
+one_kind k m e = sym (kind_back k) ∙ ap kind_at e ∙ kind_back m
+
+-- so only an input has number 2, only a variable number 1
 pub input_byte : (k : Kind) → byte_of k ≡ 2 → k ≡ Input
-input_byte End e = absurd (omega arith)
-input_byte Variable e = absurd (omega arith)
-input_byte Input e = refl
-input_byte Not e = absurd (omega arith)
-input_byte Xor e = absurd (omega arith)
-input_byte And e = absurd (omega arith)
-input_byte Or e = absurd (omega arith)
-input_byte Register e = absurd (omega arith)
+input_byte k e = one_kind k Input e
 
 pub variable_byte : (k : Kind) → byte_of k ≡ 1 → k ≡ Variable
-variable_byte End e = absurd (omega arith)
-variable_byte Variable e = refl
-variable_byte Input e = absurd (omega arith)
-variable_byte Not e = absurd (omega arith)
-variable_byte Xor e = absurd (omega arith)
-variable_byte And e = absurd (omega arith)
-variable_byte Or e = absurd (omega arith)
-variable_byte Register e = absurd (omega arith)
+variable_byte k e = one_kind k Variable e

@@ -1,4 +1,5 @@
--- The kinds of record and the classes of variables by their numbers. Cited by this crate's contracts and its callers'. Assumes nothing.
+-- The kinds of record and the classes of variables by their numbers. Cited by this crate's contracts and its callers'.
+-- Assumes nothing.
 use Rattle.std.specs.Prelude.{ℕ, ◌≡◌, ◌<◌, Result, MatchResult}
 use Rattle.rules.specs.Records.{last_kind, class_byte}
 use Rattle.rules.specs.Records as R

@@ -4,13 +4,14 @@
 #![tactic(auto)]
 
 ghost use Rattle.std.specs.Prelude.{◌≡◌, ◌+◌, ◌<◌, ◌≤◌, length, replicate};
-ghost use Rattle.rules.specs.Records.{Cell, kind_of, operands, empty, with_node, most_nodes, last_kind, most_body};
+ghost use Rattle.rules.specs.Records.{Cell, kind_of, operands, empty, with_node, class_byte};
+ghost use Rattle.rules.specs.Records.{most_nodes, last_kind, most_body};
 ghost use Rattle.rules.specs.Records as Records;
 ghost use Rattle.rules.specs.Slices.{node_of, entry};
 ghost use Rattle.netlists.specs.Netlists.{padded, blank, flat_of};
-ghost use Rattle.netlists.specs.Kinds.{byte_of, Numbers, Classes};
+ghost use Rattle.netlists.specs.Kinds.{byte_of, class_in, Numbers, Classes};
 
-use rules::{LAST_KIND, MOST_BODY, MOST_NODES, MOST_VARIABLES, Node};
+use rules::{MOST_BODY, MOST_NODES, MOST_VARIABLES, Node};
 
 // The kinds of record, each with its number: the end, a variable, and the kinds of node.
 #[derive(Clone, Copy, PartialEq, Eq)]
@@ -86,6 +87,16 @@ impl TryFrom<u8> for Class {
     }
 }
 
+impl Class {
+    // The number of a class.
+    #[tactic(auto, unfolding(rules::specs::Records::class_byte))]
+    pub fn byte(self) -> u8
+        ensures { result ≡ class_byte (class_in self) }
+    {
+        self as u8
+    }
+}
+
 // A netlist by value: the counts, the class bytes and the node records, each in file order. Beyond the counts all is 0.
 #[derive(Clone, Copy)]
 pub struct Netlist {
@@ -108,12 +119,14 @@ pub fn operand_count(kind: u8) -> usize
     ensures none { (kind < 2 → result ≡ 0) × (last_kind < kind → result ≡ 0) }
     ensures few { result ≤ most_body }
 {
-    let counts = [0u8, 0, 0, 1, 2, 2, 2, 1];
-    let at = kind as usize;
-    if at <= LAST_KIND {
-        return counts[at] as usize;
+    let Ok(kind) = Kind::try_from(kind) else {
+        return 0;
+    };
+    match kind {
+        Kind::End | Kind::Variable | Kind::Input => 0,
+        Kind::Not | Kind::Register => 1,
+        Kind::Xor | Kind::And | Kind::Or => 2,
     }
-    0
 }
 
 // The operands of a node, which are as many as its kind has.
@@ -177,8 +190,7 @@ pub fn with_node(netlist: Netlist, last: Node) -> Netlist
     ensures more { (result.variables ≡ netlist.variables) × (result.count ≡ netlist.count + 1) }
 {
     let mut longer = netlist;
-    let at = longer.count;
-    longer.nodes[at] = last;
-    longer.count = at + 1;
+    longer.nodes[netlist.count] = last;
+    longer.count += 1;
     longer
 }

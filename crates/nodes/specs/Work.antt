@@ -3,9 +3,22 @@
 use Rattle.std.specs.Prelude.{ℕ, ◌+◌, ◌*◌, ◌≡◌, List, take}
 use Rattle.rules.specs.Lists.{tabulate}
 use Rattle.rules.specs.Records.{Netlist}
-use Rattle.rules.specs.Families.{Families, families}
+use Rattle.rules.specs.Families.{Family, product, spread, Families, families}
 use Rattle.rules.specs.Slices.{work_bytes}
+use Rattle.netlists.specs.declared.Kind.{Kind}
+use Rattle.netlists.specs.declared.Kind.TheVariants.{End, Variable, Input, Not, Xor, And, Or, Register}
 use Rattle.families.specs.Parts.{family_at, with_family}
+
+-- the family of a gate of this kind with two operands, from their families
+abbrev pub gate_by : Kind → Family → Family → Family
+gate_by Xor F G = product F G
+gate_by End F G = spread F G
+gate_by Variable F G = spread F G
+gate_by Input F G = spread F G
+gate_by Not F G = spread F G
+gate_by And F G = spread F G
+gate_by Or F G = spread F G
+gate_by Register F G = spread F G
 
 -- the families of node i
 abbrev pub families_in : List ℕ → (i : ℕ) → Families

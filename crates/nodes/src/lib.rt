@@ -6,25 +6,24 @@
 ghost use Rattle.std.specs.Prelude.{◌≡◌, ◌+◌, ◌*◌, ◌<◌, ◌≤◌, cond, ◌++◌, eqb, length, drop};
 ghost use Rattle.rules.specs.Records as Records;
 ghost use Rattle.rules.specs.Records.{Cell};
-ghost use Rattle.rules.specs.Families.{product, spread, settled_rule, glitch_rule, families_rule, families};
+ghost use Rattle.rules.specs.Families.{settled_rule, glitch_rule, families_rule, families};
 ghost use Rattle.rules.specs.Slices.{entry, work_bytes};
 ghost use Rattle.netlists.specs.Netlists.{flat_of, Ready, Placed};
 ghost use Rattle.families.specs.Parts.{HasPart, family_at, with_family};
-ghost use Rattle.nodes.specs.Work.{so_far, with_families, HoldsFirst};
+ghost use Rattle.nodes.specs.Work.{gate_by, so_far, with_families, HoldsFirst};
 
-use netlists::Netlist;
+use families::Layer;
+use netlists::{Kind, Netlist};
 use rules::Node;
 
-// Writes the family of a gate with two operands from those in two lower parts: for XOR (kind 4) their product,
-// for AND and OR the empty set, both families and their product.
-fn gate_family(work: &mut [u8], into: usize, kind: u8, first: usize, second: usize)
+// Writes the family of a gate with two operands from those in two lower parts: for XOR their product, for AND and OR
+// the empty set, both families and their product.
+fn gate_family(work: &mut [u8], into: usize, kind: Kind, first: usize, second: usize)
     requires { HasPart work.old into × (first < into) × (second < into) }
     ensures { work.new ≡ with_family work.old into
-        (cond (eqb kind 4)
-        (product (family_at work.old first) (family_at work.old second))
-        (spread (family_at work.old first) (family_at work.old second))) }
+        (gate_by kind (family_at work.old first) (family_at work.old second)) }
 {
-    if kind == 4 {
+    if kind == Kind::Xor {
         family_products::multiply(work, into, first, second);
     } else {
         family_products::spread(work, into, first, second);
@@ -37,14 +36,17 @@ fn settled_family(work: &mut [u8], i: usize, node: Node)
     ensures { (cell : Cell) → node ≡ entry cell →
         work.new ≡ with_family work.old (2 * i) (settled_rule (so_far work.old i) cell) }
 {
-    let into = 2 * i;
-    let kind = node.kind;
-    let first = 2 * (node.first as usize);
-    let second = 2 * (node.second as usize);
+    let Ok(kind) = Kind::try_from(node.kind) else {
+        unreachable!();
+    };
+    let into = Layer::Settled.part(i);
+    let first = Layer::Settled.part(node.first as usize);
+    let second = Layer::Settled.part(node.second as usize);
     match kind {
-        2 => families::single(work, into, node.set as usize),
-        3 | 7 => families::copy(work, into, first),
-        _ => gate_family(work, into, kind, first, second),
+        Kind::Input => families::single(work, into, node.set as usize),
+        Kind::Not | Kind::Register => families::copy(work, into, first),
+        Kind::Xor | Kind::And | Kind::Or => gate_family(work, into, kind, first, second),
+        Kind::End | Kind::Variable => unreachable!(),
     }
 }
 
@@ -56,19 +58,22 @@ fn glitch_family(work: &mut [u8], i: usize, node: Node)
         work.new ≡ with_family work.old (2 * i + 1)
         (glitch_rule (so_far work.old i) cell) }
 {
-    let into = 2 * i + 1;
-    let kind = node.kind;
-    let settled = 2 * (node.first as usize);
-    let glitch = settled + 1;
-    let other = 2 * (node.second as usize) + 1;
+    let Ok(kind) = Kind::try_from(node.kind) else {
+        unreachable!();
+    };
+    let into = Layer::Glitch.part(i);
+    let settled = Layer::Settled.part(node.first as usize);
+    let glitch = Layer::Glitch.part(node.first as usize);
+    let other = Layer::Glitch.part(node.second as usize);
     match kind {
-        2 => families::single(work, into, node.set as usize),
-        3 => {
+        Kind::Input => families::single(work, into, node.set as usize),
+        Kind::Not => {
             families::copy(work, into, glitch);
             families::insert(work, into, 0);
         }
-        7 => families::copy(work, into, settled),
-        _ => gate_family(work, into, 5, glitch, other),
+        Kind::Register => families::copy(work, into, settled),
+        Kind::Xor | Kind::And | Kind::Or => gate_family(work, into, Kind::And, glitch, other),
+        Kind::End | Kind::Variable => unreachable!(),
     }
 }
 

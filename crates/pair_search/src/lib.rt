@@ -14,11 +14,9 @@ ghost use Rattle.pair_search.specs.Pairs.{row, no_pair, search_from};
 ghost use Rattle.pair_search.specs.Meaning.{searched_of};
 ghost use Rattle.pair_search.specs.Work.{report_between, report_in, over};
 
+use families::Layer;
 use netlists::Netlist;
 use suspect_sets::Classes;
-
-// The layer of the glitch families: that of node i is part 2 × i + 1.
-const GLITCH: usize = 1;
 
 // What a search over pairs goes by: which variables are secrets and which are masks, and the limit on pairs.
 #[derive(Clone, Copy)]
@@ -83,7 +81,9 @@ pub fn look(
             looked,
         };
     }
-    let set = pair_tests::pair_set(first, 2 * i + GLITCH, second, 2 * j + GLITCH, terms.classes);
+    let p = Layer::Glitch.part(i);
+    let q = Layer::Glitch.part(j);
+    let set = pair_tests::pair_set(first, p, second, q, terms.classes);
     Search {
         found: match set {
             Some(set) => Found::Pair(i, j, set),

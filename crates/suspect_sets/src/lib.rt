@@ -1,19 +1,20 @@
-// The suspect sets of one family, a part of the work bytes: which of them it reports, or that it holds none. A map of the
-// suspect sets says whether it holds one, and only then its sets are tried, in the order of their report. Beside it the
-// secrets and masks of a netlist, as sets, and which nodes are tested. Reads the work bytes and writes to no lent slice.
-// Used by `suspects`, `marks`, `pair_tests` and `pair_search`.
+// The suspect sets of one family, a part of the work bytes: which of them it reports, or that it holds none. A map of
+// the suspect sets says whether it holds one, and only then its sets are tried, in the order of their report. Beside it
+// the secrets and masks of a netlist, as sets, and which nodes are tested. Reads the work bytes and writes to no lent
+// slice. Used by `suspects`, `marks`, `pair_tests` and `pair_search`.
 #![tactic(auto)]
 
 ghost use Rattle.std.specs.Prelude.{◌≡◌, ◌&&◌, List, ◌<◌, ◌≤◌, IfSome};
 ghost use Rattle.rules.specs.Lists.{member};
 ghost use Rattle.rules.specs.Records as Records;
-ghost use Rattle.rules.specs.Records.{Class, Cell, kind_of, class_byte, most_variables, most_sets};
+ghost use Rattle.rules.specs.Records.{Cell, kind_of, most_variables, most_sets};
 ghost use Rattle.rules.specs.Families.{suspect, tested, reported};
+ghost use Rattle.netlists.specs.Kinds.{class_in};
 ghost use Rattle.netlists.specs.Netlists.{flat_of};
 ghost use Rattle.families.specs.Parts.{HasPart, family_at};
 ghost use Rattle.suspect_sets.specs.Sets.{variables_of, ByClass, report_of};
 
-use netlists::Netlist;
+use netlists::{Class, Kind, Netlist};
 use set_order::sets_in_order;
 
 // Which variables are secrets and which are masks, as sets.
@@ -23,15 +24,15 @@ pub struct Classes {
     pub masks: usize,
 }
 
-// The declared variables of a class (0 secret, 1 mask, 2 public), as a set.
-pub fn variables_of(netlist: Netlist, class: u8) -> usize
+// The declared variables of a class, as a set.
+pub fn variables_of(netlist: Netlist, class: Class) -> usize
     requires { netlist.variables ≤ most_variables }
-    ensures { (n : Records.Netlist) (c : Class) → netlist ≡ flat_of n → class ≡ class_byte c →
-        result ≡ variables_of c n.variables }
+    ensures { (n : Records.Netlist) → netlist ≡ flat_of n →
+        result ≡ variables_of (class_in class) n.variables }
 {
     let mut set = 0;
     for v in 0..netlist.variables {
-        if netlist.classes[v] == class {
+        if netlist.classes[v] == class.byte() {
             set += 1 << v;
         }
     }
@@ -44,15 +45,15 @@ pub fn classes_of(netlist: Netlist) -> Classes
     ensures { (n : Records.Netlist) → netlist ≡ flat_of n → ByClass result n.variables }
 {
     Classes {
-        secrets: variables_of(netlist, 0),
-        masks: variables_of(netlist, 1),
+        secrets: variables_of(netlist, Class::Secret),
+        masks: variables_of(netlist, Class::Mask),
     }
 }
 
 // Whether a set holds a secret and no mask and is in the part. Most sets hold a mask, so that is tested first.
 pub fn suspect_in(work: &[u8], part: usize, classes: Classes, set: usize) -> bool
     requires { HasPart work.now part × (set < most_sets) }
-    ensures { (variables : List Class) → ByClass classes variables →
+    ensures { (variables : List Records.Class) → ByClass classes variables →
         result ≡ (suspect variables set && member set (family_at work.now part)) }
 {
     set & classes.masks == 0 && set & classes.secrets != 0 && families::holds(work, part, set)
@@ -62,7 +63,7 @@ pub fn suspect_in(work: &[u8], part: usize, classes: Classes, set: usize) -> boo
 // lowest-numbered.
 pub fn first_suspect(work: &[u8], part: usize, classes: Classes) -> Option<usize>
     requires { HasPart work.now part }
-    ensures reported { (variables : List Class) → ByClass classes variables →
+    ensures reported { (variables : List Records.Class) → ByClass classes variables →
         report_of result ≡ reported variables (family_at work.now part) }
     ensures is_set { IfSome result (λ A. A < most_sets) }
 {
@@ -83,5 +84,5 @@ pub fn first_suspect(work: &[u8], part: usize, classes: Classes) -> Option<usize
 pub fn is_tested(kind: u8) -> bool
     ensures { (cell : Cell) → kind ≡ kind_of cell → result ≡ tested cell }
 {
-    kind != 2
+    kind != Kind::Input.byte()
 }

@@ -1,38 +1,40 @@
--- `records::operand_count` meets its contract: its table is that of the kinds. Assumes nothing.
-use Prim.Native.Nat.{ℕ, zero, suc, ◌≤◌, ◌<◌}
-use mathlib.Core.Path.{◌≡◌, refl, ap, ◌∙◌}
-use mathlib.Core.List.{List, [], ◌∷◌}
+-- `netlists::operand_count` meets its contract: each kind's count is that of the table of the kinds. Assumes nothing.
+use Prim.Native.Nat.{ℕ}
+use mathlib.Core.Path.{◌≡◌, sym, ap, ◌∙◌}
+use mathlib.Core.Logic.{inl, inr}
 use native.Mathlib.Omega.{arith}
-use lib.ListN.{get_or}
-use Rattle.rules.specs.Lists.{greatest}
+use lib.ListN.{length, get_or}
+use Rattle.rules.specs.Records.{Cell, kind_of, operands}
 use Rattle.rule_laws.proofs.Operands.{counts, last_most, operands_counted}
+use Rattle.netlists.specs.declared.Kind.{Kind}
+use Rattle.netlists.specs.Kinds.{byte_of}
 use Rattle.netlists.proofs.operand_count.Goals as goal
 
-none_below : (k : ℕ) → k < 2 → get_or counts k 0 ≡ 0
-none_below zero h = refl
-none_below (suc zero) h = refl
-none_below (suc (suc k)) h = absurd (omega arith)
+-- of a node's kind, by the entry of the table at its number
+counted : (kind own : Kind) → kind ≡ own → (number : ℕ) → byte_of kind ≡ number
+    → (cell : Cell) → number ≡ kind_of cell → get_or counts (byte_of own) 0 ≡ length (operands cell)
+counted kind own is number read cell e =
+    ap (λ (k : Kind). get_or counts (byte_of k) 0) (sym is) ∙ ap (λ (k : ℕ). get_or counts k 0) (read ∙ e) ∙ operands_counted cell
 
--- no entry is above the greatest
-at_most : (l : List ℕ) (k : ℕ) → get_or l k 0 ≤ greatest l
-at_most [] k = omega arith
-at_most (x ∷ l) zero = omega arith
-at_most (x ∷ l) (suc k) = omega (arith, at_most l k)
+pub returns-in_default-clause-value : goal.returns-in_default-clause-value
+returns-in_default-clause-value c = λ cell e. absurd (omega (arith, last_most cell, c.in_default.ensures))
 
-pub overflow_cast-result : goal.overflow_cast-result
-overflow_cast-result c = omega (arith, at_most counts c.before.args.kind)
+pub returns-in-End-clause-value : goal.returns-in-End-clause-value
+returns-in-End-clause-value c = λ cell e. elim c.in-End.is [
+  | inl is ↦ counted _ _ is _ c.in-Ok.ensures cell e
+  | inr (inl is) ↦ counted _ _ is _ c.in-Ok.ensures cell e
+  | inr (inr is) ↦ counted _ _ is _ c.in-Ok.ensures cell e
+]
 
-pub returns-then-at-le-LAST_KIND : goal.returns-then-at-le-LAST_KIND
-returns-then-at-le-LAST_KIND c = let kind = c.before.args.kind in
-    record {
-      value = λ cell e. ap (λ (k : ℕ). get_or counts k 0) e ∙ operands_counted cell;
-      none = (none_below kind, λ h. absurd (omega arith));
-      few = omega (arith, at_most counts kind);
-    }
+pub returns-in-Not-clause-value : goal.returns-in-Not-clause-value
+returns-in-Not-clause-value c = λ cell e. elim c.in-Not.is [
+  | inl is ↦ counted _ _ is _ c.in-Ok.ensures cell e
+  | inr is ↦ counted _ _ is _ c.in-Ok.ensures cell e
+]
 
-pub returns : goal.returns
-returns c = record {
-  value = λ cell e. absurd (omega (arith, last_most cell));
-  none = (λ h. refl, λ h. refl);
-  few = omega arith;
-}
+pub returns-in-Xor-clause-value : goal.returns-in-Xor-clause-value
+returns-in-Xor-clause-value c = λ cell e. elim c.in-Xor.is [
+  | inl is ↦ counted _ _ is _ c.in-Ok.ensures cell e
+  | inr (inl is) ↦ counted _ _ is _ c.in-Ok.ensures cell e
+  | inr (inr is) ↦ counted _ _ is _ c.in-Ok.ensures cell e
+]

@@ -31,9 +31,9 @@ returns c =
     λ variables by.
     elim c.match-set.branch [
       | in-Some w ↦
-          let reports : some w.in-Some.set ≡ _ = w.in-Some.ensures.reported variables by in
+          let reports : some w.in-Some.set ≡ _ = rw (c.part-p.ensures.at, c.part-q.ensures.at) at (w.in-Some.ensures.reported variables by) in
           rw (c.if-not-both.false, lt-ltb _ _ c.if-looked-terms.false, ← reports, w.result-is, add-one)
       | in-None w ↦
-          let reports : none ≡ _ = w.in-None.ensures.reported variables by in
+          let reports : none ≡ _ = rw (c.part-p.ensures.at, c.part-q.ensures.at) at (w.in-None.ensures.reported variables by) in
           rw (c.if-not-both.false, lt-ltb _ _ c.if-looked-terms.false, ← reports, w.result-is, add-one)
     ]

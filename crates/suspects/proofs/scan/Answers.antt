@@ -25,8 +25,9 @@ loop-i-preserved-then-not-is_tested c =
           untested_none n _ _ _ (sym (tested_there _ n e _ c.loop-i-test.true c.is_tested.ensures) ∙ w.if-not-is_tested.true)
       | then-not-is_tested-via-else-not-is_tested+then-not-meets w ↦
           none_there n _ _ _
+          (rw (← c.part-part.ensures.at)
           (none_suspect n.variables _ _ _ w.meets.result (c.classes_of-classes.ensures n e) c.suspect_map-map.ensures w.meets.ensures
-          w.if-not-meets.true)
+          w.if-not-meets.true))
     ])
 
 pub suspect_in-requires : goal.suspect_in-requires
@@ -38,7 +39,7 @@ loop-set-preserved c =
     λ n e.
     let there = set_there _ _ _ c.from-set.ensures c.sets_in_order-order.ensures in
     below_more _ _ (c.loop-set.invariant n e)
-    (rw (← there) (sym (c.suspect_in.ensures n.variables (c.classes_of-classes.ensures n e)) ∙ c.if-suspect_in.false))
+    (rw (← there, ← c.part-part.ensures.at) (sym (c.suspect_in.ensures n.variables (c.classes_of-classes.ensures n e)) ∙ c.if-suspect_in.false))
 
 pub loop-i-preserved : goal.loop-i-preserved
 loop-i-preserved c =
@@ -63,7 +64,7 @@ returns-then-suspect_in-clause-found c =
     ∙ sym
     (found_suspect n _ _ _ _ _ (omega arith) (omega (arith, value_count n e)) (c.loop-i.invariant n e)
     (first_there n _ _ _ tests _ c.loop-set-test.true
-    (rw (← there) (sym (c.suspect_in.ensures n.variables (c.classes_of-classes.ensures n e)) ∙ c.if-suspect_in.true))
+    (rw (← there, ← c.part-part.ensures.at) (sym (c.suspect_in.ensures n.variables (c.classes_of-classes.ensures n e)) ∙ c.if-suspect_in.true))
     (c.loop-set.invariant n e)))
 
 pub returns-then-suspect_in-clause-within : goal.returns-then-suspect_in-clause-within
