@@ -13,7 +13,7 @@ use Rattle.listing_lines.specs.Text.{Appended}
 use Rattle.derivation_steps.specs.declared.Claim.{Claim}
 use Rattle.derivation_steps.specs.declared.Way.{Way}
 use Rattle.derivation_steps.specs.declared.Way.TheVariants.{Own, Operand, Empty, First, Second, Both}
-use Rattle.derivation_rules.specs.Derivations.{Step, step_size, steps_out, claimed, derived, explainable}
+use Rattle.derivation_rules.specs.Derivations.{Step, step_size, steps_out, claimed, derived, explainable, most_steps, steps_reply, steps_after, Certificate}
 use Rattle.derivation_steps.specs.Meaning.{claim_of}
 use Rattle.derivations.specs.Meaning.{derived_of}
 
@@ -63,3 +63,12 @@ pub record Told (outcome : Outcome R.Netlist) (node layer set room : ℕ) (r : R
   pub few : (n : R.Netlist) → outcome ≡ answered n → length (derived n node layer set) ≤ room
   pub bytes : (n : R.Netlist) → outcome ≡ answered n
       → take (step_size * length (derived n node layer set)) slice ≡ steps_out (derived n node layer set)
+
+-- what comes of a set of a node's family: the reply, and the slice at exit, of all netlist bytes that are read as a netlist
+-- by value
+pub record Derives (value : Netlist) (node layer set : ℕ) (before after : List ℕ) (r : Result ℕ Refusal) : Type 0 where
+  pub reply : (bytes : List ℕ) → ReadAs value bytes → derived_of r ≡ steps_reply bytes node layer set (length before)
+  pub steps : (bytes : List ℕ) → ReadAs value bytes → after ≡ steps_after bytes node layer set before
+  pub follows : (bytes : List ℕ) → ReadAs value bytes → (count : ℕ) → derived_of r ≡ answered count
+      → Certificate bytes node layer set count after
+  pub most : (count : ℕ) → derived_of r ≡ answered count → count ≤ most_steps

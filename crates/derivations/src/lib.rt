@@ -9,12 +9,12 @@ ghost use Rattle.std.specs.Prelude.{◌≡◌, true, false, List, ℕ, ◌*◌, 
 ghost use Rattle.rules.specs.Records as Records;
 ghost use Rattle.rules.specs.Records.{most_sets};
 ghost use Rattle.rules.specs.Checks.{answered};
-ghost use Rattle.netlists.specs.Netlists.{flat_of};
+ghost use Rattle.netlists.specs.Netlists.{flat_of, Formed};
 ghost use Rattle.derivation_rules.specs.Derivations.{step_size, derivation, explained, claim, layer_of, in_family};
 ghost use Rattle.derivation_rules.specs.Derivations.{most_steps, fitting, steps_reply, steps_after, Certificate};
 ghost use Rattle.derivation_steps.specs.Meaning.{layer_meant, claim_of, way_of};
 ghost use Rattle.derivations.specs.Meaning.{derived_of};
-ghost use Rattle.derivations.specs.Written.{Known, Held, HeldEach, Written, derivable_in, Told, ReadAs};
+ghost use Rattle.derivations.specs.Written.{Known, Held, HeldEach, Written, derivable_in, Told, ReadAs, Derives};
 
 use derivation_steps::{Claim, Layer, STEP, Way};
 use netlists::Netlist;
@@ -148,6 +148,23 @@ pub fn derive_held(
     Ok(count)
 }
 
+// What `derive` does once the netlist is read: its families go into work bytes of this function's own. A function apart,
+// since behind the `?` in `derive` the work bytes are cleared twice, and a short query takes a third longer.
+fn derive_read(
+    netlist: Netlist,
+    node: usize,
+    layer: usize,
+    set: usize,
+    steps: &mut [u8],
+) -> Result<usize, Refusal>
+    requires { Formed netlist }
+    ensures { Derives netlist node layer set steps.old steps.new result }
+{
+    let mut work = [0u8; MOST_WORK];
+    nodes::all_families(netlist, &mut work);
+    derive_held(netlist, &work, node, layer, set, steps)
+}
+
 // Writes the derivation of a set in the family of a node in a layer, 0 for settled signals and 1 for glitching ones,
 // to the front of `steps`, five bytes a step. Replies with the number of steps; a refusal leaves the slice as it was.
 // `MOST_BYTES` bytes are enough for every derivation that is not refused. No family is worked out
@@ -167,7 +184,5 @@ pub fn derive(
     ensures most { (count : ℕ) → derived_of result ≡ answered count → count ≤ most_steps }
 {
     let netlist = query_netlists::ask_with(bytes, node, set)?;
-    let mut work = [0u8; MOST_WORK];
-    nodes::all_families(netlist, &mut work);
-    derive_held(netlist, &work, node, layer, set, steps)
+    derive_read(netlist, node, layer, set, steps)
 }

@@ -35,24 +35,24 @@ by_number number own not xor spread kept =
     cond (eqb number 2) own (cond (eqb number 3) not (cond (eqb number 4) xor (cond (eqb number 7) kept spread)))
 
 module _ (Fs : List Families) (ℓ : Layer) (A : ℕ) where
-  abbrev byRecord : Node → Way
-  byRecord node =
+  abbrev of_record : Node → Way
+  of_record node =
       by_number node.kind (way 1 []) (chosen Fs ℓ (gate NOT (node.first, tt)) A)
       (chosen Fs ℓ (gate XOR (node.first, (node.second, tt))) A)
       (first_made Fs ℓ (node.first ∷ node.second ∷ []) spreading A) (way 2 (claim node.first settled A ∷ []))
 
-  by-kind : (cell : Cell) → byRecord (entry cell) ≡ chosen Fs ℓ cell A
+  of_cell : (cell : Cell) → of_record (entry cell) ≡ chosen Fs ℓ cell A
   unfolding kind_of listed operands entry rules_of layer_below picked needed first_made chosen
-  by-kind (input s) = refl
-  by-kind (gate NOT (a, ops)) = refl
-  by-kind (gate XOR (a, (b, ops))) = refl
-  by-kind (gate AND (a, (b, ops))) = refl
-  by-kind (gate OR (a, (b, ops))) = refl
-  by-kind (gate register (a, ops)) = refl
+  of_cell (input s) = refl
+  of_cell (gate NOT (a, ops)) = refl
+  of_cell (gate XOR (a, (b, ops))) = refl
+  of_cell (gate AND (a, (b, ops))) = refl
+  of_cell (gate OR (a, (b, ops))) = refl
+  of_cell (gate register (a, ops)) = refl
 
   -- the way of the node of a record, by the record's kind
-  by_record : (node : Node) (w : Way) → w ≡ byRecord node → (cell : Cell) → node ≡ entry cell → w ≡ chosen Fs ℓ cell A
-  by_record node w e cell is = e ∙ ap byRecord is ∙ by-kind cell
+  from_record : (node : Node) (w : Way) → w ≡ of_record node → (cell : Cell) → node ≡ entry cell → w ≡ chosen Fs ℓ cell A
+  from_record node w e cell is = e ∙ ap of_record is ∙ of_cell cell
 
 -- AND, OR, and what is no node's, are tried by all rules
 all_rules : {A : Type 0} {kind : Kind} (own not xor spread kept : A) → (kind ≡ And) ⊎ ((kind ≡ Or) ⊎ ((kind ≡ End) ⊎ (kind ≡ Variable)))
@@ -77,7 +77,7 @@ invariant_of-gate-in-And c = record { in_range = in_range _ c.requires }
 pub returns-in_default : goal.returns-in_default
 returns-in_default c =
     let (_, over) = c.in_default.ensures in
-    by_record _ _ _ _ _
+    from_record _ _ _ _ _
     (rw (
       ne_eqb c.args.node.kind 2 (λ kind. omega arith),
       ne_eqb c.args.node.kind 3 (λ kind. omega arith),
@@ -86,17 +86,17 @@ returns-in_default c =
     ) c.spread.ensures)
 
 pub returns-in-Input : goal.returns-in-Input
-returns-in-Input c = by_record _ _ _ _ _ (rw (← c.in-Ok.ensures, c.in-Input.is))
+returns-in-Input c = from_record _ _ _ _ _ (rw (← c.in-Ok.ensures, c.in-Input.is))
 
 pub returns-in-Not : goal.returns-in-Not
-returns-in-Not c = by_record _ _ _ _ _ (rw (← c.in-Ok.ensures, c.in-Not.is) c.way_of_not.ensures)
+returns-in-Not c = from_record _ _ _ _ _ (rw (← c.in-Ok.ensures, c.in-Not.is) c.way_of_not.ensures)
 
 pub returns-in-Xor : goal.returns-in-Xor
-returns-in-Xor c = by_record _ _ _ _ _ (rw (← c.in-Ok.ensures, c.in-Xor.is) c.xor.ensures)
+returns-in-Xor c = from_record _ _ _ _ _ (rw (← c.in-Ok.ensures, c.in-Xor.is) c.xor.ensures)
 
 pub returns-in-Register : goal.returns-in-Register
-returns-in-Register c = by_record _ _ _ _ _ (rw (← c.in-Ok.ensures, c.in-Register.is))
+returns-in-Register c = from_record _ _ _ _ _ (rw (← c.in-Ok.ensures, c.in-Register.is))
 
 pub returns-in-And : goal.returns-in-And
 returns-in-And c =
-    by_record _ _ _ _ _ (rw (← c.in-Ok.ensures) (c.spread-in-And.ensures ∙ all_rules _ _ _ _ _ c.in-And.is))
+    from_record _ _ _ _ _ (rw (← c.in-Ok.ensures) (c.spread-in-And.ensures ∙ all_rules _ _ _ _ _ c.in-And.is))
