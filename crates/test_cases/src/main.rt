@@ -56,7 +56,7 @@ use test_tools::{
     print, print_answer, print_byte, print_counts, print_number, print_refusal, print_reply,
     same_record,
 };
-use test_trial::{Seen, SeenEdit, SeenPairs};
+use test_trial::{Seen, SeenEdit};
 
 // Standard input's and standard output's descriptors.
 const STDIN: i32 = 0;
@@ -334,7 +334,7 @@ fn check_pairs(bytes: &[u8], limit: usize, entries: usize, room: usize)
     let work = &mut most[..room];
     test_trial::fill(work);
     let before = [test_trial::entry_before(); MOST_NODES];
-    let SeenPairs { reply, nodes } = test_trial::check_pairs_over(
+    let Seen { reply, nodes } = test_trial::check_pairs_over(
         limit, bytes, entries, before, work,
     );
     print_pairs(reply);

@@ -157,7 +157,7 @@ fn try_node(tally: &mut Tally, seed: u32, second: &Second, work: &Work, node: us
 // Tries clusters round all gates and registers of a block. Gives the generator's state after them.
 pub(crate) fn clusters(tally: &mut Tally, seed: u32, bytes: &[u8], second: &Second) -> u32 {
     let mut work = [0u8; 51200];
-    checker::examine(bytes, 200, &mut work);
+    let _ = checker::examine(bytes, 200, &mut work);
     count(tally, 0, 1);
     let mut state = seed;
     for (i, node) in second.block.nodes().iter().enumerate() {

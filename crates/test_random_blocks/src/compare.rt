@@ -14,7 +14,7 @@ use test_expected::{
 use test_generator::next;
 use test_second_checker::{Kind, Pair, Second};
 use test_tools::{Tally, count, count_if, raise};
-use test_trial::{Seen, SeenPairs};
+use test_trial::Seen;
 
 // The blocks, the checks answered, and behind them those refused with 1 to 11.
 const BLOCKS: usize = 0;
@@ -134,7 +134,7 @@ fn check_two(
     work: &mut [u8],
 ) -> bool {
     let before = [test_trial::entry_before(); 200];
-    let SeenPairs { reply, nodes } = test_trial::check_pairs_over(
+    let Seen { reply, nodes } = test_trial::check_pairs_over(
         sought.limit,
         bytes,
         lent.entries,

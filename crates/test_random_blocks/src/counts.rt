@@ -29,12 +29,9 @@ fn patterns_of(bytes: &[u8], node: usize) -> Patterns {
 // The lowest node that the glitch half names, unless it is clear.
 fn suspect_node(bytes: &[u8]) -> Result<Option<usize>, Refusal> {
     let mut work = [0u8; 51200];
-    match checker::examine(bytes, 200, &mut work).reply {
-        Err(refusal) => Err(refusal),
-        Ok(answer) => match answer.glitch {
-            Half::Clear => Ok(None),
-            Half::Suspect(node, _) => Ok(Some(node)),
-        },
+    match checker::examine(bytes, 200, &mut work)?.answer.glitch {
+        Half::Clear => Ok(None),
+        Half::Suspect(node, _) => Ok(Some(node)),
     }
 }
 
@@ -72,10 +69,7 @@ pub(crate) fn nodes(tally: &mut Tally, seed: u32, bytes: &[u8], second: &Second)
 // The search of a block over all its pairs.
 fn search_of(bytes: &[u8]) -> Result<Search, Refusal> {
     let mut work = [0u8; 51200];
-    match pairs::examine_pairs(bytes, 200, &mut work, usize::MAX).reply {
-        Err(refusal) => Err(refusal),
-        Ok(both) => Ok(both.search),
-    }
+    Ok(pairs::examine_pairs(bytes, 200, &mut work, usize::MAX)?.search)
 }
 
 // Counts the pairs of tested nodes of a block, in the order of the names that are printed. A refusal or a spent limit,

@@ -379,10 +379,10 @@ fn count_ways(tally: &mut Tally, case: Case<'_>, claim: Claim) {
 // ---- every set of every node
 
 // A reply: the number of steps, or the refusal.
-type Result<Answer, Refusal> = Result<usize, Fault>;
+type Reply = Result<usize, Fault>;
 
 // Asks for the derivation of a claim in a slice.
-fn ask(bytes: &[u8], claim: Claim, slice: &mut [u8]) -> Result<Answer, Refusal> {
+fn ask(bytes: &[u8], claim: Claim, slice: &mut [u8]) -> Reply {
     match derivations::derive(bytes, claim.node, claim.layer, claim.set, slice) {
         Err(refusal) => Err(Fault {
             number: refusals::number_of(refusal),
@@ -393,7 +393,7 @@ fn ask(bytes: &[u8], claim: Claim, slice: &mut [u8]) -> Result<Answer, Refusal> 
 }
 
 // The reply to a claim whose derivation has so many steps, or none where it is not true, in a slice of so many bytes.
-fn expected_reply(claim: Claim, steps: Option<usize>, bytes: usize) -> Result<Answer, Refusal> {
+fn expected_reply(claim: Claim, steps: Option<usize>, bytes: usize) -> Reply {
     let fits = (bytes / 5).min(MOST);
     match steps {
         None => Err(Fault {
