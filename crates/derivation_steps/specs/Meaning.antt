@@ -1,15 +1,14 @@
 -- What the types of this crate mean: a layer, a claim, and a rule with what it needs; the sets that work in rule 6;
 -- and which numbers can be looked up. Cited by the contracts. Assumes nothing.
-use Rattle.std.specs.Prelude.{ℕ, ◌≤◌, ◌<◌, ◌≡◌, Bool, ◌&&◌, List, [], ◌∷◌, length, Result, MatchResult}
+use Rattle.std.specs.Prelude.{ℕ, ◌≤◌, ◌<◌, Bool, ◌&&◌, List, [], ◌∷◌, length}
 use Rattle.std.specs.Int.Bits.{bit_xor}
 use Rattle.rules.specs.Records.{most_nodes, most_sets}
 use Rattle.rules.specs.Checks.{most_work}
 use Rattle.nodes.specs.Work.{so_far}
 use Rattle.derivation_rules.specs.Derivations as R
 use Rattle.derivation_rules.specs.Derivations.{settled, glitch, claim, claimed, way}
-use Rattle.derivation_steps.specs.declared.Layer.{Layer}
-use Rattle.derivation_steps.specs.declared.Layer.TheVariants.{Settled, Glitch}
-use Rattle.derivation_steps.specs.declared.NoLayer.{NoLayer}
+use Rattle.families.specs.declared.Layer.{Layer}
+use Rattle.families.specs.declared.Layer.TheVariants.{Settled, Glitch}
 use Rattle.derivation_steps.specs.declared.Claim.{Claim}
 use Rattle.derivation_steps.specs.declared.Way.{Way}
 use Rattle.derivation_steps.specs.declared.Way.TheVariants.{Own, Operand, Empty, First, Second, Both}
@@ -17,10 +16,6 @@ use Rattle.derivation_steps.specs.declared.Way.TheVariants.{Own, Operand, Empty,
 abbrev pub layer_meant : Layer → R.Layer
 layer_meant Settled = settled
 layer_meant Glitch = glitch
-
--- the layer of a number, where there is one: 0 or 1
-abbrev pub Numbered : ℕ → Result Layer NoLayer → Type 0
-Numbered number result = MatchResult result (λ layer. (number < 2) × (layer_meant layer ≡ R.layer_of number)) (λ _. 2 ≤ number)
 
 abbrev pub claim_of : Claim → R.Claim
 claim_of c = claim c.node (layer_meant c.layer) c.set

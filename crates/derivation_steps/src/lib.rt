@@ -12,39 +12,14 @@ ghost use Rattle.listing_lines.specs.Text.{Appended};
 ghost use Rattle.nodes.specs.Work.{so_far};
 ghost use Rattle.derivation_rules.specs.Derivations.{step, step_bytes, step_size, spreading, claim, claimed};
 ghost use Rattle.derivation_rules.specs.Derivations.{way, needed, first_made, chosen};
-ghost use Rattle.derivation_steps.specs.Meaning.{layer_meant, claim_of, way_of, Numbered, works_of, InRange};
+ghost use Rattle.derivation_steps.specs.Meaning.{layer_meant, claim_of, way_of, works_of, InRange};
 
-use families::SETS;
+use families::{Layer, SETS};
 use netlists::Kind;
 use rules::Node;
 
 // How many bytes a step has.
 pub const STEP: usize = 5;
-
-// The layer of settled signals, and that of glitching ones, by their numbers.
-#[derive(Clone, Copy, PartialEq, Eq)]
-pub enum Layer {
-    Settled = 0,
-    Glitch = 1,
-}
-
-// No layer has the number.
-#[derive(Clone, Copy, PartialEq, Eq)]
-pub struct NoLayer;
-
-impl TryFrom<usize> for Layer {
-    type Error = NoLayer;
-
-    ghost try_from_gives = { Numbered };
-
-    fn try_from(number: usize) -> Result<Self, NoLayer> {
-        match number {
-            0 => Ok(Layer::Settled),
-            1 => Ok(Layer::Glitch),
-            _ => Err(NoLayer),
-        }
-    }
-}
 
 // The claim that a set is in a node's family in a layer.
 #[derive(Clone, Copy)]
@@ -92,7 +67,7 @@ pub fn has(work: &[u8], claim: Claim) -> bool
     requires { (most_work ≤ length work.now) × (claim.node < most_nodes) × (claim.set < most_sets) }
     ensures { result ≡ claimed (so_far work.now most_nodes) (claim_of claim) }
 {
-    families::holds(work, 2 * claim.node + claim.layer as usize, claim.set)
+    families::holds(work, claim.layer.part(claim.node), claim.set)
 }
 
 // A gate of two operands, the layer of their families, a set of the gate, and work bytes that hold the families.

@@ -16,7 +16,8 @@ ghost use Rattle.derivation_steps.specs.Meaning.{layer_meant, claim_of, way_of};
 ghost use Rattle.derivations.specs.Meaning.{derived_of};
 ghost use Rattle.derivations.specs.Written.{Known, Held, HeldEach, Written, derivable_in, Told, ReadAs, Derives};
 
-use derivation_steps::{Claim, Layer, STEP, Way};
+use derivation_steps::{Claim, STEP, Way};
+use families::Layer;
 use netlists::Netlist;
 use rules::{MOST_WORK, Reason, Refusal};
 

@@ -10,4 +10,4 @@ pub returns : goal.returns
 unfolding claimed
 returns c =
     let a = c.args in
-    rw layer_as at c.holds.ensures ∙ ap (member _) (sym (part_of a.work.now a.claim.node (layer_meant a.claim.layer) c.requires.1))
+    rw (c.part.ensures.at, layer_as) at c.holds.ensures ∙ ap (member _) (sym (part_of a.work.now a.claim.node (layer_meant a.claim.layer) c.requires.1))

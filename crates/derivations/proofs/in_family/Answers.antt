@@ -6,6 +6,7 @@ use Rattle.netlists.proofs.Netlists.{few_nodes}
 use Rattle.derivation_rules.specs.Derivations as D
 use Rattle.derivation_rules.specs.Derivations.{claim, in_family}
 use Rattle.derivation_steps.specs.Meaning.{claim_of}
+use Rattle.derivation_steps.proofs.Claims.{layer_read}
 use Rattle.derivation_steps.specs.declared.Claim.{Claim}
 use Rattle.derivations.proofs.Known.{by_bytes}
 use Rattle.derivations.proofs.in_family.Goals as goal
@@ -33,7 +34,7 @@ unfolding in_family
 returns c =
     let (known, there, _) = c.requires in
     let a = c.args in
-    let (low, same) = c.in-Ok.ensures in
+    let (low, same) = layer_read _ _ c.in-Ok.ensures in
     λ n e.
     kept _ c.then_some.ensures (rw (lt-ltb _ _ low, ← same) (c.has.ensures ∙ by_bytes known _ there n e))
     (ap (λ (ℓ : D.Layer). claim a.node ℓ a.set) same)
