@@ -18,14 +18,14 @@ pub fn node_of(netlist: Netlist, i: usize) -> Node
     }
 }
 
-// The name of a kind.
-pub fn say_kind(kind: u8) {
-    say(listing_lines::name_of(kind));
+// The name of a node's kind.
+pub fn say_kind(node: Node) {
+    say(listing_lines::name_of(node.kind));
 }
 
 // Prints a node in words: its kind and its operands.
 pub fn say_node(node: Node) {
-    say_kind(node.kind);
+    say_kind(node);
     let operands = netlists::operands_of(node);
     for operand in &operands.at[..operands.count] {
         say_field(usize::from(*operand));

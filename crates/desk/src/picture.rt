@@ -8,7 +8,7 @@ use crate::say::{say, say_number, say_set};
 use crate::steps::step_at;
 use derivations::MOST_BYTES;
 use marks::Marks;
-use netlists::Netlist;
+use netlists::{Kind, Netlist};
 use rules::{Answer, Half, MOST_NODES, MOST_WORK, Node, Refusal};
 
 // By which operands of each node a derivation goes: a number with a bit for each operand, the lowest for the first.
@@ -16,7 +16,7 @@ type Path = [u8; MOST_NODES];
 
 // ---- the path of a derivation
 
-// The operands that a rule goes by.
+// The operands that a rule goes by. The rule is a number, as it stands in a step's bytes (request A5).
 fn chosen_by(rule: u8) -> u8 {
     match rule {
         2 | 4 => 1,
@@ -64,6 +64,11 @@ fn say_no_path(refusal: Refusal) {
 
 // ---- nodes and their operands
 
+// Whether a node is of this kind.
+fn is_of(node: Node, kind: Kind) -> bool {
+    node.kind == kind.byte()
+}
+
 // A node's name in the graph.
 fn say_name(i: usize) {
     say(b"n");
@@ -71,10 +76,10 @@ fn say_name(i: usize) {
 }
 
 // What tells inputs, gates and registers apart.
-fn say_shape(kind: u8) {
-    match kind {
-        2 => say(b" [shape=box style=filled fillcolor=gray92"),
-        7 => say(b" [shape=box peripheries=2"),
+fn say_shape(node: Node) {
+    match Kind::try_from(node.kind) {
+        Ok(Kind::Input) => say(b" [shape=box style=filled fillcolor=gray92"),
+        Ok(Kind::Register) => say(b" [shape=box peripheries=2"),
         _ => say(b" [shape=ellipse"),
     }
 }
@@ -93,12 +98,12 @@ fn say_mark(netlist: Netlist, layer: &[u8], mark: u16) {
 fn say_node_line(netlist: Netlist, i: usize, node: Node, settled: u16, glitch: u16) {
     say(b"    ");
     say_name(i);
-    say_shape(node.kind);
+    say_shape(node);
     say(b" label=\"");
     say_number(i);
     say(b" ");
-    say_kind(node.kind);
-    if node.kind == 2 {
+    say_kind(node);
+    if is_of(node, Kind::Input) {
         say(b"\\n");
         say_set(netlist.classes, usize::from(node.set));
     }
@@ -154,7 +159,7 @@ fn stage_of(node: Node, stages: &Stages) -> usize {
             stage = stage.max(*lower);
         }
     }
-    if node.kind == 7 {
+    if is_of(node, Kind::Register) {
         stage.wrapping_add(1)
     } else {
         stage
@@ -171,17 +176,17 @@ fn stages_of(netlist: Netlist) -> Stages {
 }
 
 // Whether a node stands in the rank of this kind and stage: inputs in that of stage 0, a stage's registers in its own.
-fn in_rank(netlist: Netlist, stages: &Stages, i: usize, kind: u8, stage: usize) -> bool {
-    i < netlist.count.min(MOST_NODES) && netlist.nodes[i].kind == kind && stages[i] == stage
+fn in_rank(netlist: Netlist, stages: &Stages, i: usize, kind: Kind, stage: usize) -> bool {
+    i < netlist.count.min(MOST_NODES) && is_of(netlist.nodes[i], kind) && stages[i] == stage
 }
 
 // Whether any node stands in a rank.
-fn any_in_rank(netlist: Netlist, stages: &Stages, kind: u8, stage: usize) -> bool {
+fn any_in_rank(netlist: Netlist, stages: &Stages, kind: Kind, stage: usize) -> bool {
     (0..MOST_NODES).any(|i| in_rank(netlist, stages, i, kind, stage))
 }
 
 // The nodes of a rank, and its end.
-fn say_rank(netlist: Netlist, stages: &Stages, kind: u8, stage: usize) {
+fn say_rank(netlist: Netlist, stages: &Stages, kind: Kind, stage: usize) {
     for i in 0..MOST_NODES {
         if in_rank(netlist, stages, i, kind, stage) {
             say(b" ");
@@ -194,20 +199,20 @@ fn say_rank(netlist: Netlist, stages: &Stages, kind: u8, stage: usize) {
 // A line for each stage that has registers.
 fn say_register_ranks(netlist: Netlist, stages: &Stages) {
     for stage in 1..=MOST_NODES {
-        if !any_in_rank(netlist, stages, 7, stage) {
+        if !any_in_rank(netlist, stages, Kind::Register, stage) {
             break;
         }
         say(b"    { rank=same");
-        say_rank(netlist, stages, 7, stage);
+        say_rank(netlist, stages, Kind::Register, stage);
     }
 }
 
 // The ranks: one of the inputs, and one of each stage's registers.
 fn say_ranks(netlist: Netlist) {
     let stages = stages_of(netlist);
-    if any_in_rank(netlist, &stages, 2, 0) {
+    if any_in_rank(netlist, &stages, Kind::Input, 0) {
         say(b"    { rank=source");
-        say_rank(netlist, &stages, 2, 0);
+        say_rank(netlist, &stages, Kind::Input, 0);
     }
     say_register_ranks(netlist, &stages);
 }

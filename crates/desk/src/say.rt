@@ -5,6 +5,7 @@ ghost use Rattle.std.specs.Fn.{FnOnceReturnsAtMut};
 ghost use Rattle.rules.specs.Listing.{most_text};
 
 use desk_text::ROOM;
+use netlists::Class;
 use read_words::Fault;
 use rules::{Answer, Half, MOST_VARIABLES, Reason, Refusal};
 
@@ -141,11 +142,11 @@ pub fn say_refused_node(refusal: Refusal) {
 
 // ---- sets, for people
 
-// The letter of a class: of secrets, masks and publics.
+// The letter of a class, by its byte: of secrets, masks and publics.
 fn say_class(class: u8) {
-    match class {
-        0 => say(b"s"),
-        1 => say(b"m"),
+    match Class::try_from(class) {
+        Ok(Class::Secret) => say(b"s"),
+        Ok(Class::Mask) => say(b"m"),
         _ => say(b"p"),
     }
 }

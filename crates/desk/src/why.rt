@@ -66,7 +66,8 @@ fn indent(depth: usize) {
     }
 }
 
-// The layer's name, 0 for settled signals, between a comma and a colon.
+// The layer's name, 0 for settled signals, between a comma and a colon; layer and rule are numbers, as they stand in a
+// step's bytes (request A5).
 fn say_layer(layer: u8) {
     if layer == 0 {
         say(b", settled: ");

@@ -15,7 +15,7 @@ ghost use Rattle.edit_rules.specs.Meaning.{IsOpen};
 
 use edit_rules::State;
 use listing_lines::{put_byte, put_word};
-use netlists::Netlist;
+use netlists::{Kind, Netlist};
 use rules::{MOST_BODY, MOST_NODES, MOST_VARIABLES, Node, NodeRecord};
 
 // At most 10 variable records of two bytes, 200 node records, each a kind byte and a body, and the end.
@@ -31,7 +31,7 @@ fn put_node(out: &mut [u8], at: usize, node: Node) -> usize
     ensures few { result ≤ at + most_record }
 {
     let end = put_byte(out, at, node.kind);
-    if node.kind == 2 {
+    if node.kind == Kind::Input.byte() {
         return put_word(out, end, &node.set.to_le_bytes());
     }
     let operands = netlists::operands_of(node);

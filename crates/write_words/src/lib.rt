@@ -6,7 +6,7 @@
 
 ghost use Rattle.std.specs.Prelude.{◌≡◌, ◌⊎◌, List, ◌++◌, map, ℕ, ◌+◌, ◌*◌, ◌≤◌, length, drop};
 ghost use Rattle.rules.specs.Records as Records;
-ghost use Rattle.rules.specs.Records.{Class, Cell, WellFormed, class_byte, most_variables, most_nodes, most_body};
+ghost use Rattle.rules.specs.Records.{Cell, WellFormed, class_byte, most_variables, most_nodes, most_body};
 ghost use Rattle.rules.specs.Slices.{entry};
 ghost use Rattle.listing_lines.specs.Text.{Room, Appended};
 ghost use Rattle.netlists.specs.Netlists.{flat_of};
@@ -17,7 +17,7 @@ ghost use Rattle.write_words.specs.Worded.{most_variable_line, most_numbers, mos
 
 use edit_rules::State;
 use listing_lines::{name_of, put_byte, put_field, put_word};
-use netlists::Netlist;
+use netlists::{Class, Kind, Netlist};
 use read_words::RecordForm;
 use rules::{MOST_NODES, MOST_VARIABLES, Node, NodeRecord};
 
@@ -29,19 +29,22 @@ pub const MOST_WORDS: usize = 7 * MOST_VARIABLES + 23 * MOST_NODES + 4;
 
 // The form of a variable, by its class byte.
 fn form_of(class: u8) -> RecordForm
-    ensures { (c : Class) → class ≡ class_byte c → word_in (form_by result) ≡ class_name c }
+    ensures { (c : Records.Class) → class ≡ class_byte c → word_in (form_by result) ≡ class_name c }
 {
-    match class {
-        0 => RecordForm::Secret,
-        1 => RecordForm::Mask,
-        _ => RecordForm::Public,
+    let Ok(named) = Class::try_from(class) else {
+        return RecordForm::Public;
+    };
+    match named {
+        Class::Secret => RecordForm::Secret,
+        Class::Mask => RecordForm::Mask,
+        Class::Public => RecordForm::Public,
     }
 }
 
 // A variable, by its class byte.
 fn put_class(text: &mut [u8], at: usize, class: u8) -> usize
     requires { Room text.old at most_variable_line }
-    ensures appended { (c : Class) → class ≡ class_byte c →
+    ensures appended { (c : Records.Class) → class ≡ class_byte c →
         Appended text.old text.new at result (record_line (Records.variable c)) }
     ensures few { result ≤ at + most_variable_line }
 {
@@ -71,7 +74,7 @@ fn put_numbers(text: &mut [u8], at: usize, node: Node) -> usize
         Appended text.old text.new at result (fields (numbers_of cell)) }
     ensures few { (result ≤ at + most_numbers) × ((node.kind ≡ 2) ⊎ (result ≤ at + 4 * most_body)) }
 {
-    if node.kind == 2 {
+    if node.kind == Kind::Input.byte() {
         return put_set(text, at, node.set);
     }
     let operands = netlists::operands_of(node);

@@ -34,15 +34,15 @@ module _ {n : Node} (cell : Cell) (e : n ≡ entry cell) where
   unfolding entry record_bytes padded
   of_gate other count ops many all = rw (all, take_at (operands cell) _ count (sym many), e, body_operands cell (rw e at other))
 
-pub returns-then-node-eq2-clause-appended : goal.returns-then-node-eq2-clause-appended
-returns-then-node-eq2-clause-appended c = λ cell e.
+pub returns-then-node-byte-clause-appended : goal.returns-then-node-byte-clause-appended
+returns-then-node-byte-clause-appended c = λ cell e.
     let high : c.args.node.set / 256 % 256 ≡ c.args.node.set / 256 = omega arith in
-    appended_as (of_input cell e c.if-node-eq2.true)
+    appended_as (of_input cell e (c.if-node-byte.true ∙ c.byte.ensures))
     (appended_more c.put_byte-end.ensures (appended_as (c.to_le_bytes.ensures ∙ rw high) c.put_word.ensures))
 
 pub returns-clause-appended : goal.returns-clause-appended
 returns-clause-appended c = λ cell e.
     let own = c.operands_of-operands in
     let (many, ops) = own.ensures.count_value cell e in
-    appended_as (of_gate cell e c.if-node-eq2.false own.result.count own.result.at many ops)
+    appended_as (of_gate cell e (λ two. c.if-node-byte.false (two ∙ sym c.byte.ensures)) own.result.count own.result.at many ops)
     (appended_more c.put_byte-end.ensures c.put_word-2.ensures)

@@ -42,9 +42,9 @@ module _ {n : Node} (cell : Cell) (e : n ≡ entry cell) where
   unfolding entry padded
   of_gate other count ops many all = rw (all, take_at (operands cell) _ count (sym many)) (numbers_operands cell (rw e at other))
 
-pub returns-then-node-eq2-clause-appended : goal.returns-then-node-eq2-clause-appended
-returns-then-node-eq2-clause-appended c =
-    let two = c.if-node-eq2.true in
+pub returns-then-node-byte-clause-appended : goal.returns-then-node-byte-clause-appended
+returns-then-node-byte-clause-appended c =
+    let two = (c.if-node-byte.true ∙ c.byte.ensures) in
     λ cell e. appended_as (ap fields (of_input cell e two)) c.put_set.ensures.appended
 
 pub loop-operand-init : goal.loop-operand-init
@@ -81,7 +81,7 @@ returns-clause-appended c = λ cell e.
     let own = c.operands_of-operands in
     let (many, ops) = own.ensures.count_value cell e in
     appended_as
-    (ap fields (take_all c.loop-operand.operand-index _ (omega arith) ∙ of_gate cell e c.if-node-eq2.false own.result.count own.result.at many ops))
+    (ap fields (take_all c.loop-operand.operand-index _ (omega arith) ∙ of_gate cell e (λ two. c.if-node-byte.false (two ∙ sym c.byte.ensures)) own.result.count own.result.at many ops))
     c.loop-operand.invariant.2
 
 pub returns-clause-few : goal.returns-clause-few
