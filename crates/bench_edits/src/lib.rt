@@ -5,20 +5,10 @@
 ghost use Rattle.std.specs.Prelude.{◌≤◌};
 
 use edit_rules::Edit;
-use rules::{MOST_NODES, MOST_WORK, Answer, Refusal};
+use rules::{MOST_NODES, MOST_WORK};
 
 // The most times that one call makes its edits.
 const MOST_TURNS: usize = 65536;
-
-// 1 for an answer and 0 for a refusal.
-fn one_if_answered(reply: Result<Answer, Refusal>) -> usize
-    ensures { result ≤ 1 }
-{
-    match reply {
-        Err(_) => 0,
-        Ok(_) => 1,
-    }
-}
 
 // Opens a block, and then removes one of its nodes and adds a new one at the end, `times` times or `MOST_TURNS`.
 // Returns how many of these edits were answered. With `times` 0 it is a fresh check alone.
@@ -55,7 +45,7 @@ pub extern "C" fn telgouin_edits(bytes: &[u8], added: &[u8], node: usize, times:
         );
         state = more.edited.state;
         nodes = more.nodes;
-        answered += one_if_answered(less.edited.reply) + one_if_answered(more.edited.reply);
+        answered += less.edited.reply.is_ok() as usize + more.edited.reply.is_ok() as usize;
     }
     answered
 }
@@ -89,7 +79,7 @@ pub extern "C" fn telgouin_edit_again(bytes: &[u8], added: &[u8], times: usize) 
     let mut answered = 0;
     for turn in 0..times.min(MOST_TURNS) {
         let seen = test_trial::edit_over(state, edit, added, MOST_NODES, opened.nodes, &mut work);
-        answered += one_if_answered(seen.edited.reply);
+        answered += seen.edited.reply.is_ok() as usize;
     }
     answered
 }

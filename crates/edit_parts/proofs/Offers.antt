@@ -89,13 +89,16 @@ module _ (total v n k : ℕ) (body : List ℕ) where
         go : ((0 < total) × (2 ≤ k)) ⊎ (total ≤ 0) → (last_kind < k) ⊎ (k ≤ last_kind) → Next
         go (inr nothing) kind = none_next nothing
         go (inl (some, above)) (inl beyond) = beyond_next some beyond
-        go (inl (some, above)) (inr known) = let (cell, says) = says_node k body above known in node_next some above known cell says
+        go (inl (some, above)) (inr known) =
+            let (cell, says) = says_node k body above known in node_next some above known cell says
 
     -- a refusal that is told is the offer's
-    pub refused_next : {A : Type 0} (f : Cell → Outcome A) (refusal : Refusal) → refused (number_of refusal) (place_of refusal) ≡ accepted_if judged_next
+    pub refused_next : {A : Type 0} (f : Cell → Outcome A) (refusal : Refusal)
+        → refused (number_of refusal) (place_of refusal) ≡ accepted_if judged_next
         → refused (number_of refusal) (place_of refusal) ≡ and_then (judged_node total v n k body) f
     unfolding accepted_if and_then
-    refused_next f refusal tells = rw (judged_next_lem, query_refused {told = Err refusal} judged_next refusal tells refl)
+    refused_next f refusal tells =
+        rw (judged_next_lem, query_refused {told = Err refusal} judged_next refusal tells refl)
 
     accepted_next : (cell : Cell) → judged_next ≡ answered (node cell) → judged_node total v n k body ≡ judged (surplus (node cell)) cell
     unfolding and_then
@@ -105,7 +108,8 @@ module _ (total v n k : ℕ) (body : List ℕ) where
     pub found_next : answered tt ≡ accepted_if judged_next → FoundNext
     unfolding judged_record and_then
     found_next tells =
-        let accepted = (found_record (n + total) v n n k body own own (ap (λ (o : Outcome (Unit {0})). and_then o (λ _. answered own)) tells)).0 in
+        let told = ap (λ (o : Outcome (Unit {0})). and_then o (λ _. answered own)) tells in
+        let accepted = (found_record (n + total) v n n k body own own told).0 in
         let p = passes _ _ _ accepted in
         let known = ltb-false last_kind k (p 1) in
         let above = over met (leb-false (n + total) n (p 0)) in

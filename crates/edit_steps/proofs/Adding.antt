@@ -89,7 +89,8 @@ marked n cell rest e formed =
 -- what is told of the slices for one node more
 module _ (block : Value.Netlist) (marks : Marks) (e : Node) (entries : ℕ) (before : List ℕ) where
   -- they are too short
-  pub no_room : {r : Refusal} → JudgesSlices (block.count + 1) entries (length before) (Err r) → Adds block marks e entries (Err r) before before
+  pub no_room : {r : Refusal} → JudgesSlices (block.count + 1) entries (length before) (Err r)
+      → Adds block marks e entries (Err r) before before
   unfolding and_then
   no_room {r} fit = record {
     contained = contained_refused entries r before;
@@ -97,11 +98,13 @@ module _ (block : Value.Netlist) (marks : Marks) (e : Node) (entries : ℕ) (bef
     made = λ n cell formed same known its holds. examines n cell (value_count n same);
   }
     where
-      examines : (n : Netlist) (cell : Cell) → block.count ≡ length n.nodes → Examines (slices_fit entries (length before) (with_node n cell)) (Err r) before before
+      examines : (n : Netlist) (cell : Cell) → block.count ≡ length n.nodes
+          → Examines (slices_fit entries (length before) (with_node n cell)) (Err r) before before
       examines n cell same = short fit (with_node n cell) (one_more n cell same)
 
   -- they hold it: what is read from the marks with its own, which are found over the work bytes with its families
-  pub looked : (examined : Examined) (value : Value.Netlist) (longer : Marks) (after : List ℕ) → JudgesSlices (block.count + 1) entries (length before) (Ok tt)
+  pub looked : (examined : Examined) (value : Value.Netlist) (longer : Marks) (after : List ℕ)
+      → JudgesSlices (block.count + 1) entries (length before) (Ok tt)
       → block.count < most_nodes → value.count ≡ block.count + 1
       → ((n : Netlist) (cell : Cell) → block ≡ flat_of n → e ≡ entry cell → value ≡ flat_of (with_node n cell))
       → ((cell : Cell) → e ≡ entry cell → after ≡ with_families before block.count (families_rule (so_far before block.count) cell))
@@ -110,13 +113,15 @@ module _ (block : Value.Netlist) (marks : Marks) (e : Node) (entries : ℕ) (bef
       → ReadsMarks value longer examined → Adds block marks e entries (Ok examined) before after
   looked examined value longer after fit few more with_it written found looks =
       record {
-        contained = contained_looks entries value longer examined before after (omega (arith, (fit.room refl).0)) (omega arith) looks;
+        contained =
+            contained_looks entries value longer examined before after (omega (arith, (fit.room refl).0)) (omega arith) looks;
         early = λ n cell same k p refuses. cc (fits_it n cell same);
         made = λ n cell formed same known its holds.
             let is = with_it n cell same its in
             let work = written cell its ∙ added n cell before (value_count n same) formed holds in
             let own : longer ≡ marks_of (with_node n cell) = found (with_node n cell) is ∙ rw (known, work) (marked n cell _ (omega (arith, value_count n same)) formed) in
-            held entries before (with_node n cell) (fits_it n cell (value_count n same)) (answers value (with_node n cell) is longer own examined before work looks);
+            held entries before (with_node n cell) (fits_it n cell (value_count n same))
+            (answers value (with_node n cell) is longer own examined before work looks);
       }
     where
       fits_it : (n : Netlist) (cell : Cell) → block.count ≡ length n.nodes → slices_fit entries (length before) (with_node n cell) ≡ answered (with_node n cell)
@@ -144,7 +149,8 @@ module _ (block : Value.Netlist) (marks : Marks) (bytes : List ℕ) where
         (λ n formed same. rw (sym (by_state n same) ∙ offers_none (offered_to block bytes) _ _ offer))
 
     pub adds : (examined : Result Examined Refusal) (after : List ℕ) (e : Node) → OffersNode (offered_to block bytes) e
-        → Adds block marks e entries examined before after → Changes block marks (add bytes) entries examined before after
+        → Adds block marks e entries examined before after
+        → Changes block marks (add bytes) entries examined before after
     unfolding edited fits and_then
     adds examined after e o a =
         record {

@@ -40,13 +40,15 @@ state_variables n s = ap (λ (t : State). t.variables) s
 -- a refusal keeps nothing and changes nothing
 pub contained_refused : (entries : ℕ) (r : Refusal) (before : List ℕ) → Contained entries (Err r) before before
 contained_refused entries r before =
-    record { few_entries = omega (arith, value_count empty refl); few_nodes = omega (arith, value_count empty refl); unchanged = λ k p e. (refl, refl) }
+    let none = value_count empty refl in
+    record { few_entries = omega (arith, none); few_nodes = omega (arith, none); unchanged = λ k p e. (refl, refl) }
 
 -- and an answer is no refusal
 pub contained_looks : (entries : ℕ) (value : Value.Netlist) (marks : Marks) (examined : Examined) (before after : List ℕ)
-    → value.count ≤ entries → value.count ≤ most_nodes → ReadsMarks value marks examined → Contained entries (Ok examined) before after
+    → value.count ≤ entries → value.count ≤ most_nodes → ReadsMarks value marks examined
+    → Contained entries (Ok examined) before after
 contained_looks entries value marks examined before after few small l =
-    record { few_entries = rw l.netlist few; few_nodes = rw l.netlist small; unchanged = λ k p r. let z : ◌≡◌ {A = ℕ} 0 1 = cc in absurd (omega arith) }
+    record { few_entries = rw l.netlist few; few_nodes = rw l.netlist small; unchanged = λ k p r. cc }
 
 -- what is refused by the state and the lengths alone is refused
 pub edited_refused : (n : Netlist) (e : Edit) (entries work k p : ℕ) → fits n e entries work ≡ refused k p → edited n e entries work ≡ refused k p
@@ -64,5 +66,6 @@ refused_early block marks e entries r before says = record {
       let number : number_of r ≡ k = cc (says n formed s) in
       let place : place_of r ≡ p = cc (says n formed s) in
       rw (number, place);
-  made = λ n formed is known holds. rw (edited_refused n e entries (length before) _ _ (says n formed (value_state n is))) (refusal r before);
+  made = λ n formed is known holds.
+      rw (edited_refused n e entries (length before) _ _ (says n formed (value_state n is))) (refusal r before);
 }

@@ -49,7 +49,8 @@ module _ (block : Value.Netlist) (marks : Marks) (removed : ℕ) where
       → value.count + 1 ≡ block.count → ((n : Netlist) → WellFormed n → block ≡ flat_of n → value ≡ flat_of (without_node n removed))
       → ((settled glitch : List (Option ℕ)) → length settled ≡ block.count → length glitch ≡ block.count → marks ≡ marks_in settled glitch
       → fewer ≡ marks_in (without removed settled) (without removed glitch))
-      → after ≡ moved_down removed block.count before → ReadsMarks value fewer examined → RemovesUnused block marks removed (Ok examined) before after
+      → after ≡ moved_down removed block.count before → ReadsMarks value fewer examined
+      → RemovesUnused block marks removed (Ok examined) before after
   unfolding removed_if_unused judged
   removed_unused value fewer examined before after lowest there small room one_less is_without are-without moved l = record {
     contained = contained_looks block.count value fewer examined before after (omega arith) (omega arith) l;
@@ -83,8 +84,8 @@ module _ (count removed entries work : ℕ) (n : Netlist) (same : count ≡ leng
   by_slices there = rw (← same, lt-leb _ _ there)
 
 -- both slices hold the nodes, and the node is removed or still used
-pub removes : (block : Value.Netlist) (marks : Marks) (removed entries : ℕ) (examined : Result Examined Refusal) (before after : List ℕ) → removed < block.count
-    → JudgesSlices block.count entries (length before) (Ok tt) → RemovesUnused block marks removed examined before after
+pub removes : (block : Value.Netlist) (marks : Marks) (removed entries : ℕ) (examined : Result Examined Refusal)
+    (before after : List ℕ) → removed < block.count → JudgesSlices block.count entries (length before) (Ok tt) → RemovesUnused block marks removed examined before after
     → Changes block marks (remove removed) entries examined before after
 unfolding edited and_then
 removes block marks removed entries examined before after there slices given = record {
@@ -93,7 +94,7 @@ removes block marks removed entries examined before after there slices given = r
     few_nodes = given.contained.few_nodes;
     unchanged = given.contained.unchanged;
   };
-  early = λ n formed s k p f. let z : ◌≡◌ {A = ℕ} 0 1 = cc (fit n (state_count n s)) in absurd (omega arith);
+  early = λ n formed s k p f. cc (fit n (state_count n s));
   made = λ n formed is known holds. rw (fit n (value_count n is)) (given.made n formed is known holds);
 }
   where

@@ -31,10 +31,12 @@ pub record Limited (block : Value.Netlist) : Type 0 where
 pub record Contained (entries : ℕ) (examined : Result Examined Refusal) (before after : List ℕ) : Type 0 where
   pub few_entries : (kept_netlist examined).count ≤ entries
   pub few_nodes : (kept_netlist examined).count ≤ most_nodes
-  pub unchanged : (k p : ℕ) → replied examined ≡ refused k p → (kept_netlist examined ≡ flat_of empty) × (after ≡ before)
+  pub unchanged : (k p : ℕ) → replied examined ≡ refused k p
+      → (kept_netlist examined ≡ flat_of empty) × (after ≡ before)
 
 -- a node more, whose record is e
-pub record Adds (block : Value.Netlist) (marks : Marks) (e : Node) (entries : ℕ) (examined : Result Examined Refusal) (before after : List ℕ) : Type 0 where
+pub record Adds (block : Value.Netlist) (marks : Marks) (e : Node) (entries : ℕ) (examined : Result Examined Refusal)
+    (before after : List ℕ) : Type 0 where
   pub contained : Contained entries examined before after
   pub early : (n : Netlist) (cell : Cell) → block.count ≡ length n.nodes → (k p : ℕ)
       → slices_fit entries (length before) (with_node n cell) ≡ refused k p → replied examined ≡ refused k p
@@ -42,13 +44,15 @@ pub record Adds (block : Value.Netlist) (marks : Marks) (e : Node) (entries : �
       → Examines (slices_fit entries (length before) (with_node n cell)) examined before after
 
 -- a node less, in slices that hold the block
-pub record RemovesUnused (block : Value.Netlist) (marks : Marks) (removed : ℕ) (examined : Result Examined Refusal) (before after : List ℕ) : Type 0 where
+pub record RemovesUnused (block : Value.Netlist) (marks : Marks) (removed : ℕ) (examined : Result Examined Refusal)
+    (before after : List ℕ) : Type 0 where
   pub contained : Contained block.count examined before after
   pub made : (n : Netlist) → WellFormed n → block ≡ flat_of n → marks ≡ marks_of n → HoldsFamilies n before
       → Examines (removed_if_unused removed n) examined before after
 
 -- an edit
-pub record Changes (block : Value.Netlist) (marks : Marks) (e : Edit) (entries : ℕ) (examined : Result Examined Refusal) (before after : List ℕ) : Type 0 where
+pub record Changes (block : Value.Netlist) (marks : Marks) (e : Edit) (entries : ℕ) (examined : Result Examined Refusal)
+    (before after : List ℕ) : Type 0 where
   pub contained : Contained entries examined before after
   -- where the state is a netlist's, the refusals that go by the state and the lengths
   pub early : (n : Netlist) → WellFormed n → state_in block ≡ state_of n → (k p : ℕ) → fits n e entries (length before) ≡ refused k p

@@ -4,7 +4,6 @@ use Prim.Native.Nat.{ℕ}
 use mathlib.Core.Path.{◌≡◌, sym, ap, ◌∙◌}
 use mathlib.Core.Bool.{cond, ◌||◌, or-true, or-false}
 use mathlib.Core.List.{List}
-use native.Mathlib.Omega.{arith}
 use Rattle.rules.specs.declared.Answer.{Answer}
 use Rattle.rules.specs.declared.Refusal.{Refusal}
 use Rattle.rules.specs.Records.{Netlist, most_nodes}
@@ -33,11 +32,12 @@ admitted_reply bytes entries work n admits = rw admits
 
 -- and not refused
 pub not_opened : (n : Netlist) (r : Refusal) → reply_of (Err r) ≡ answered (findings n) → ⊥
-not_opened n r says = let z : ◌≡◌ {A = ℕ} 0 1 = cc in omega arith
+not_opened n r says = cc
 
 -- ---- an edit
 
-module _ (s : Standing) (turn : Turn) (changed : HeldBlock) (before after : List ℕ) (stands : Stands s turn before) where
+module _ (s : Standing) (turn : Turn) (changed : HeldBlock) (before after : List ℕ)
+    (stands : Stands s turn before) where
   -- by what the edit comes to
   stands_after : (o : Outcome Netlist) (r : Result Answer Refusal) → reply_of r ≡ and_then o (λ m. answered (findings m))
       → IsHeld (otherwise s.netlist o) changed.netlist changed.marks after
@@ -48,8 +48,8 @@ module _ (s : Standing) (turn : Turn) (changed : HeldBlock) (before after : List
       record { is = is; answers = cc; faults = stands.faults ∙ sym (or-false s.faulty); counts = ap one_more stands.counts }
   stands_after (refused k p) (Err r) says is =
       record { is = is; answers = stands.answers; faults = sym (or-true s.faulty); counts = stands.counts }
-  stands_after (answered m) (Err r) says is = let z : ◌≡◌ {A = ℕ} 0 1 = cc in absurd (omega arith)
-  stands_after (refused k p) (Ok a) says is = let z : ◌≡◌ {A = ℕ} 0 1 = cc in absurd (omega arith)
+  stands_after (answered m) (Err r) says is = cc
+  stands_after (refused k p) (Ok a) says is = cc
 
   pub turned_answers : (e : Edit) → reply_of changed.reply ≡ reply_after s.netlist e most_nodes most_work
       → IsHeld (netlist_after s.netlist e most_nodes most_work) changed.netlist changed.marks after

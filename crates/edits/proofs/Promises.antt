@@ -6,7 +6,6 @@ use Prim.Native.Nat.{ℕ, ◌≤◌}
 use mathlib.Core.Path.{◌≡◌, refl, sym, subst, ◌∙◌}
 use mathlib.Core.Logic.{◌↔◌}
 use mathlib.Core.List.{List}
-use native.Mathlib.Omega.{arith}
 use lib.ListN.{length}
 use Rattle.rules.specs.declared.NodeRecord.{NodeRecord}
 use Rattle.rules.specs.Records.{Netlist, WellFormed, empty, written_out}
@@ -51,27 +50,31 @@ pub record Promised (state : State) (e : Edit) (given : Edited) (ys ns : List No
 -- ---- the block as it then is
 
 -- the reply that is given
-pub given_reply : (state : State) (examined : Result Examined Refusal) → reply_of (edited_of state examined).reply ≡ replied examined
+pub given_reply : (state : State) (examined : Result Examined Refusal)
+    → reply_of (edited_of state examined).reply ≡ replied examined
 given_reply state (Ok examined) = refl
 given_reply state (Err r) = refl
 
 -- the node records of what is kept, stored
-kept_records : (o : Outcome Netlist) (examined : Result Examined Refusal) (ys : List NodeRecord) → replied examined ≡ and_then o (λ m. answered (findings m))
-    → (kept_netlist examined).count ≤ length ys → kept_netlist examined ≡ flat_of (kept o) → kept_marks examined ≡ marks_of (kept o)
+kept_records : (o : Outcome Netlist) (examined : Result Examined Refusal) (ys : List NodeRecord)
+    → replied examined ≡ and_then o (λ m. answered (findings m)) → (kept_netlist examined).count ≤ length ys
+    → kept_netlist examined ≡ flat_of (kept o) → kept_marks examined ≡ marks_of (kept o)
     → stored_of examined ys ≡ filled node_records o ys
 unfolding and_then kept filled
-kept_records (answered m) (Ok examined) ys says enough f g = netlist_stored examined m f g ys (rw (value_count m f) at enough)
-kept_records (answered m) (Err r) ys says enough f g = let z : ◌≡◌ {A = ℕ} 0 1 = cc in absurd (omega arith)
-kept_records (refused k p) (Ok examined) ys says enough f g = let z : ◌≡◌ {A = ℕ} 0 1 = cc in absurd (omega arith)
+kept_records (answered m) (Ok examined) ys says enough f g =
+    netlist_stored examined m f g ys (rw (value_count m f) at enough)
+kept_records (answered m) (Err r) ys says enough f g = cc
+kept_records (refused k p) (Ok examined) ys says enough f g = cc
 kept_records (refused k p) (Err r) ys says enough f g = refl
 
 -- the state that is given
-kept_state : (n : Netlist) (o : Outcome Netlist) (examined : Result Examined Refusal) (state : State) → replied examined ≡ and_then o (λ m. answered (findings m))
-    → state ≡ state_of n → kept_netlist examined ≡ flat_of (kept o) → (edited_of state examined).state ≡ state_of (otherwise n o)
+kept_state : (n : Netlist) (o : Outcome Netlist) (examined : Result Examined Refusal) (state : State)
+    → replied examined ≡ and_then o (λ m. answered (findings m)) → state ≡ state_of n
+    → kept_netlist examined ≡ flat_of (kept o) → (edited_of state examined).state ≡ state_of (otherwise n o)
 unfolding and_then kept otherwise
 kept_state n (answered m) (Ok examined) state says is-n is_m = value_state m is_m
-kept_state n (answered m) (Err r) state says is-n is_m = let z : ◌≡◌ {A = ℕ} 0 1 = cc in absurd (omega arith)
-kept_state n (refused k p) (Ok examined) state says is-n is_m = let z : ◌≡◌ {A = ℕ} 0 1 = cc in absurd (omega arith)
+kept_state n (answered m) (Err r) state says is-n is_m = cc
+kept_state n (refused k p) (Ok examined) state says is-n is_m = cc
 kept_state n (refused k p) (Err r) state says is-n is_m = is-n
 
 -- where the glitch half is clear, and what it means
@@ -98,13 +101,14 @@ probe_after n e entries work formed = go (edited n e entries work) refl
 -- ---- all clauses
 
 -- the slice keeps its length, and a refusal gives the state that was handed in and leaves the slice as it was
-stored_length_of : (examined : Result Examined Refusal) (ys : List NodeRecord) → length (stored_of examined ys) ≡ length ys
+stored_length_of : (examined : Result Examined Refusal) (ys : List NodeRecord)
+    → length (stored_of examined ys) ≡ length ys
 stored_length_of (Ok examined) ys = stored_length (record_in examined) ys examined.netlist.count
 stored_length_of (Err r) ys = refl
 
-refused_keeps : (state : State) (examined : Result Examined Refusal) (ys : List NodeRecord) (k p : ℕ) → replied examined ≡ refused k p
-    → ((edited_of state examined).state ≡ state) × (stored_of examined ys ≡ ys)
-refused_keeps state (Ok examined) ys k p says = let z : ◌≡◌ {A = ℕ} 0 1 = cc in absurd (omega arith)
+refused_keeps : (state : State) (examined : Result Examined Refusal) (ys : List NodeRecord) (k p : ℕ)
+    → replied examined ≡ refused k p → ((edited_of state examined).state ≡ state) × (stored_of examined ys ≡ ys)
+refused_keeps state (Ok examined) ys k p says = cc
 refused_keeps state (Err r) ys k p says = (refl, refl)
 
 -- what an edit promises, from what `load`, `change` and `given` promise
@@ -116,13 +120,17 @@ unfolding reply_after netlist_after records_after bytes_after
 promises state e ys zs ws examined changes same =
     record {
       reply = is_reply;
-      state_after = λ n o. kept_state n (edited n e (length ys) (length zs)) examined state (examines n o).reply o.its_state (examines n o).netlist;
+      state_after = λ n o.
+          let x = examines n o in
+          kept_state n (edited n e (length ys) (length zs)) examined state x.reply o.its_state x.netlist;
       nodes = λ n o.
-          kept_records (edited n e (length ys) (length zs)) examined ys (examines n o).reply changes.contained.few_entries (examines n o).netlist (examines n o).marks;
+          let x = examines n o in
+          kept_records (edited n e (length ys) (length zs)) examined ys x.reply changes.contained.few_entries x.netlist x.marks;
       work = λ n o. (examines n o).work;
       clear = λ n o. subst (λ r. GlitchClear r ↔ NothingSuspectAfter n e (length ys) (length zs)) (sym (is_reply n o)) (clear_when n e (length ys) (length zs));
       probe = λ n o c. probe_after n e (length ys) (length zs) o.obeys (subst GlitchClear (is_reply n o) c);
-      early = λ n formed is k p short. given_reply state examined ∙ changes.early n formed (loaded_state state ys ∙ is) k p short;
+      early = λ n formed is k p short.
+          given_reply state examined ∙ changes.early n formed (loaded_state state ys ∙ is) k p short;
       kept = record {
         entries = stored_length_of examined ys;
         bytes = same;
@@ -136,7 +144,8 @@ promises state e ys zs ws examined changes same =
     examines : (n : Netlist) → IsOpen n state ys zs → Examines (edited n e (length ys) (length zs)) examined zs ws
     examines n o = changes.made n o.obeys (loaded_flat o) (loaded_marks o) o.holds.families
 
-    is_reply : (n : Netlist) → IsOpen n state ys zs → reply_of (edited_of state examined).reply ≡ reply_after n e (length ys) (length zs)
+    is_reply : (n : Netlist) → IsOpen n state ys zs
+        → reply_of (edited_of state examined).reply ≡ reply_after n e (length ys) (length zs)
     is_reply n o = given_reply state examined ∙ (examines n o).reply
 
 -- ---- a block that is opened
@@ -147,8 +156,11 @@ pub opened_state : (examined : Result Examined Refusal) (n : Netlist) → kept_n
 opened_state (Ok examined) n is = value_state n is
 opened_state (Err r) n is = value_state n is
 
-pub opened_nodes : (bytes : List ℕ) (ys : List NodeRecord) (work : ℕ) (examined : Result Examined Refusal) → replied examined ≡ reply bytes (length ys) work
-    → kept_netlist examined ≡ flat_of (kept (admitted bytes (length ys) work)) → kept_marks examined ≡ marks_of (kept (admitted bytes (length ys) work))
+pub opened_nodes : (bytes : List ℕ) (ys : List NodeRecord) (work : ℕ) (examined : Result Examined Refusal)
+    → replied examined ≡ reply bytes (length ys) work
+    → kept_netlist examined ≡ flat_of (kept (admitted bytes (length ys) work))
+    → kept_marks examined ≡ marks_of (kept (admitted bytes (length ys) work))
     → stored_of examined ys ≡ nodes_after bytes ys work
-opened_nodes bytes ys work (Ok examined) says is-flat is-marked = examined_stored bytes ys work examined says is-flat is-marked
+opened_nodes bytes ys work (Ok examined) says is-flat is-marked =
+    examined_stored bytes ys work examined says is-flat is-marked
 opened_nodes bytes ys work (Err r) says is-flat is-marked = refused_unstored bytes ys work r says

@@ -116,7 +116,7 @@ record Answers (o : Outcome Netlist) : Type 0 where
 answers_of : (o : Outcome Netlist) (f : Findings) → and_then o (λ n. answered (findings n)) ≡ answered f → Answers o
 unfolding and_then
 answers_of (answered n) f e = record { netlist = n; is = refl }
-answers_of (refused k p) f e = let z : ◌≡◌ {A = ℕ} 0 1 = cc in absurd (omega arith)
+answers_of (refused k p) f e = cc
 
 pub checked_holds : (b : OpenBlock) → AsChecked b → Holds b.netlist b.nodes b.work
 unfolding reply
@@ -232,7 +232,7 @@ last_reply b c f checked says = (call_keeps b c checked).checked.answers ∙ go 
   where
     go : (o : Outcome Netlist) → and_then o (λ m. answered (findings m)) ≡ answered f → answered (findings (otherwise b.netlist o)) ≡ answered f
     go (answered m) e = e
-    go (refused k p) e = let z : ◌≡◌ {A = ℕ} 0 1 = cc in absurd (omega arith)
+    go (refused k p) e = cc
 
 -- ---- in the words of the contracts
 

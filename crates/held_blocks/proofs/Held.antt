@@ -4,7 +4,6 @@ use Rattle.std.specs.Prelude.{Result, Ok, Err}
 use Prim.Native.Nat.{ℕ}
 use mathlib.Core.Path.{◌≡◌, refl}
 use mathlib.Core.List.{List}
-use native.Mathlib.Omega.{arith}
 use lib.ListN.{length}
 use Rattle.rules.specs.declared.Refusal.{Refusal}
 use Rattle.rules.specs.Records.{Netlist}
@@ -38,7 +37,8 @@ opened_held bytes entries value marks before after v m w n is =
 
 -- and one that is edited
 module _ {n : Netlist} {value : Value.Netlist} {marks : Marks} {before after : List ℕ} (held : IsHeld n value marks before)
-    (e : Edit) (entries : ℕ) {examined : Result Examined Refusal} (changes : Changes value marks e entries examined before after) where
+    (e : Edit) (entries : ℕ) {examined : Result Examined Refusal}
+    (changes : Changes value marks e entries examined before after) where
   comes_to : Examines (edited n e entries (length before)) examined before after
   comes_to = changes.made n held.obeys held.its_value held.its_marks held.families
 
@@ -47,7 +47,8 @@ module _ {n : Netlist} {value : Value.Netlist} {marks : Marks} {before after : L
   edit_reply = comes_to.reply
 
 -- it is answered, and the block is the one that was made
-module _ {n : Netlist} {value : Value.Netlist} {marks : Marks} {before after : List ℕ} (held : IsHeld n value marks before) (e : Edit) (entries : ℕ) where
+module _ {n : Netlist} {value : Value.Netlist} {marks : Marks} {before after : List ℕ}
+    (held : IsHeld n value marks before) (e : Edit) (entries : ℕ) where
   pub made_held : {examined : Examined} → Changes value marks e entries (Ok examined) before after
       → IsHeld (netlist_after n e entries (length before)) examined.netlist examined.marks after
   unfolding and_then kept filled netlist_after otherwise
@@ -62,13 +63,14 @@ module _ {n : Netlist} {value : Value.Netlist} {marks : Marks} {before after : L
             its_marks = x.marks;
             families = rw x.work (written_families m before);
           }
-      go (refused k p) is x = let z : ◌≡◌ {A = ℕ} 0 1 = cc (x.reply) in absurd (omega arith)
+      go (refused k p) is x = cc (x.reply)
 
   -- it is refused, and the block is the one of before
-  pub kept_held : {r : Refusal} → Changes value marks e entries (Err r) before after → IsHeld (netlist_after n e entries (length before)) value marks after
+  pub kept_held : {r : Refusal} → Changes value marks e entries (Err r) before after
+      → IsHeld (netlist_after n e entries (length before)) value marks after
   unfolding and_then filled netlist_after otherwise
   kept_held {r} changes = go (edited n e entries (length before)) (comes_to held e entries changes)
     where
       go : (o : Outcome Netlist) → Examines o (Err r) before after → IsHeld (otherwise n o) value marks after
-      go (answered m) x = let z : ◌≡◌ {A = ℕ} 0 1 = cc (x.reply) in absurd (omega arith)
+      go (answered m) x = cc (x.reply)
       go (refused k p) x = rw x.work held

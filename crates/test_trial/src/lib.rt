@@ -21,7 +21,7 @@ ghost use Rattle.test_trial.specs.Before.{entry_before, byte_before, is_before, 
 use edit_rules::{Edit, State};
 use edits::Edited;
 use pairs::PairsAnswer;
-use rules::{MOST_NODES, Node, NodeRecord, Answer, Refusal};
+use rules::{Answer, MOST_NODES, Node, NodeRecord, Refusal};
 
 // ---- what stands in the slices before a check
 

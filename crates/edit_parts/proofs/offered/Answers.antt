@@ -30,12 +30,15 @@ of-bytes bytes variables nodes own o e h =
     ∙ ap (λ (x : Outcome Cell). and_then x (λ cell. answered (entry cell))) (offer_same (length bytes) _ _ _ _ _ (body_seen bytes 0))
 
 pub returns-then-own-lt2 : goal.returns-then-own-lt2
-returns-then-own-lt2 c = rw c.at.ensures (of-bytes _ _ _ _ _ c.bytes_at-own.ensures (no_node _ _ _ _ _ _ c.if-bytes-gt0.true c.if-own-lt2.true))
+returns-then-own-lt2 c =
+    let low = no_node _ _ _ _ _ _ c.if-bytes-gt0.true c.if-own-lt2.true in
+    rw c.at.ensures (of-bytes _ _ _ _ _ c.bytes_at-own.ensures low)
 
 pub returns-in_err-kind : goal.returns-in_err-kind
 returns-in_err-kind c =
     let p = err_from_is_err_and c.from_residual.result c.from_residual.ensures.1 in
-    rw (p.1, p.2) (of-bytes _ _ _ _ _ c.bytes_at-own.ensures (refused_next _ _ _ _ _ c.else-bytes-gt0.either _ _ c.in_err-kind.ensures.judged))
+    let refuses = refused_next _ _ _ _ _ c.else-bytes-gt0.either _ _ c.in_err-kind.ensures.judged in
+    rw (p.1, p.2) (of-bytes _ _ _ _ _ c.bytes_at-own.ensures refuses)
 
 -- the size of the kind that is told is that of the node
 sized : {total v n k told s : ℕ} {body : List ℕ} (x : FoundNext total v n k body) → told ≡ k
@@ -45,12 +48,14 @@ sized {body = body} x is size_is = size_is body (rw is x.above) ∙ rw is (ap si
 pub returns-then-size_of-bytes : goal.returns-then-size_of-bytes
 returns-then-size_of-bytes c =
     let x = found_next _ _ _ _ _ c.else-bytes-gt0.either c.in_ok-kind.ensures.judged in
+    let long = sized x c.in_ok-kind.ensures.kind c.size_of.ensures.size in
     rw c.at-then-size_of-bytes.ensures
-    (of-bytes _ _ _ _ _ c.bytes_at-own.ensures (surplus_next _ _ _ _ _ x _ _ (sized x c.in_ok-kind.ensures.kind c.size_of.ensures.size) c.if-size_of-bytes.true))
+    (of-bytes _ _ _ _ _ c.bytes_at-own.ensures (surplus_next _ _ _ _ _ x _ _ long c.if-size_of-bytes.true))
 
 pub returns : goal.returns
 returns c =
     let x = found_next _ _ _ _ _ c.else-bytes-gt0.either c.in_ok-kind.ensures.judged in
     let says = ap (λ (k : ℕ). said k c.bytes_at-own.result.body) c.in_ok-kind.ensures.kind ∙ x.says in
+    let long = sized x c.in_ok-kind.ensures.kind c.size_of.ensures.size in
     of-bytes _ _ _ _ _ c.bytes_at-own.ensures
-    (ap answered (c.entry_of.ensures x.cell says) ∙ taken_next _ _ _ _ _ x _ _ (sized x c.in_ok-kind.ensures.kind c.size_of.ensures.size) c.if-size_of-bytes.false)
+    (ap answered (c.entry_of.ensures x.cell says) ∙ taken_next _ _ _ _ _ x _ _ long c.if-size_of-bytes.false)

@@ -14,7 +14,8 @@ returns-in_err-node c =
 
 pub add_offered-requires : goal.add_offered-requires
 add_offered-requires c =
-    let o : OffersNode (offered_to c.args.loaded.block c.args.bytes.now) c.in_ok-node.node = offers_node _ _ c.in_ok-node.ensures in
+    let o : OffersNode (offered_to c.args.loaded.block c.args.bytes.now) c.in_ok-node.node =
+    offers_node _ _ c.in_ok-node.ensures in
     let limited = c.requires in
     (limited, offered_room _ _ _ _ _ _ o.is, rw o.its (offered_placed _ _ _ _ _ _ o.is limited.variables))
 

@@ -8,4 +8,5 @@ use Rattle.edit_turns.proofs.begin_with.Goals as goal
 pub returns-in-Ok-clause-stands : goal.returns-in-Ok-clause-stands
 unfolding begun
 returns-in-Ok-clause-stands c =
-    rw c.in-Ok.is (λ n work held says. record { is = held; answers = opened_answer n _ says; faults = refl; counts = refl })
+    rw c.in-Ok.is
+    (λ n work held says. record { is = held; answers = opened_answer n _ says; faults = refl; counts = refl })
