@@ -43,7 +43,12 @@ fn wipe_progress(shown: bool) {
 
 // What `pairs::check_pairs` replies to the netlist bytes that were examined, with slices that hold every netlist.
 // After each node it tells how far it is, if that is to be shown.
-fn searched(examined: Examined, work: &[u8; MOST_WORK], limit: usize, shown: bool) -> Result<PairsAnswer, Refusal>
+fn searched(
+    examined: Examined,
+    work: &[u8; MOST_WORK],
+    limit: usize,
+    shown: bool,
+) -> Result<PairsAnswer, Refusal>
     requires { Seen examined work.now }
     ensures { (bytes before : List ℕ) → Leaves bytes before examined work.now →
         pairs_reply_of result ≡ pairs_reply bytes most_nodes (length before) limit }

@@ -23,7 +23,7 @@ use edit_lines::Ask;
 use edit_turns::Turn;
 use netlists::Netlist;
 use read_words::Fault;
-use rules::{MOST_VARIABLES, MOST_WORK, Refusal, Answer};
+use rules::{Answer, MOST_VARIABLES, MOST_WORK, Refusal};
 use std::fs::File;
 use std::io::Read;
 use std::random::RandomSource;

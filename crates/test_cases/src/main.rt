@@ -334,9 +334,7 @@ fn check_pairs(bytes: &[u8], limit: usize, entries: usize, room: usize)
     let work = &mut most[..room];
     test_trial::fill(work);
     let before = [test_trial::entry_before(); MOST_NODES];
-    let Seen { reply, nodes } = test_trial::check_pairs_over(
-        limit, bytes, entries, before, work,
-    );
+    let Seen { reply, nodes } = test_trial::check_pairs_over(limit, bytes, entries, before, work);
     print_pairs(reply);
     print_left(nodes, work);
 }

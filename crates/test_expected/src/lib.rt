@@ -4,7 +4,7 @@
 // programs `test_random_blocks` and `test_random_edits`.
 #![tactic(auto)]
 
-use rules::{Half, NodeRecord, Answer, Refusal};
+use rules::{Answer, Half, NodeRecord, Refusal};
 use test_generator::{next, pick};
 use test_second_checker::{Fault, List, Pair, Second, SecondBlock};
 use test_tools::same_record;

@@ -6,7 +6,7 @@ use crate::products::compare_products;
 use crate::questions::ask;
 use pair_search::{Found, Search};
 use pairs::PairsAnswer;
-use rules::{NodeRecord, Answer, Refusal};
+use rules::{Answer, NodeRecord, Refusal};
 use test_expected::{
     Finds, Lent, Outcome, Sought, Work, expected_answer, expected_check, families_differ,
     lengths_for, marked_of, outcome_of, same_entries, seek,
@@ -255,7 +255,11 @@ fn same_search(search: Search, sought: Sought) -> bool {
 }
 
 // Compares the search of a reply, if there is one. Gives the rest of the reply.
-fn compare_search(tally: &mut Tally, reply: Result<PairsAnswer, Refusal>, sought: Sought) -> Outcome {
+fn compare_search(
+    tally: &mut Tally,
+    reply: Result<PairsAnswer, Refusal>,
+    sought: Sought,
+) -> Outcome {
     match reply {
         Err(refusal) => outcome_of(Err(refusal)),
         Ok(both) => {

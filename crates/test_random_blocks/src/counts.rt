@@ -4,7 +4,7 @@
 // one before that one.
 use pair_search::{Found, Search};
 use pairs::PairsAnswer;
-use rules::{Half, Refusal, Answer};
+use rules::{Answer, Half, Refusal};
 use test_counting::{NODES, Patterns, counts_differ};
 use test_second_checker::{Kind, Second};
 use test_tools::{Tally, count, count_if};

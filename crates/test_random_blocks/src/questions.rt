@@ -47,7 +47,12 @@ fn given(outcome: Result<(), Refusal>) -> Result<(), Fault> {
 }
 
 // Counts a query whose answer is the same or not, by its outcome.
-fn count_query(tally: &mut Tally, outcome: Result<(), Refusal>, expected: Result<(), Fault>, same: bool) {
+fn count_query(
+    tally: &mut Tally,
+    outcome: Result<(), Refusal>,
+    expected: Result<(), Fault>,
+    same: bool,
+) {
     let number = expected.err().map_or(0, |fault| fault.number % 14);
     count(
         tally,
