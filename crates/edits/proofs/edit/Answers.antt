@@ -4,11 +4,6 @@ use Rattle.edit_rules.specs.Meaning.{edit_of}
 use Rattle.edits.proofs.Promises.{promises}
 use Rattle.edits.proofs.edit.Goals as goal
 
-pub given-requires : goal.given-requires
-given-requires c =
-    let contained = c.change-examined.ensures.contained in
-    (contained.few_entries, contained.few_nodes)
-
 pub returns : goal.returns
 returns c =
     let changes = rw c.load-loaded.ensures at c.change-examined.ensures in
