@@ -114,7 +114,8 @@ module _ (block : Value.Netlist) (marks : Marks) (e : Node) (entries : ℕ) (bef
   looked examined value longer after fit few more with_it written found looks =
       record {
         contained =
-            contained_looks entries value longer examined before after (omega (arith, (fit.room refl).0)) (omega arith) looks;
+            let room = fit.room refl in
+            contained_looks entries value longer examined before after (omega (arith, room.0)) (omega arith) looks;
         early = λ n cell same k p refuses. cc (fits_it n cell same);
         made = λ n cell formed same known its holds.
             let is = with_it n cell same its in

@@ -85,7 +85,8 @@ module _ (count removed entries work : ℕ) (n : Netlist) (same : count ≡ leng
 
 -- both slices hold the nodes, and the node is removed or still used
 pub removes : (block : Value.Netlist) (marks : Marks) (removed entries : ℕ) (examined : Result Examined Refusal)
-    (before after : List ℕ) → removed < block.count → JudgesSlices block.count entries (length before) (Ok tt) → RemovesUnused block marks removed examined before after
+    (before after : List ℕ) → removed < block.count → JudgesSlices block.count entries (length before) (Ok tt)
+    → RemovesUnused block marks removed examined before after
     → Changes block marks (remove removed) entries examined before after
 unfolding edited and_then
 removes block marks removed entries examined before after there slices given = record {

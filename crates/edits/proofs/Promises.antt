@@ -125,7 +125,8 @@ promises state e ys zs ws examined changes same =
           kept_state n (edited n e (length ys) (length zs)) examined state x.reply o.its_state x.netlist;
       nodes = λ n o.
           let x = examines n o in
-          kept_records (edited n e (length ys) (length zs)) examined ys x.reply changes.contained.few_entries x.netlist x.marks;
+          let few = changes.contained.few_entries in
+          kept_records (edited n e (length ys) (length zs)) examined ys x.reply few x.netlist x.marks;
       work = λ n o. (examines n o).work;
       clear = λ n o. subst (λ r. GlitchClear r ↔ NothingSuspectAfter n e (length ys) (length zs)) (sym (is_reply n o)) (clear_when n e (length ys) (length zs));
       probe = λ n o c. probe_after n e (length ys) (length zs) o.obeys (subst GlitchClear (is_reply n o) c);

@@ -13,13 +13,3 @@ returns-then-loaded-gt-MOST_VARIABLES c =
     absurd
     (⊎_elim (λ over. omega (arith, over, state_variables n s, formed.few_variables)) (λ over. omega (arith, over.1, state_count n s, formed.few_nodes))
     c.then-loaded-gt-MOST_VARIABLES.either)))
-
-pub returns-in-Add : goal.returns-in-Add
-returns-in-Add c =
-    let told = c.in-Add.is in
-    rw told c.add_node.ensures
-
-pub returns-in-Remove : goal.returns-in-Remove
-returns-in-Remove c =
-    let told = c.in-Remove.is in
-    rw told c.remove_node.ensures

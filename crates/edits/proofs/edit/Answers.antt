@@ -4,17 +4,12 @@ use Rattle.edit_rules.specs.Meaning.{edit_of}
 use Rattle.edits.proofs.Promises.{promises}
 use Rattle.edits.proofs.edit.Goals as goal
 
-pub given-requires : goal.given-requires
-given-requires c =
-    let contained = c.change-examined.ensures.contained in
-    (contained.few_entries, contained.few_nodes)
-
 pub returns : goal.returns
 returns c =
     let changes = rw c.load-loaded.ensures at c.change-examined.ensures in
     let p =
-    promises c.args.state (edit_of c.args.edit c.args.bytes.now) c.args.nodes.now c.args.work.now c.change-examined.new.work
-    c.change-examined.result changes c.change-examined.auto.work in
+    promises c.args.state (edit_of c.args.edit c.args.bytes.now) c.args.nodes.now c.args.work.now
+    c.change-examined.new.work c.change-examined.result changes c.change-examined.auto.work in
     rw (c.given.ensures.given, c.given.ensures.nodes)
     (record {
       reply = p.reply;
