@@ -54,6 +54,7 @@ fn searched(
         pairs_reply_of result ≡ pairs_reply bytes most_nodes (length before) limit }
 {
     let mut progress = pairs::begin_pairs(Ok(examined));
+    // A `while`: the steps are those of a caller of `pairs`, which says when they are done.
     while !pairs::is_done(progress) {
         progress = pairs::further(examined.netlist, work, limit, progress);
         tell_progress(shown, progress);

@@ -95,7 +95,7 @@ fn place_of(fd: i32, place: &mut [u8]) -> usize
 }
 
 // Writes the name of an open file itself, which links may lead to, to `name`. Returns how many bytes it has,
-// 0 where the system does not say, or says none that is text.
+// 0 where the system does not say, or says none that is text: no name is empty, and callers ask that of the slice.
 fn name_of<R: Files + Alloc>(rt: &R, fd: i32, name: &mut [u8]) -> usize
     ensures { IsPrefixLen result name.new }
 {

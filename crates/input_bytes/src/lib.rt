@@ -13,6 +13,7 @@ pub fn read_input<R: Read>(from: &mut R, into: &mut [u8]) -> Result<usize, Error
     ensures { Front result into.new }
 {
     let mut count = 0;
+    // A `while`: each read gives as many bytes as it likes, so that no count of turns is known.
     while count < into.len() {
         let more = from.read(&mut into[count..])?;
         if more == 0 {

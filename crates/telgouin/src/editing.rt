@@ -242,45 +242,36 @@ enum Line {
     Failed,
 }
 
-fn wide(byte: u8) -> usize {
-    byte as usize
-}
-
-// The next byte of standard input, 256 at its end, and 257 where a read failed.
-fn next_byte<I: Read>(input: &mut I) -> usize {
+// The next byte of standard input, or none at its end.
+fn next_byte<I: Read>(input: &mut I) -> std::io::Result<Option<u8>> {
     let mut one = [0u8; 1];
-    match input.read(&mut one) {
-        Err(_) => 257,
-        Ok(got) => {
-            if got == 0 {
-                return 256;
-            }
-            wide(one[0])
-        }
+    if input.read(&mut one)? == 0 {
+        return Ok(None);
     }
+    Ok(Some(one[0]))
 }
 
 // The next line, at the front of `line`. What was read of a line before a read failed is no line.
 fn read_line<I: Read>(input: &mut I, line: &mut [u8; MOST_LINE]) -> Line
     ensures { Fits result }
 {
-    let mut count = 0;
-    while count < MOST_LINE {
-        let byte = next_byte(input);
-        if byte == 10 {
-            return Line::Of(count);
-        }
-        if byte > 256 {
-            return Line::Failed;
-        }
-        if byte == 256 {
-            if count == 0 {
-                return Line::End;
+    for count in 0..MOST_LINE {
+        match next_byte(input) {
+            Err(_) => return Line::Failed,
+            Ok(None) => {
+                return if count == 0 {
+                    Line::End
+                } else {
+                    Line::Of(count)
+                };
             }
-            return Line::Of(count);
+            Ok(Some(byte)) => {
+                if byte == b'\n' {
+                    return Line::Of(count);
+                }
+                line[count] = byte;
+            }
         }
-        line[count] = byte as u8;
-        count += 1;
     }
     skip_line(input)
 }
@@ -289,16 +280,16 @@ fn read_line<I: Read>(input: &mut I, line: &mut [u8; MOST_LINE]) -> Line
 fn skip_line<I: Read>(input: &mut I) -> Line
     ensures { Fits result }
 {
-    let mut turns = MOST_TURNS;
-    while turns > 0 {
-        let byte = next_byte(input);
-        if (byte == 10) | (byte == 256) {
-            return Line::Long;
+    for _ in 0..MOST_TURNS {
+        match next_byte(input) {
+            Err(_) => return Line::Failed,
+            Ok(None) => return Line::Long,
+            Ok(Some(byte)) => {
+                if byte == b'\n' {
+                    return Line::Long;
+                }
+            }
         }
-        if byte > 256 {
-            return Line::Failed;
-        }
-        turns -= 1;
     }
     Line::Failed
 }
@@ -405,6 +396,7 @@ fn run_lines<R: Files<File = File> + RandomSource + Alloc, I: Read>(
     ensures { Ran run.turn result.turn run.left result.left work.old work.new }
 {
     let mut last = run;
+    // A `while`: a turn says whether there is another, and the turns left are counted in what `Ran` says.
     while last.more {
         last = step(rt, input, last, work);
     }

@@ -79,7 +79,8 @@ pub fn take_numbers<R: Env>(rt: &R, into: &mut [usize; MOST_NUMBERS], count: usi
 
 // ---- the file
 
-// What was read: so many bytes, which are all, or the first of more; or nothing, since it cannot be read.
+// What was read: so many bytes, which are all, or the first of more; or nothing, since it cannot be read. Three cases
+// that are told apart in what is printed, and so no `Result`.
 #[derive(Clone, Copy)]
 enum Read {
     All(usize),
