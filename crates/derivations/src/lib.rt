@@ -149,8 +149,8 @@ pub fn derive_held(
     Ok(count)
 }
 
-// What `derive` does once the netlist is read: its families go into work bytes of this function's own. A function apart,
-// since behind the `?` in `derive` the work bytes are cleared twice, and a short query takes a third longer.
+// What `derive` does once the netlist is read: its families go into work bytes of this function's own. A function
+// apart, since behind the `?` in `derive` the work bytes are cleared twice, and a short query takes a third longer.
 fn derive_read(
     netlist: Netlist,
     node: usize,

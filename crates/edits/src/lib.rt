@@ -24,7 +24,7 @@ use marks::Marks;
 use netlists::Netlist;
 use rules::{Answer, MOST_NODES, NodeRecord, Refusal};
 
-// What a call gives: the reply, and the state to hand in next.
+// What a call gives: the reply, and the state to hand in next, which there is on a refusal too.
 #[derive(Clone, Copy)]
 pub struct Edited {
     pub reply: Result<Answer, Refusal>,

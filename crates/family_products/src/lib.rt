@@ -1,6 +1,6 @@
 // The product of two families: the sets of each are listed, and each pair of them is tried once and counted. Families
-// are parts of a slice of bytes; a function writes to one part of it, and what it makes a family from is in lower parts.
-// Used by `nodes` and `pair_tests`, and by test programs.
+// are parts of a slice of bytes; a function writes to one part of it, and what it makes a family from is in lower
+// parts. Used by `nodes` and `pair_tests`, and by test programs.
 #![tactic(auto)]
 
 ghost use Rattle.std.specs.Prelude.{◌≡◌, map, ◌+◌, ◌*◌, ◌^◌, ◌<◌, ◌≤◌, length};

@@ -1,6 +1,6 @@
 // An open block held by value: its netlist and its marks, beside the work bytes that hold its families. What opening
-// gives is a block that is held, and so is what an edit gives, made or refused, so that its holder need not look at the
-// reply to go on. Of lent slices it touches the work bytes alone. `edit_turns` uses it, and through that the program.
+// gives where it is not refused is a block that is held, and so is what an edit gives, made or refused, so that its
+// holder need not look at the reply to an edit to go on. Of lent slices it touches the work bytes alone. `edit_turns` uses it, and through that the program.
 #![tactic(auto)]
 
 ghost use Rattle.std.specs.Prelude.{◌≡◌, length};
@@ -21,7 +21,7 @@ use marks::Marks;
 use netlists::Netlist;
 use rules::{Answer, MOST_NODES, Refusal};
 
-// What an edit gives: the reply, and the netlist and its marks as they then are.
+// What an edit gives: the reply, and the netlist and its marks as they then are, which there are on a refusal too.
 #[derive(Clone, Copy)]
 pub struct HeldBlock {
     pub reply: Result<Answer, Refusal>,

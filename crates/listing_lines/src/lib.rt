@@ -57,7 +57,8 @@ pub fn put_field(text: &mut [u8], at: usize, number: usize) -> usize
 
 // ---- kinds of nodes
 
-// The name of a kind of node, by its number; a kind that is no node's has that of a register.
+// The name of a kind of node, by its number, as it stands in a node record, which may hold any; a kind that is no node's
+// has that of a register.
 pub fn name_of(kind: u8) -> &'static [u8]
     ensures named { (cell : Cell) → kind ≡ kind_of cell → result.now ≡ kind_name cell }
     ensures short { (length result.now ≤ 3) × (kind ≡ 2 → length result.now ≡ 2) }

@@ -21,7 +21,8 @@ use netlists::Netlist;
 use rules::{Half, MOST_NODES};
 
 // The marks of both layers, by node number. Beyond the nodes all are 0.
-// 0 is none, and no Option: these are the marks that `rules::NodeRecord` holds (`mark_number`).
+// 0 is none, and no Option: these are the marks that `rules::NodeRecord` holds (`mark_number`). A set is below 1,024, so
+// that it is one by `as`; a `try_from` would have an error that cannot come.
 #[derive(Clone, Copy)]
 pub struct Marks {
     pub settled: [u16; MOST_NODES],

@@ -1,4 +1,5 @@
-// Netlists by value: the netlist of no records, one node more, a node's operands and the node of some. Touches nothing.
+// Netlists by value: the netlist of no records, one node more, a node's operands and the node of some; and the kinds of
+// record and the classes of variables, by name and by their bytes. Touches nothing.
 // Used by all that works on a netlist: the crates that read one, the checker's from `nodes` to `pairs`, the edits, the
 // queries, the derivations, the listing and the desk.
 #![tactic(auto)]
@@ -98,6 +99,7 @@ impl Class {
 }
 
 // A netlist by value: the counts, the class bytes and the node records, each in file order. Beyond the counts all is 0.
+// Arrays with counts, since memory is fixed and document 01 asks for a flat form.
 #[derive(Clone, Copy)]
 pub struct Netlist {
     pub variables: usize,
@@ -106,7 +108,8 @@ pub struct Netlist {
     pub nodes: [Node; MOST_NODES],
 }
 
-// The operands of a node, in their order: how many, and each at its place. Behind them is 0.
+// The operands of a node, in their order: how many, and each at its place. Behind them is 0. An array and a count, since
+// memory is fixed.
 #[derive(Clone, Copy)]
 pub struct Operands {
     pub count: usize,

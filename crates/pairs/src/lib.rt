@@ -40,7 +40,7 @@ pub struct ExaminedPairs {
 // ---- the search, node by node
 
 // How far a search over pairs is: the reply of one probe, what was found in the pairs of the nodes below `next`,
-// and how many nodes there are.
+// and how many nodes there are. A refusal is a search that is done, since `begin_pairs` begins with any reply.
 #[derive(Clone, Copy)]
 pub struct Progress {
     pub reply: Result<Answer, Refusal>,

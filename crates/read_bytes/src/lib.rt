@@ -1,6 +1,6 @@
-// Reading netlist bytes: the reader, which takes the next record; the node that a record says; and the walk over a file,
-// which takes record by record into its netlist and gives it, or the refusal. Reads the netlist bytes and writes to no
-// lent slice. Used by `checker`, `edit_parts` and `query_netlists`.
+// Reading netlist bytes: the reader, which takes the next record; the node that a record says; and the walk over a
+// file, which takes record by record into its netlist and gives it, or the refusal. Reads the netlist bytes and writes
+// to no lent slice. Used by `checker`, `edit_parts` and `query_netlists`.
 #![tactic(auto)]
 
 ghost use Rattle.std.specs.Prelude.{◌≡◌, cond, List, ℕ, ◌+◌, ◌*◌, ◌<◌, ◌≤◌, get_or};
@@ -47,6 +47,7 @@ pub fn record_at(
         here,
     };
     let kind = records::judge(spot, own)?;
+    // Stored straight from the other struct, an array has no proof.
     let body = own.body;
     Ok(Record { kind, body })
 }
@@ -115,6 +116,7 @@ pub fn read_from(start: Netlist, bytes: &[u8]) -> Result<Netlist, Refusal>
 {
     let mut netlist = start;
     let mut reader = Reader { bytes, here: 0 };
+    // How many records were taken is for the proof alone.
     for records in 0..MOST_RECORDS {
         let own = reader.next(netlist.variables, netlist.count)?;
         match own.kind {

@@ -65,6 +65,7 @@ pub enum RecordForm {
     Register,
 }
 
+// All forms, in the order of their words, since an enum has no list of its own cases.
 const FORMS: [RecordForm; 10] = [
     RecordForm::End,
     RecordForm::Secret,
@@ -78,7 +79,8 @@ const FORMS: [RecordForm; 10] = [
     RecordForm::Register,
 ];
 
-// The bytes of a record, of which the first `size` are its own, and those behind them are 0.
+// The bytes of a record, of which the first `size` are its own, and those behind them are 0. An array and a size, since
+// memory is fixed.
 #[derive(Clone, Copy)]
 struct RecordBytes {
     bytes: [u8; MOST_RECORD],
@@ -142,7 +144,7 @@ fn input_record(numbers: &[u8]) -> Result<RecordBytes, Fault>
     })
 }
 
-// A gate or a register: as many numbers as its kind has operands.
+// A gate or a register: as many numbers as its kind has operands. The kind is the byte that it puts.
 fn gate_record(numbers: &[u8], kind: u8) -> Result<RecordBytes, Fault>
     ensures { (own : Kind) → kind ≡ kind_number own → Tells result (with_operands own (words numbers.now)) }
 {

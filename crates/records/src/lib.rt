@@ -1,5 +1,5 @@
-// One record of a netlist: its bytes at an offset, and whether the rules accept it or refuse it. Reads the netlist bytes
-// and writes to no lent slice. Used by `read_bytes`, `edit_parts` and `query_netlists`.
+// One record of a netlist: its bytes at an offset, and whether the rules accept it or refuse it. Reads the netlist
+// bytes and writes to no lent slice. Used by `read_bytes`, `edit_parts` and `query_netlists`.
 #![tactic(auto)]
 
 ghost use Rattle.std.specs.Prelude.{◌≡◌, ◌+◌, ◌*◌, ◌<◌, ◌≤◌, get_or, IfOk};

@@ -1,5 +1,5 @@
-// The types of what the checker and the queries answer, and the limits of a netlist. It has no function and touches
-// nothing. The rules of document 01 are in `specs/` (`Paper` gives each case of these types its number and values),
+// The types of what the checker and the queries answer, and the limits of a netlist. Its one function makes a refusal of
+// a reason and a place; it touches nothing. The rules of document 01 are in `specs/` (`Paper` gives each case of these types its number and values),
 // and what is computed of them in `proofs/`: the table P1 to P14, and examples. What is proved of them for every
 // netlist is the crate `rule_laws`. Used by every crate of the product and by the library's callers.
 #![tactic(auto)]
@@ -40,8 +40,9 @@ pub struct NodeRecord {
     pub glitch: u16,
 }
 
-// One half of the answer: clear, or the lowest suspect node and the set that it reports: of its suspect sets the one
-// with fewest variables, and of those with as many the lowest-numbered.
+// One half of the answer, which document 01 names as an enum of these two cases: clear, or the lowest suspect node and
+// the set that it reports: of its suspect sets the one with fewest variables, and of those with as many the
+// lowest-numbered.
 #[derive(Clone, Copy)]
 pub enum Half {
     Clear,
@@ -114,7 +115,8 @@ impl Reason {
     }
 }
 
-// The reply to the query of a settled value. Refused, the value is 0 (`false`).
+// The reply to the query of a settled value. Refused, the value is 0 (`false`): of a refused query document 01 asks for
+// the value and the marks too, and so for a struct with the outcome beside them in each of these three.
 #[derive(Clone, Copy)]
 pub struct ValueReply {
     pub outcome: Result<(), Refusal>,

@@ -69,7 +69,7 @@ pub(crate) fn nodes(tally: &mut Tally, seed: u32, bytes: &[u8], second: &Second)
 // The search of a block over all its pairs.
 fn search_of(bytes: &[u8]) -> Result<Search, Refusal> {
     let mut work = [0u8; 51200];
-    Ok(pairs::examine_pairs(bytes, 200, &mut work, usize::MAX)?.search)
+    Ok(pairs::examine_pairs(bytes, 200, &mut work, 100)?.search)
 }
 
 // Counts the pairs of tested nodes of a block, in the order of the names that are printed. A refusal or a spent limit,
