@@ -2,9 +2,9 @@
 // reply. Of lent slices it touches the work bytes alone, and it prints and writes nothing. The program uses it.
 #![tactic(auto)]
 
-ghost use Rattle.std.specs.Prelude.{◌≡◌, true, List, ℕ, ◌≤◌, length, take};
+ghost use Rattle.std.specs.Prelude.{◌≡◌, true, List, ℕ, length};
 ghost use Rattle.rules.specs.Records as Records;
-ghost use Rattle.rules.specs.Records.{most_nodes, most_record};
+ghost use Rattle.rules.specs.Records.{most_nodes};
 ghost use Rattle.rules.specs.Families.{findings};
 ghost use Rattle.rules.specs.Checks.{answered, refused, admitted, most_work};
 ghost use Rattle.rules.specs.Slices.{reply};
@@ -23,7 +23,6 @@ use edit_rules::Edit;
 use held_blocks::HeldBlock;
 use marks::Marks;
 use netlists::Netlist;
-use read_words::MOST_RECORD;
 use rules::{Answer, Half, MOST_WORK, Refusal};
 
 // Between two lines: the netlist and its marks, its answer, whether something was at fault so far, and how many edits
@@ -142,19 +141,12 @@ fn turned(turn: Turn, changed: HeldBlock) -> Turn
     }
 }
 
-// Makes an edit, with so many bytes of a record.
-fn change(
-    turn: Turn,
-    edit: Edit,
-    bytes: &[u8; MOST_RECORD],
-    count: usize,
-    work: &mut [u8; MOST_WORK],
-) -> Told
-    requires { count ≤ most_record }
+// Makes an edit, with the bytes of its record: none, where a node is removed.
+fn change(turn: Turn, edit: Edit, bytes: &[u8], work: &mut [u8; MOST_WORK]) -> Told
     ensures { (s : Standing) → Stands s turn work.old →
-        Answers s (changes (edit_of edit (take count bytes.now))) result work.new }
+        Answers s (changes (edit_of edit bytes.now)) result work.new }
 {
-    let changed = held_blocks::edit_held(turn.netlist, turn.marks, edit, &bytes[..count], work);
+    let changed = held_blocks::edit_held(turn.netlist, turn.marks, edit, bytes, work);
     Told {
         turn: turned(turn, changed),
         reply: changed.reply,
@@ -176,8 +168,8 @@ fn answer_to(turn: Turn, asked: Asked, line: &[u8], work: &mut [u8; MOST_WORK]) 
         Answers s (asks_of asked line.now) result work.new }
 {
     match asked.ask {
-        Ask::Add(count) => change(turn, Edit::Add, &asked.own, count, work),
-        Ask::Remove(node) => change(turn, Edit::Remove(node), &asked.own, 0, work),
+        Ask::Add(count) => change(turn, Edit::Add, &asked.own[..count], work),
+        Ask::Remove(node) => change(turn, Edit::Remove(node), &[], work),
         Ask::NoRecord(_) | Ask::NoNumber | Ask::NoEdit => unchanged(at_fault(turn)),
         Ask::Nothing | Ask::List | Ask::Write(_, _) | Ask::Quit => unchanged(turn),
     }

@@ -14,6 +14,7 @@ ghost use Rattle.rules.specs.Paper.{finding_of, findings_of};
 ghost use Rattle.netlists.specs.Netlists.{flat_of};
 ghost use Rattle.listing_lines.specs.Text.{Room, Appended, Short};
 
+use families::Layer;
 use listing_lines::{put_counts, put_halves, put_node, put_refusal};
 use netlists::Netlist;
 use rules::{Answer, Half, MOST_NODES, MOST_VARIABLES, MOST_WORK, Refusal};
@@ -34,8 +35,8 @@ fn put_nodes(text: &mut [u8], at: usize, netlist: Netlist, work: &[u8]) -> usize
 {
     let mut end = at;
     for (i, node) in netlist.nodes[..netlist.count].iter().enumerate() {
-        let settled = families::size(work, 2 * i);
-        let glitch = families::size(work, 2 * i + 1);
+        let settled = families::size(work, Layer::Settled.part(i));
+        let glitch = families::size(work, Layer::Glitch.part(i));
         end = put_node(text, end, i, node.kind, settled, glitch);
     }
     end

@@ -13,6 +13,7 @@ ghost use Rattle.rules.specs.Queries.{value_query, feeding_query, membership_que
 ghost use Rattle.rules.specs.Paper.{value_of, feeding_of, membership_of};
 ghost use Rattle.netlists.specs.Netlists.{flat_of, Formed};
 
+use families::Layer;
 use netlists::Netlist;
 use rules::{FeedingReply, MOST_NODES, MOST_WORK, MembershipReply, ValueReply};
 
@@ -63,8 +64,8 @@ fn in_families(netlist: Netlist, node: usize, set: usize) -> MembershipReply
 {
     let mut work = [0u8; MOST_WORK];
     nodes::all_families(netlist, &mut work);
-    let settled = families::holds(&work, 2 * node, set);
-    let glitch = families::holds(&work, 2 * node + 1, set);
+    let settled = families::holds(&work, Layer::Settled.part(node), set);
+    let glitch = families::holds(&work, Layer::Glitch.part(node), set);
     MembershipReply {
         outcome: Ok(()),
         settled,

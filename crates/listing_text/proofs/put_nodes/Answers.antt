@@ -29,12 +29,13 @@ module _ {value : Value.Netlist} (n : Netlist) (e : value ≡ flat_of n) where
   kind_at i h = ap (λ (node : Node). node.kind) (value_entry n e i h)
 
   -- one line more, whose counts are those of the node's parts
-  next_line : WellFormed n → {work : List ℕ} (rest : List ℕ) {i settled glitch : ℕ} → work ≡ work_bytes (families n) ++ rest → i < value.count
-      → settled ≡ length (family_at work (2 * i)) → glitch ≡ length (family_at work (2 * i + 1))
+  next_line : WellFormed n → {work : List ℕ} (rest : List ℕ) {i p q settled glitch : ℕ} → work ≡ work_bytes (families n) ++ rest → i < value.count
+      → p ≡ 2 * i + 0 → q ≡ 2 * i + 1 → settled ≡ length (family_at work p) → glitch ≡ length (family_at work q)
       → first_lines n i ++ line (decimal i ∷ kind_name (get_or n.nodes i (input 0)) ∷ decimal settled ∷ decimal glitch ∷ []) ≡ first_lines n (i + 1)
-  next_line formed rest {i} w h s g =
+  next_line formed rest {i} {p} w h first second s g =
       let there : i < length n.nodes = omega (arith, value_count n e) in
-      rw (s, g, w, settled_size n formed rest i there, glitch_size n formed rest i there) (sym (first_more n i there))
+      let even : p ≡ 2 * i = omega (arith, first) in
+      rw (s, g, even, second, w, settled_size n formed rest i there, glitch_size n formed rest i there) (sym (first_more n i there))
 
   -- and where the count is reached, all lines
   all_lines : {i : ℕ} → i ≤ value.count → value.count ≤ i → first_lines n i ≡ node_lines 0 n.nodes (families n)
@@ -57,7 +58,7 @@ loop-i-preserved c = (
   omega arith,
   λ n rest f e w.
       let few : c.loop-i.i < c.args.netlist.count = omega arith in
-      appended_as (next_line n e f rest w few c.size-settled.ensures c.size-glitch.ensures)
+      appended_as (next_line n e f rest w few c.part.ensures.at c.part-in-loop-i.ensures.at c.size-settled.ensures c.size-glitch.ensures)
       (appended_more (c.loop-i.invariant.2 n rest f e w) (c.put_node-end.ensures.appended _ (ap (λ (node : Node). node.kind) (get_or-take _ _ _ _ few) ∙ kind_at n e _ few))),
 )
 

@@ -26,38 +26,36 @@ module _ {value : Value.Netlist} (f : Formed value) where
 
   -- what they hold once the families of all nodes are written
   in_parts : (n : Netlist) → value ≡ flat_of n → (work rest : List ℕ) (i A : ℕ) → i < value.count → work ≡ work_bytes (families n) ++ rest
-      → (member A (family_at work (2 * i)) ≡ member A (families_at n i).settled)
+      → (member A (family_at work (2 * i + 0)) ≡ member A (families_at n i).settled)
       × (member A (family_at work (2 * i + 1)) ≡ member A (families_at n i).glitch)
   in_parts n e work rest i A h w =
       let formed = well_formed f n e in
       let l : i < length n.nodes = omega (arith, value_count n e) in
-      rw w ((settled_there n formed rest i l).same A, (glitch_there n formed rest i l).same A)
+      let even : 2 * i + 0 ≡ 2 * i = omega arith in
+      rw (even, w) ((settled_there n formed rest i l).same A, (glitch_there n formed rest i l).same A)
 
 pub all_families-requires : goal.all_families-requires
 all_families-requires c = all_ready c.requires.0 _ (length-replicate {A = ℕ} most_work 0)
 
-pub overflow_mul-node : goal.overflow_mul-node
-overflow_mul-node c = omega (arith, few_nodes c.requires.0)
+pub part-requires : goal.part-requires
+part-requires c = omega (arith, few_nodes c.requires.0)
+
+pub part-requires-2 : goal.part-requires-2
+part-requires-2 c = omega (arith, few_nodes c.requires.0)
 
 pub holds-settled-requires : goal.holds-settled-requires
 holds-settled-requires c =
     let pre = c.requires in
-    (has_part pre.0 _ _ _ pre.1 (omega arith) (search rules), pre.2)
-
-pub overflow_mul-node-2 : goal.overflow_mul-node-2
-overflow_mul-node-2 c = omega (arith, few_nodes c.requires.0)
-
-pub overflow_add-node : goal.overflow_add-node
-overflow_add-node c = omega (arith, few_nodes c.requires.0)
+    (has_part pre.0 _ _ _ pre.1 c.part.ensures.low (search rules), pre.2)
 
 pub holds-glitch-requires : goal.holds-glitch-requires
 holds-glitch-requires c =
     let pre = c.requires in
-    (has_part pre.0 _ _ _ pre.1 (omega arith) (search rules), pre.2)
+    (has_part pre.0 _ _ _ pre.1 c.part-2.ensures.low (search rules), pre.2)
 
 pub returns : goal.returns
 returns c =
     let pre = c.requires in
     λ n e.
     let (s, g) = in_parts pre.0 n e _ _ _ _ pre.1 (c.all_families.ensures n e) in
-    (refl, c.holds-settled.ensures ∙ s, c.holds-glitch.ensures ∙ g)
+    (refl, rw c.part.ensures.at at c.holds-settled.ensures ∙ s, rw c.part-2.ensures.at at c.holds-glitch.ensures ∙ g)
