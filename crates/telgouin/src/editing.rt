@@ -2,11 +2,9 @@
 // writes the files that lines name.
 ghost use Rattle.std.specs.Prelude.{◌≡◌, Ok, true, List, ℕ, ◌+◌, ◌≤◌, ◌<◌, length, take};
 ghost use Rattle.rules.specs.Records as Records;
-ghost use Rattle.rules.specs.Records.{most_bytes};
 ghost use Rattle.rules.specs.Families.{findings};
 ghost use Rattle.rules.specs.Checks.{answered};
 ghost use Rattle.checker.specs.Work.{replied};
-ghost use Rattle.write_words.specs.Worded.{most_words};
 ghost use Rattle.held_blocks.specs.Held.{IsHeld};
 ghost use Rattle.edit_turns.specs.Turns.{Standing, failed};
 ghost use Rattle.edit_turns.specs.Meaning.{Stands};
@@ -137,32 +135,6 @@ fn say_told(ask: Ask, line: &[u8], reply: Result<Answer, Refusal>, classes: [u8;
 
 // ---- the block as it is now
 
-// Writes the first so many bytes to a file: whether it could.
-fn write_first<R: Files<File = File> + RandomSource + Alloc>(
-    rt: &R,
-    name: &[u8],
-    bytes: &[u8; MOST_WRITTEN],
-    count: usize,
-) -> bool
-    requires { count ≤ most_bytes }
-{
-    let whole: &[u8] = bytes;
-    file_writes::write_file(rt, name, &whole[..count])
-}
-
-// The same of a text.
-fn write_text<R: Files<File = File> + RandomSource + Alloc>(
-    rt: &R,
-    name: &[u8],
-    text: &[u8; MOST_WORDS],
-    count: usize,
-) -> bool
-    requires { count ≤ most_words }
-{
-    let whole: &[u8] = text;
-    file_writes::write_file(rt, name, &whole[..count])
-}
-
 // Writes the block to a file, in words where the file's name says so: whether it could.
 fn write_block<R: Files<File = File> + RandomSource + Alloc>(
     rt: &R,
@@ -172,19 +144,18 @@ fn write_block<R: Files<File = File> + RandomSource + Alloc>(
     if has_words(name) {
         let mut text = [0u8; MOST_WORDS];
         let count = write_words::word_netlist(netlist, &mut text);
-        return write_text(rt, name, &text, count);
+        return file_writes::write_file(rt, name, &text[..count]);
     }
     let mut bytes = [0u8; MOST_WRITTEN];
     let count = write_bytes::write_netlist(netlist, &mut bytes);
-    write_first(rt, name, &bytes, count)
+    file_writes::write_file(rt, name, &bytes[..count])
 }
 
 // Writes the block to a file; where it could not, the turn is at fault.
 fn write<R: Files<File = File> + RandomSource + Alloc>(rt: &R, turn: Turn, name: &[u8]) -> Turn
     ensures { Wrote turn result }
 {
-    let netlist = turn.netlist;
-    if write_block(rt, name, netlist) {
+    if write_block(rt, name, turn.netlist) {
         return turn;
     }
     say(b"expected a file that can be written, found: ");
@@ -299,9 +270,8 @@ fn unreadable(turn: Turn) -> Taken
     ensures { (s : Standing) (work : List ℕ) → Stands s turn work → Stands (failed s) result.turn work }
 {
     say(b"expected edits that can be read, found: a read that failed\n");
-    let next = edit_turns::at_fault(turn);
     Taken {
-        turn: next,
+        turn: edit_turns::at_fault(turn),
         more: false,
     }
 }
@@ -310,12 +280,10 @@ fn unreadable(turn: Turn) -> Taken
 fn long_line(turn: Turn, line: &[u8; MOST_LINE]) -> Taken
     ensures { (s : Standing) (work : List ℕ) → Stands s turn work → Stands (failed s) result.turn work }
 {
-    let whole: &[u8] = line;
     say(b"expected add RECORD, remove NODE, list, write OUT or quit, found: ");
-    say_found(whole);
-    let next = edit_turns::at_fault(turn);
+    say_found(line);
     Taken {
-        turn: next,
+        turn: edit_turns::at_fault(turn),
         more: true,
     }
 }
@@ -331,8 +299,7 @@ fn obey_first<R: Files<File = File> + RandomSource + Alloc>(
     requires { count ≤ 4097 }
     ensures { Obeyed (take count line.now) turn result.turn work.old work.new }
 {
-    let whole: &[u8] = line;
-    obey(rt, turn, &whole[..count], work)
+    obey(rt, turn, &line[..count], work)
 }
 
 // The next line, obeyed.
@@ -365,21 +332,17 @@ fn step<R: Files<File = File> + RandomSource + Alloc, I: Read>(
     ensures left { result.left + 1 ≡ run.left }
     ensures more { result.more ≡ true → 0 < result.left }
 {
-    let turn = run.turn;
     let left = run.left - 1;
     if left == 0 {
-        let taken = unreadable(turn);
-        let turn = taken.turn;
         return Run {
-            turn,
+            turn: unreadable(run.turn).turn,
             left,
             more: false,
         };
     }
-    let taken = take_line(rt, input, turn, work);
-    let turn = taken.turn;
+    let taken = take_line(rt, input, run.turn, work);
     Run {
-        turn,
+        turn: taken.turn,
         left,
         more: taken.more,
     }

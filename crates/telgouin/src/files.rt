@@ -1,12 +1,12 @@
 // The arguments, and the file that holds the block: what is read here is all that a command is given.
-ghost use Rattle.std.specs.Prelude.{◌≡◌, ◌+◌, ◌<◌};
+ghost use Rattle.std.specs.Prelude.{◌≡◌, ◌+◌, ◌<◌, get_or};
 ghost use Rattle.io.specs.Counts.{IsPrefixLen};
 ghost use Rattle.rules.specs.Paper.{number_of, place_of};
 ghost use Rattle.telgouin.specs.Files.{SameBehind, FrontRead, FromFile, AsBytes, has_words, line_in};
 
 use desk::say::{say, say_fault, say_found, say_no_number, say_number};
 use read_words::{BlockSize, MOST_BLOCK, MOST_TEXT};
-use rules::Refusal;
+use rules::{Reason, Refusal};
 use std::env::FillError;
 use std::fs;
 use std::rt::{Env, Files};
@@ -249,22 +249,37 @@ pub fn read_block<R: Env + Files, I: std::io::Read>(
     read_bytes(input, &path[..length], bytes)
 }
 
+// The line of the record at a place, and the last one where there is no such record.
+fn line_at(lines: &[usize], place: usize, last: usize) -> usize
+    ensures { result ≡ get_or lines.now place last }
+{
+    lines.get(place).copied().unwrap_or(last)
+}
+
 // The line of a text in words that a refused record stands on, where the text has so many lines: with no end record it
-// is the last line. 0 for a block that is given as bytes, and for a refusal that is of no record, from 10 on.
+// is the last line. 0 for a block that is given as bytes, and for a refusal that is of no record.
 pub fn line_of(refusal: Refusal, lines: &[usize; MOST_BLOCK], last: usize) -> usize
     ensures { result ≡ line_in (number_of refusal) (place_of refusal) lines.now last }
 {
-    let number = refusals::number_of(refusal);
-    if (last == 0) | (number > 9) {
+    if last == 0 {
         return 0;
     }
-    if number == 8 {
-        return last;
+    match refusal.reason {
+        Reason::NoEnd => last,
+        Reason::UnknownKind
+        | Reason::LateVariable
+        | Reason::OverLimit
+        | Reason::CutShort
+        | Reason::UnknownClass
+        | Reason::UndeclaredSet
+        | Reason::BadOperand
+        | Reason::BytesAfterEnd => line_at(lines, refusal.place, last),
+        Reason::FewEntries
+        | Reason::ShortWork
+        | Reason::NoSuchNode
+        | Reason::UndeclaredBit
+        | Reason::StillNamed
+        | Reason::TooManySteps
+        | Reason::NotInFamily => 0,
     }
-    let all: &[usize] = lines;
-    let place = refusal.place;
-    if place < all.len() {
-        return all[place];
-    }
-    last
 }

@@ -8,7 +8,7 @@ use Rattle.telgouin.proofs.editing.step.Goals as goal
 pub returns-then-left-eq0 : goal.returns-then-left-eq0
 unfolding after_event
 returns-then-left-eq0 g c = record {
-  taken = record { event = unread; stands = λ s stands. c.unreadable-taken.ensures s _ stands };
+  taken = record { event = unread; stands = λ s stands. c.unreadable.ensures s _ stands };
   left = omega arith;
   more = λ more. absurd (false≢true more);
 }
