@@ -5,12 +5,15 @@
 
 ghost use Rattle.std.specs.Prelude.{◌≡◌, [], List, ℕ, ◌+◌, ◌≤◌, ◌<◌, min, length, get_or, set, find, MatchOption, MatchResult};
 ghost use Rattle.std.proofs.lemmas.List.Edits.{sets};
-ghost use Rattle.rules.specs.Records.{Kind, kind_number, Record};
+ghost use Rattle.rules.specs.Records as Records;
+ghost use Rattle.rules.specs.Records.{kind_number, variable, Record};
+ghost use Rattle.netlists.specs.Kinds.{byte_of, class_in};
 ghost use Rattle.scanner.specs.Words.{words, same};
 ghost use Rattle.read_words.specs.Words.{says, wrong, Said, alone, with_numbers, operand_in, with_operands};
 ghost use Rattle.read_words.specs.Words.{with_variables, forms, read_by, record_in};
 ghost use Rattle.read_words.specs.Meaning.{name_of, form_by, reads_of, read_as, IsRecord, Tells, TellsRecord, TellsBlock};
 
+use netlists::{Class, Kind};
 use rules::MOST_BODY;
 use scanner::{count_words, next_word, number_below, word_at};
 
@@ -122,6 +125,14 @@ fn alone_record(numbers: &[u8], given: RecordBytes) -> Result<RecordBytes, Fault
     Ok(given)
 }
 
+// A variable, which has no number behind its class.
+fn variable_record(numbers: &[u8], class: Class) -> Result<RecordBytes, Fault>
+    ensures { Tells result (alone (variable (class_in class)) (words numbers.now)) }
+{
+    let bytes = [Kind::Variable.byte(), class.byte(), 0];
+    alone_record(numbers, RecordBytes { bytes, size: 2 })
+}
+
 // An input: its variables, as the sum of 2 to the power v over its variables v.
 fn input_record(numbers: &[u8]) -> Result<RecordBytes, Fault>
     ensures { Tells result (with_variables 0 (words numbers.now)) }
@@ -139,19 +150,21 @@ fn input_record(numbers: &[u8]) -> Result<RecordBytes, Fault>
     }
     let [low, high] = set.to_le_bytes();
     Ok(RecordBytes {
-        bytes: [2, low, high],
+        bytes: [Kind::Input.byte(), low, high],
         size: 3,
     })
 }
 
-// A gate or a register: as many numbers as its kind has operands. The kind is the byte that it puts.
-fn gate_record(numbers: &[u8], kind: u8) -> Result<RecordBytes, Fault>
-    ensures { (own : Kind) → kind ≡ kind_number own → Tells result (with_operands own (words numbers.now)) }
+// A gate or a register: as many numbers as its kind has operands.
+fn gate_record(numbers: &[u8], kind: Kind) -> Result<RecordBytes, Fault>
+    ensures { (own : Records.Kind) → byte_of kind ≡ kind_number own
+        → Tells result (with_operands own (words numbers.now)) }
 {
-    let count = netlists::operand_count(kind);
+    let byte = kind.byte();
+    let count = netlists::operand_count(byte);
     has_numbers(numbers, count)?;
     let mut bytes = [0u8; MOST_RECORD];
-    bytes[0] = kind;
+    bytes[0] = byte;
     for j in 0..count {
         bytes[1 + j] = operand_at(numbers, j).ok_or(Fault::Operand)?;
     }
@@ -173,12 +186,12 @@ pub fn word_of(form: RecordForm) -> &'static [u8]
         RecordForm::Secret => b"secret",
         RecordForm::Mask => b"mask",
         RecordForm::Public => b"public",
-        RecordForm::Input => listing_lines::name_of(2),
-        RecordForm::Not => listing_lines::name_of(3),
-        RecordForm::Xor => listing_lines::name_of(4),
-        RecordForm::And => listing_lines::name_of(5),
-        RecordForm::Or => listing_lines::name_of(6),
-        RecordForm::Register => listing_lines::name_of(7),
+        RecordForm::Input => listing_lines::name_of(Kind::Input.byte()),
+        RecordForm::Not => listing_lines::name_of(Kind::Not.byte()),
+        RecordForm::Xor => listing_lines::name_of(Kind::Xor.byte()),
+        RecordForm::And => listing_lines::name_of(Kind::And.byte()),
+        RecordForm::Or => listing_lines::name_of(Kind::Or.byte()),
+        RecordForm::Register => listing_lines::name_of(Kind::Register.byte()),
     }
 }
 
@@ -204,37 +217,19 @@ fn record_by(form: RecordForm, numbers: &[u8]) -> Result<RecordBytes, Fault>
         RecordForm::End => alone_record(
             numbers,
             RecordBytes {
-                bytes: [0, 0, 0],
+                bytes: [Kind::End.byte(), 0, 0],
                 size: 1,
             },
         ),
-        RecordForm::Secret => alone_record(
-            numbers,
-            RecordBytes {
-                bytes: [1, 0, 0],
-                size: 2,
-            },
-        ),
-        RecordForm::Mask => alone_record(
-            numbers,
-            RecordBytes {
-                bytes: [1, 1, 0],
-                size: 2,
-            },
-        ),
-        RecordForm::Public => alone_record(
-            numbers,
-            RecordBytes {
-                bytes: [1, 2, 0],
-                size: 2,
-            },
-        ),
+        RecordForm::Secret => variable_record(numbers, Class::Secret),
+        RecordForm::Mask => variable_record(numbers, Class::Mask),
+        RecordForm::Public => variable_record(numbers, Class::Public),
         RecordForm::Input => input_record(numbers),
-        RecordForm::Not => gate_record(numbers, 3),
-        RecordForm::Xor => gate_record(numbers, 4),
-        RecordForm::And => gate_record(numbers, 5),
-        RecordForm::Or => gate_record(numbers, 6),
-        RecordForm::Register => gate_record(numbers, 7),
+        RecordForm::Not => gate_record(numbers, Kind::Not),
+        RecordForm::Xor => gate_record(numbers, Kind::Xor),
+        RecordForm::And => gate_record(numbers, Kind::And),
+        RecordForm::Or => gate_record(numbers, Kind::Or),
+        RecordForm::Register => gate_record(numbers, Kind::Register),
     }
 }
 

@@ -20,7 +20,7 @@ pub returns-in_err-has_numbers : goal.returns-in_err-has_numbers
 unfolding with_operands
 returns-in_err-has_numbers c own e =
     let p = err_from_is_err_and c.from_residual.result c.from_residual.ensures.1 in
-    let count = counted _ _ c.operand_count-count.ensures.value own e in
+    let count = counted _ _ c.operand_count-count.ensures.value own (c.byte-byte.ensures ∙ e) in
     rw (p.1, p.2) (rw count at c.in_err-has_numbers.ensures _)
 
 pub loop-j-init : goal.loop-j-init
@@ -32,7 +32,7 @@ returns-in_err-bytes c own e =
     let p = err_from_is_err_and c.from_residual-in_err-bytes.result c.from_residual-in_err-bytes.ensures.1 in
     let (none, fault) = no_value _ _ _ c.in_err-bytes.ensures.value in
     let many = c.in_ok-has_numbers.ensures in
-    let count = counted _ _ c.operand_count-count.ensures.value own e in
+    let count = counted _ _ c.operand_count-count.ensures.value own (c.byte-byte.ensures ∙ e) in
     rw (
       p.1,
       p.2,
@@ -54,7 +54,7 @@ loop-j-preserved c =
 
 pub returns : goal.returns
 returns c own e =
-    let count = counted _ _ c.operand_count-count.ensures.value own e in
+    let count = counted _ _ c.operand_count-count.ensures.value own (c.byte-byte.ensures ∙ e) in
     let many = c.in_ok-has_numbers.ensures in
     let all : c.loop-j.j ≡ c.operand_count-count.result = omega arith in
-    rw (c.loop-j.invariant.0, ← all) (all_operands own _ _ _ e (all ∙ count) (many ∙ sym all) c.loop-j.invariant.1)
+    rw (c.loop-j.invariant.0, ← all) (all_operands own _ _ _ (c.byte-byte.ensures ∙ e) (all ∙ count) (many ∙ sym all) c.loop-j.invariant.1)

@@ -10,5 +10,5 @@ use Rattle.read_words.proofs.gate_record.Given as goal
 
 abbrev pub invariant-loop-j : goal.invariant-loop-j
 invariant-loop-j l =
-    (l.bytes ≡ padded most_record 0 (l.kind ∷ map operand_in (take l.j (words l.numbers))))
+    (l.bytes ≡ padded most_record 0 (l.byte ∷ map operand_in (take l.j (words l.numbers))))
     × (not_below 256 (map operand_in (words l.numbers)) ≡ not_below 256 (map operand_in (drop l.j (words l.numbers))))

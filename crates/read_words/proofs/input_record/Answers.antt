@@ -54,4 +54,4 @@ pub returns : goal.returns
 returns c =
     let set = c.loop-word.set in
     let high : set / 256 % 256 ≡ set / 256 = mod-eq_of_lt (omega (arith, c.loop-word.invariant.1)) in
-    rw (c.loop-word.invariant.2 ∙ ap (with_variables set) c.in_default.ensures, c.to_le_bytes.ensures, high) (all_variables set)
+    rw (c.loop-word.invariant.2 ∙ ap (with_variables set) c.in_default.ensures, c.byte.ensures, c.to_le_bytes.ensures, high) (all_variables set)

@@ -1,6 +1,6 @@
 -- `read_words::record_by` meets its contract: each arm reads as the form that it is for. Assumes nothing.
 use Rattle.std.proofs.Common.{refl}
-use Rattle.rules.specs.Records.{secret, mask, public, NOT, XOR, AND, OR, register, end, variable, record_bytes, class_byte}
+use Rattle.rules.specs.Records.{NOT, XOR, AND, OR, register, end, record_bytes, class_byte}
 use Rattle.netlists.specs.Netlists.{padded}
 use Rattle.read_words.specs.Meaning.{reads_of, form_by}
 use Rattle.read_words.proofs.Records.{is_record}
@@ -8,19 +8,19 @@ use Rattle.read_words.proofs.record_by.Goals as goal
 
 pub returns-in-End : goal.returns-in-End
 unfolding reads_of form_by record_bytes class_byte padded
-returns-in-End c = rw c.in-End.is (c.alone_record.ensures end (is_record end _ _ refl refl))
+returns-in-End c = rw c.in-End.is (c.alone_record.ensures end (rw c.byte.ensures (is_record end _ _ refl refl)))
 
 pub returns-in-Secret : goal.returns-in-Secret
-unfolding reads_of form_by record_bytes class_byte padded
-returns-in-Secret c = rw c.in-Secret.is (c.alone_record-in-Secret.ensures (variable secret) (is_record (variable secret) _ _ refl refl))
+unfolding reads_of form_by
+returns-in-Secret c = rw c.in-Secret.is c.variable_record.ensures
 
 pub returns-in-Mask : goal.returns-in-Mask
-unfolding reads_of form_by record_bytes class_byte padded
-returns-in-Mask c = rw c.in-Mask.is (c.alone_record-in-Mask.ensures (variable mask) (is_record (variable mask) _ _ refl refl))
+unfolding reads_of form_by
+returns-in-Mask c = rw c.in-Mask.is c.variable_record-in-Mask.ensures
 
 pub returns-in-Public : goal.returns-in-Public
-unfolding reads_of form_by record_bytes class_byte padded
-returns-in-Public c = rw c.in-Public.is (c.alone_record-in-Public.ensures (variable public) (is_record (variable public) _ _ refl refl))
+unfolding reads_of form_by
+returns-in-Public c = rw c.in-Public.is c.variable_record-in-Public.ensures
 
 pub returns-in-Input : goal.returns-in-Input
 unfolding reads_of form_by
