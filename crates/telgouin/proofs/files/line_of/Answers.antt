@@ -22,32 +22,33 @@ returns-then-last-eq0 c = rw c.if-last-eq0.true refl
 
 pub returns-in-NoEnd : goal.returns-in-NoEnd
 returns-in-NoEnd c =
-    let start = c.args in let some = ne_eqb start.last 0 c.if-last-eq0.false in
-    told _ _ c.in-NoEnd.is start.refusal.place start.lines.now start.last _ some refl
+    let s = c.args in let some = ne_eqb s.last 0 c.if-last-eq0.false in
+    told _ _ c.in-NoEnd.is s.refusal.place s.lines.now s.last _ some refl
 
 pub returns-in-UnknownKind : goal.returns-in-UnknownKind
 returns-in-UnknownKind c =
-    let start = c.args in let some = ne_eqb start.last 0 c.if-last-eq0.false in
+    let s = c.args in let some = ne_eqb s.last 0 c.if-last-eq0.false in
+    let line = c.line_at.ensures in
     elim c.in-UnknownKind.is [
-      | inl is ↦ told _ _ is start.refusal.place start.lines.now start.last _ some c.line_at.ensures
-      | inr (inl is) ↦ told _ _ is start.refusal.place start.lines.now start.last _ some c.line_at.ensures
-      | inr (inr (inl is)) ↦ told _ _ is start.refusal.place start.lines.now start.last _ some c.line_at.ensures
-      | inr (inr (inr (inl is))) ↦ told _ _ is start.refusal.place start.lines.now start.last _ some c.line_at.ensures
-      | inr (inr (inr (inr (inl is)))) ↦ told _ _ is start.refusal.place start.lines.now start.last _ some c.line_at.ensures
-      | inr (inr (inr (inr (inr (inl is))))) ↦ told _ _ is start.refusal.place start.lines.now start.last _ some c.line_at.ensures
-      | inr (inr (inr (inr (inr (inr (inl is)))))) ↦ told _ _ is start.refusal.place start.lines.now start.last _ some c.line_at.ensures
-      | inr (inr (inr (inr (inr (inr (inr (is))))))) ↦ told _ _ is start.refusal.place start.lines.now start.last _ some c.line_at.ensures
+      | inl is ↦ told _ _ is s.refusal.place s.lines.now s.last _ some line
+      | inr (inl is) ↦ told _ _ is s.refusal.place s.lines.now s.last _ some line
+      | inr (inr (inl is)) ↦ told _ _ is s.refusal.place s.lines.now s.last _ some line
+      | inr (inr (inr (inl is))) ↦ told _ _ is s.refusal.place s.lines.now s.last _ some line
+      | inr (inr (inr (inr (inl is)))) ↦ told _ _ is s.refusal.place s.lines.now s.last _ some line
+      | inr (inr (inr (inr (inr (inl is))))) ↦ told _ _ is s.refusal.place s.lines.now s.last _ some line
+      | inr (inr (inr (inr (inr (inr (inl is)))))) ↦ told _ _ is s.refusal.place s.lines.now s.last _ some line
+      | inr (inr (inr (inr (inr (inr (inr is)))))) ↦ told _ _ is s.refusal.place s.lines.now s.last _ some line
     ]
 
 pub returns-in-FewEntries : goal.returns-in-FewEntries
 returns-in-FewEntries c =
-    let start = c.args in let some = ne_eqb start.last 0 c.if-last-eq0.false in
+    let s = c.args in let some = ne_eqb s.last 0 c.if-last-eq0.false in
     elim c.in-FewEntries.is [
-      | inl is ↦ told _ _ is start.refusal.place start.lines.now start.last _ some refl
-      | inr (inl is) ↦ told _ _ is start.refusal.place start.lines.now start.last _ some refl
-      | inr (inr (inl is)) ↦ told _ _ is start.refusal.place start.lines.now start.last _ some refl
-      | inr (inr (inr (inl is))) ↦ told _ _ is start.refusal.place start.lines.now start.last _ some refl
-      | inr (inr (inr (inr (inl is)))) ↦ told _ _ is start.refusal.place start.lines.now start.last _ some refl
-      | inr (inr (inr (inr (inr (inl is))))) ↦ told _ _ is start.refusal.place start.lines.now start.last _ some refl
-      | inr (inr (inr (inr (inr (inr (is)))))) ↦ told _ _ is start.refusal.place start.lines.now start.last _ some refl
+      | inl is ↦ told _ _ is s.refusal.place s.lines.now s.last _ some refl
+      | inr (inl is) ↦ told _ _ is s.refusal.place s.lines.now s.last _ some refl
+      | inr (inr (inl is)) ↦ told _ _ is s.refusal.place s.lines.now s.last _ some refl
+      | inr (inr (inr (inl is))) ↦ told _ _ is s.refusal.place s.lines.now s.last _ some refl
+      | inr (inr (inr (inr (inl is)))) ↦ told _ _ is s.refusal.place s.lines.now s.last _ some refl
+      | inr (inr (inr (inr (inr (inl is))))) ↦ told _ _ is s.refusal.place s.lines.now s.last _ some refl
+      | inr (inr (inr (inr (inr (inr is))))) ↦ told _ _ is s.refusal.place s.lines.now s.last _ some refl
     ]
