@@ -1,5 +1,5 @@
 // `why`: a derivation, a line a step.
-ghost use Rattle.std.specs.Prelude.{◌≡◌, ◌+◌, ◌-◌, ◌<◌, ◌≤◌};
+ghost use Rattle.std.specs.Prelude.{◌≡◌, ◌+◌, ◌-◌, ◌<◌, ◌≤◌, set};
 ghost use Rattle.derivation_rules.specs.Derivations.{most_steps};
 ghost use Rattle.derivations.specs.Written.{Known};
 
@@ -24,7 +24,8 @@ impl Waiting {
     // Lets one more step wait.
     fn push(&mut self, depth: usize)
         requires { self.old.count ≤ most_steps }
-        ensures { self.new.count ≡ self.old.count + 1 }
+        ensures count { self.new.count ≡ self.old.count + 1 }
+        ensures depths { self.new.depths ≡ set self.old.depths self.old.count depth }
     {
         self.depths[self.count] = depth;
         self.count += 1;

@@ -15,7 +15,7 @@ ghost use Rattle.edit_rules.specs.Edits.{judged_node, without_node};
 ghost use Rattle.edit_parts.specs.Parts.{offered_of, IsLowestUser, moved_down};
 
 use netlists::Netlist;
-use records::{Record, Spot};
+use records::Spot;
 use rules::{Node, Reason, Refusal};
 
 // ---- a new node
@@ -39,13 +39,11 @@ pub fn offered(bytes: &[u8], variables: usize, nodes: usize) -> Result<Node, Ref
         nodes,
         here: nodes,
     };
-    let kind = records::judge(spot, own)?;
-    if read_bytes::size_of(kind) < bytes.len() {
+    records::judge(spot, own)?;
+    if read_bytes::size_of(own.kind) < bytes.len() {
         return Err(Reason::BytesAfterEnd.at(nodes));
     }
-    // Stored straight from the other struct, an array has no proof.
-    let body = own.body;
-    Ok(read_bytes::entry_of(Record { kind, body }))
+    Ok(read_bytes::entry_of(own))
 }
 
 // ---- a node removed

@@ -106,7 +106,15 @@ pub fn begin(bytes: &[u8], work: &mut [u8; MOST_WORK]) -> Told
         Stands (begun n) result.turn work.new }
     ensures refused { (k p : ℕ) → reply_of result.reply ≡ refused k p → result.turn.faulty ≡ true }
 {
-    begin_with(held_blocks::open_held(bytes, work))
+    let opened = held_blocks::open_held(bytes, work);
+    begin_with(match opened.reply {
+        Err(refusal) => Err(refusal),
+        Ok(answer) => Ok(Examined {
+            answer,
+            netlist: opened.netlist,
+            marks: opened.marks,
+        }),
+    })
 }
 
 // ---- a line

@@ -3,18 +3,20 @@
 use Rattle.std.specs.Prelude.{Result, Ok, Err}
 use Prim.Native.Nat.{ℕ}
 use mathlib.Core.Path.{◌≡◌, refl}
-use mathlib.Core.List.{List}
+use mathlib.Core.List.{List, []}
 use lib.ListN.{length}
 use Rattle.rules.specs.declared.Refusal.{Refusal}
-use Rattle.rules.specs.Records.{Netlist}
-use Rattle.rules.specs.Slices.{filled, work_after}
+use Rattle.rules.specs.Records.{Netlist, empty}
+use Rattle.rules.specs.Families as Families
+use Rattle.rules.specs.Families.{families, layer_marks}
+use Rattle.rules.specs.Slices.{work_bytes, filled, work_after}
 use Rattle.rules.specs.Checks.{Outcome, answered, refused, and_then, admitted}
-use Rattle.rule_laws.proofs.Reading.{read_well_formed}
+use Rattle.rule_laws.proofs.Reading.{empty_formed, read_well_formed}
 use Rattle.rule_laws.proofs.Room.{admitted_says}
 use Rattle.netlists.specs.declared.Netlist as Value
 use Rattle.netlists.specs.Netlists.{flat_of, kept}
 use Rattle.marks.specs.declared.Marks.{Marks}
-use Rattle.marks.specs.Marks.{marks_of}
+use Rattle.marks.specs.Marks.{marks_in, marks_of}
 use Rattle.checker.specs.declared.Examined.{Examined}
 use Rattle.checker.specs.Work.{replied, Examines}
 use Rattle.edit_rules.specs.Edits.{Edit, edited, otherwise, netlist_after, reply_after}
@@ -22,18 +24,34 @@ use Rattle.edit_rules.proofs.Kept.{made, written_families}
 use Rattle.edit_steps.specs.Changes.{Changes}
 use Rattle.held_blocks.specs.Held.{IsHeld}
 
--- a block that is opened
+-- of no nodes, no node is marked
+pub none_marked : marks_of empty ≡ marks_in [] []
+unfolding marks_of layer_marks Families.marks
+none_marked = refl
+
+-- a block that is opened, and the one of no nodes where it is refused
 pub opened_held : (bytes : List ℕ) (entries : ℕ) (value : Value.Netlist) (marks : Marks) (before after : List ℕ)
     → let o = admitted bytes entries (length before) in
-    value ≡ flat_of (kept o) → marks ≡ marks_of (kept o) → after ≡ work_after bytes entries before → (n : Netlist) → o ≡ answered n → IsHeld n value marks after
-unfolding kept work_after
-opened_held bytes entries value marks before after v m w n is =
-    record {
-      obeys = read_well_formed bytes n (admitted_says bytes entries (length before) n is).is_read;
-      its_value = rw is at v;
-      its_marks = rw is at m;
-      families = rw (w, is) (written_families n before);
-    }
+    value ≡ flat_of (kept o) → marks ≡ marks_of (kept o) → after ≡ work_after bytes entries before → IsHeld (kept o) value marks after
+unfolding kept work_after filled
+opened_held bytes entries value marks before after v m w = go (admitted bytes entries (length before)) refl v m w
+  where
+    go : (o : Outcome Netlist) → admitted bytes entries (length before) ≡ o → value ≡ flat_of (kept o) → marks ≡ marks_of (kept o)
+        → after ≡ filled (λ n. work_bytes (families n)) o before → IsHeld (kept o) value marks after
+    go (answered n) is v m w =
+        record {
+          obeys = read_well_formed bytes n (admitted_says bytes entries (length before) n is).is_read;
+          its_value = v;
+          its_marks = m;
+          families = rw w (written_families n before);
+        }
+    go (refused k p) is v m w =
+        record {
+          obeys = empty_formed;
+          its_value = v;
+          its_marks = m;
+          families = written_families empty before;
+        }
 
 -- and one that is edited
 module _ {n : Netlist} {value : Value.Netlist} {marks : Marks} {before after : List ℕ} (held : IsHeld n value marks before)

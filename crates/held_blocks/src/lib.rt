@@ -1,27 +1,28 @@
 // An open block held by value: its netlist and its marks, beside the work bytes that hold its families. What opening
-// gives where it is not refused is a block that is held, and so is what an edit gives, made or refused, so that its
-// holder need not look at the reply to an edit to go on. Of lent slices it touches the work bytes alone. `edit_turns` uses it, and through that the program.
+// gives is a block that is held, of no nodes where it is refused, and so is what an edit gives, made or refused, so that
+// its holder need not look at the reply to go on. Of lent slices it touches the work bytes alone. `edit_turns` uses it,
+// and through that the program.
 #![tactic(auto)]
 
 ghost use Rattle.std.specs.Prelude.{◌≡◌, length};
 ghost use Rattle.rules.specs.Records as Records;
 ghost use Rattle.rules.specs.Records.{most_nodes};
 ghost use Rattle.rules.specs.Slices.{reply};
-ghost use Rattle.rules.specs.Checks.{answered, admitted};
+ghost use Rattle.rules.specs.Checks.{admitted};
 ghost use Rattle.rules.specs.Paper.{reply_of};
-ghost use Rattle.checker.specs.Work.{replied, kept_netlist, kept_marks};
+ghost use Rattle.netlists.specs.Netlists.{kept};
 ghost use Rattle.edit_rules.specs.Edits.{netlist_after, reply_after};
 ghost use Rattle.edit_rules.specs.Meaning.{edit_of};
 ghost use Rattle.held_blocks.specs.Held.{IsHeld};
 
-use checker::Examined;
 use edit_rules::Edit;
 use edit_steps::Loaded;
 use marks::Marks;
 use netlists::Netlist;
 use rules::{Answer, MOST_NODES, Refusal};
 
-// What an edit gives: the reply, and the netlist and its marks as they then are, which there are on a refusal too.
+// What opening or an edit gives: the reply, and the netlist and its marks as they then are, which there are on a refusal
+// too.
 #[derive(Clone, Copy)]
 pub struct HeldBlock {
     pub reply: Result<Answer, Refusal>,
@@ -29,14 +30,23 @@ pub struct HeldBlock {
     pub marks: Marks,
 }
 
-// Opens a block: the refusal, or the answer, and the netlist and its marks.
-pub fn open_held(bytes: &[u8], work: &mut [u8]) -> Result<Examined, Refusal>
-    ensures reply { replied result ≡ reply bytes.now most_nodes (length work.old) }
-    ensures held { (n : Records.Netlist) →
-        admitted bytes.now most_nodes (length work.old) ≡ answered n →
-        IsHeld n (kept_netlist result) (kept_marks result) work.new }
+// Opens a block: the reply, and the netlist and its marks, which are those of no nodes where the block is refused.
+pub fn open_held(bytes: &[u8], work: &mut [u8]) -> HeldBlock
+    ensures reply { reply_of result.reply ≡ reply bytes.now most_nodes (length work.old) }
+    ensures held { IsHeld (kept (admitted bytes.now most_nodes (length work.old))) result.netlist result.marks work.new }
 {
-    checker::examine(bytes, MOST_NODES, work)
+    match checker::examine(bytes, MOST_NODES, work) {
+        Err(refusal) => HeldBlock {
+            reply: Err(refusal),
+            netlist: netlists::no_records(),
+            marks: marks::no_marks(),
+        },
+        Ok(examined) => HeldBlock {
+            reply: Ok(examined.answer),
+            netlist: examined.netlist,
+            marks: examined.marks,
+        },
+    }
 }
 
 // Edits a block that is held: the reply, and the netlist and its marks as they then are, which on a refusal are those

@@ -12,7 +12,7 @@ ghost use Rattle.rules.specs.Slices.{node_of, entry};
 ghost use Rattle.netlists.specs.Netlists.{padded, blank, flat_of};
 ghost use Rattle.netlists.specs.Kinds.{byte_of, class_in, Numbers, Classes};
 
-use rules::{MOST_BODY, MOST_NODES, MOST_VARIABLES, Node};
+use rules::{LAST_KIND, MOST_BODY, MOST_NODES, MOST_VARIABLES, Node};
 
 // The kinds of record, each with its number: the end, a variable, and the kinds of node.
 #[derive(Clone, Copy, PartialEq, Eq)]
@@ -37,6 +37,9 @@ impl TryFrom<u8> for Kind {
     ghost try_from_gives = { Numbers };
 
     fn try_from(number: u8) -> Result<Self, UnknownKind> {
+        if usize::from(number) > LAST_KIND {
+            return Err(UnknownKind(number));
+        }
         match number {
             0 => Ok(Kind::End),
             1 => Ok(Kind::Variable),
@@ -45,8 +48,7 @@ impl TryFrom<u8> for Kind {
             4 => Ok(Kind::Xor),
             5 => Ok(Kind::And),
             6 => Ok(Kind::Or),
-            7 => Ok(Kind::Register),
-            _ => Err(UnknownKind(number)),
+            _ => Ok(Kind::Register),
         }
     }
 }

@@ -83,13 +83,12 @@ pub fn look(
     }
     let p = Layer::Glitch.part(i);
     let q = Layer::Glitch.part(j);
-    let set = pair_tests::pair_set(first, p, second, q, terms.classes);
-    Search {
-        found: match set {
-            Some(set) => Found::Pair(i, j, set),
-            None => Found::NoPair,
+    match pair_tests::pair_set(first, p, second, q, terms.classes) {
+        Some(set) => Search {
+            found: Found::Pair(i, j, set),
+            looked: looked + 1,
         },
-        looked: looked + 1,
+        None => no_pair(looked + 1),
     }
 }
 

@@ -15,7 +15,7 @@ ghost use Rattle.netlists.specs.Netlists.{flat_of, Formed};
 ghost use Rattle.read_bytes.specs.Reading.{found_of, found_at, Reads};
 
 use netlists::{Kind, Netlist, Operands};
-use records::{Record, Spot};
+use records::{Record, RecordBytes, Spot};
 use rules::{MOST_BODY, MOST_NODES, MOST_VARIABLES, Node, Reason, Refusal};
 
 // The most records of a file: the variables and nodes that there may be, and the end.
@@ -76,7 +76,7 @@ fn first_of(body: [u8; MOST_BODY], count: usize) -> [u8; MOST_BODY]
 }
 
 // The node by value that a record says. What its kind has none of is 0.
-pub fn entry_of(own: Record) -> Node
+fn entry_by(own: Record) -> Node
     ensures { (cell : Cell) → said (byte_of own.kind) own.body ≡ node cell → result ≡ entry cell }
 {
     let kind = own.kind.byte();
@@ -93,8 +93,20 @@ pub fn entry_of(own: Record) -> Node
     }
 }
 
+// The node by value that a record's bytes say; where they say none, a blank one.
+pub fn entry_of(own: RecordBytes) -> Node
+    ensures { (cell : Cell) → said own.kind own.body ≡ node cell → result ≡ entry cell }
+{
+    // Stored straight from the other struct, an array has no proof.
+    let body = own.body;
+    match Kind::try_from(own.kind) {
+        Ok(kind) => entry_by(Record { kind, body }),
+        Err(_) => netlists::blank_node(),
+    }
+}
+
 // How many bytes the record of a variable or node of this kind has: at most as many as the longest.
-pub fn size_of(kind: Kind) -> usize
+fn size_by(kind: Kind) -> usize
     ensures size { (body : List ℕ) → 0 < byte_of kind → result ≡ size (said (byte_of kind) body) }
     ensures few { result ≤ most_record }
 {
@@ -102,6 +114,17 @@ pub fn size_of(kind: Kind) -> usize
         Kind::Variable => 2,
         Kind::Input => 3,
         _ => 1 + netlists::operand_count(kind.byte()),
+    }
+}
+
+// The same by the number of the kind: at most as many as the longest record has, for any number.
+pub fn size_of(kind: u8) -> usize
+    ensures size { (body : List ℕ) → 0 < kind → kind ≤ last_kind → result ≡ size (said kind body) }
+    ensures few { result ≤ most_record }
+{
+    match Kind::try_from(kind) {
+        Ok(kind) => size_by(kind),
+        Err(_) => 1,
     }
 }
 
@@ -126,11 +149,11 @@ pub fn read_from(start: Netlist, bytes: &[u8]) -> Result<Netlist, Refusal>
                 netlist.variables += 1;
             }
             _ => {
-                netlist.nodes[netlist.count] = entry_of(own);
+                netlist.nodes[netlist.count] = entry_by(own);
                 netlist.count += 1;
             }
         }
-        reader.here += size_of(own.kind);
+        reader.here += size_by(own.kind);
     }
     Err(Reason::NoEnd.at(bytes.len()))
 }

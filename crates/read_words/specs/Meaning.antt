@@ -1,6 +1,6 @@
 -- What the answers of this crate's functions tell of a line and of a text. Cited by the contracts of this crate.
 -- Assumes nothing.
-use Rattle.std.specs.Prelude.{ℕ, ◌≤◌, min, max, ◌≡◌, Option, Some, None, Result, Ok, Err, List, ◌++◌, length, take, drop}
+use Rattle.std.specs.Prelude.{ℕ, ◌≤◌, min, max, ◌≡◌, Option, Some, None, Result, Ok, Err, List, [], ◌++◌, length, get_or, take, drop}
 use Rattle.rules.specs.Records.{secret, mask, public, NOT, XOR, AND, OR, register, Record, end, variable, record_bytes, most_record}
 use Rattle.rules.specs.Listing as Listing
 use Rattle.rules.specs.Listing.{word, most_input}
@@ -11,7 +11,7 @@ use Rattle.read_words.specs.declared.LineFault.{LineFault}
 use Rattle.read_words.specs.declared.BlockSize.{BlockSize}
 use Rattle.read_words.specs.declared.RecordForm.{RecordForm}
 use Rattle.read_words.specs.declared.RecordBytes.{RecordBytes}
-use Rattle.read_words.specs.Words.{Said, nothing, says, wrong, alone, with_variables, with_operands, Form, form}
+use Rattle.read_words.specs.Words.{Said, nothing, says, wrong, alone, with_variables, with_operands, Form, form, forms}
 use Rattle.read_words.specs.Words.{BlockSaid, block, wrong_in, block_in}
 
 -- ---- a form
@@ -35,6 +35,13 @@ form_by RecordForm.Xor = form (Listing.name_of XOR) (with_operands XOR)
 form_by RecordForm.And = form (Listing.name_of AND) (with_operands AND)
 form_by RecordForm.Or = form (Listing.name_of OR) (with_operands OR)
 form_by RecordForm.Register = form (Listing.name_of register) (with_operands register)
+
+-- the form with this number; what is beyond the last has no word, and is no record
+abbrev pub no_form : Form
+no_form = form [] (λ numbers. wrong Fault.Record)
+
+unfoldable pub form_at : ℕ → Form
+form_at k = get_or forms k no_form
 
 -- what is read where a word has this form, or none
 abbrev pub read_as : Option RecordForm → List (List ℕ) → Said

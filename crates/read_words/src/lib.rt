@@ -11,7 +11,7 @@ ghost use Rattle.netlists.specs.Kinds.{byte_of, class_in};
 ghost use Rattle.scanner.specs.Words.{words, same};
 ghost use Rattle.read_words.specs.Words.{says, wrong, Said, alone, with_numbers, operand_in, with_operands};
 ghost use Rattle.read_words.specs.Words.{with_variables, forms, read_by, record_in};
-ghost use Rattle.read_words.specs.Meaning.{name_of, form_by, reads_of, read_as, IsRecord, Tells, TellsRecord, TellsBlock};
+ghost use Rattle.read_words.specs.Meaning.{name_of, form_by, form_at, reads_of, read_as, IsRecord, Tells, TellsRecord, TellsBlock};
 
 use netlists::{Class, Kind};
 use rules::MOST_BODY;
@@ -176,22 +176,37 @@ fn gate_record(numbers: &[u8], kind: Kind) -> Result<RecordBytes, Fault>
 
 // ---- the forms of a record
 
-// The word of a form.
-pub fn word_of(form: RecordForm) -> &'static [u8]
-    ensures named { result.now ≡ name_of (form_by form) }
+impl RecordForm {
+    // The word of a form.
+    pub fn word(self) -> &'static [u8]
+        ensures named { result.now ≡ name_of (form_by self) }
+        ensures short { length result.now ≤ 6 }
+    {
+        match self {
+            RecordForm::End => b"end",
+            RecordForm::Secret => b"secret",
+            RecordForm::Mask => b"mask",
+            RecordForm::Public => b"public",
+            RecordForm::Input => listing_lines::name_of(Kind::Input.byte()),
+            RecordForm::Not => listing_lines::name_of(Kind::Not.byte()),
+            RecordForm::Xor => listing_lines::name_of(Kind::Xor.byte()),
+            RecordForm::And => listing_lines::name_of(Kind::And.byte()),
+            RecordForm::Or => listing_lines::name_of(Kind::Or.byte()),
+            RecordForm::Register => listing_lines::name_of(Kind::Register.byte()),
+        }
+    }
+}
+
+// The word of the form with this number, from 0: its place among the forms. A number that is no form's has no letters.
+pub fn word_of(form: u8) -> &'static [u8]
+    ensures named { result.now ≡ name_of (form_at form) }
     ensures short { length result.now ≤ 6 }
 {
-    match form {
-        RecordForm::End => b"end",
-        RecordForm::Secret => b"secret",
-        RecordForm::Mask => b"mask",
-        RecordForm::Public => b"public",
-        RecordForm::Input => listing_lines::name_of(Kind::Input.byte()),
-        RecordForm::Not => listing_lines::name_of(Kind::Not.byte()),
-        RecordForm::Xor => listing_lines::name_of(Kind::Xor.byte()),
-        RecordForm::And => listing_lines::name_of(Kind::And.byte()),
-        RecordForm::Or => listing_lines::name_of(Kind::Or.byte()),
-        RecordForm::Register => listing_lines::name_of(Kind::Register.byte()),
+    let at = usize::from(form);
+    if at < FORMS.len() {
+        FORMS[at].word()
+    } else {
+        b""
     }
 }
 
@@ -199,7 +214,7 @@ pub fn word_of(form: RecordForm) -> &'static [u8]
 fn has_word(form: RecordForm, word: &[u8]) -> bool
     ensures { result ≡ same word.now (name_of (form_by form)) }
 {
-    scanner::is_word(word, word_of(form))
+    scanner::is_word(word, form.word())
 }
 
 // The form whose word this is.

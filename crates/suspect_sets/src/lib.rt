@@ -7,9 +7,8 @@
 ghost use Rattle.std.specs.Prelude.{◌≡◌, ◌&&◌, List, ◌<◌, ◌≤◌, IfSome};
 ghost use Rattle.rules.specs.Lists.{member};
 ghost use Rattle.rules.specs.Records as Records;
-ghost use Rattle.rules.specs.Records.{Cell, kind_of, most_variables, most_sets};
+ghost use Rattle.rules.specs.Records.{Cell, class_byte, kind_of, most_variables, most_sets};
 ghost use Rattle.rules.specs.Families.{suspect, tested, reported};
-ghost use Rattle.netlists.specs.Kinds.{class_in};
 ghost use Rattle.netlists.specs.Netlists.{flat_of};
 ghost use Rattle.families.specs.Parts.{HasPart, family_at};
 ghost use Rattle.suspect_sets.specs.Sets.{variables_of, ByClass, report_of};
@@ -24,15 +23,15 @@ pub struct Classes {
     pub masks: usize,
 }
 
-// The declared variables of a class, as a set.
-pub fn variables_of(netlist: Netlist, class: Class) -> usize
+// The declared variables of a class, which is given by its byte, as a set.
+pub fn variables_of(netlist: Netlist, class: u8) -> usize
     requires { netlist.variables ≤ most_variables }
-    ensures { (n : Records.Netlist) → netlist ≡ flat_of n →
-        result ≡ variables_of (class_in class) n.variables }
+    ensures { (n : Records.Netlist) (c : Records.Class) → netlist ≡ flat_of n → class ≡ class_byte c →
+        result ≡ variables_of c n.variables }
 {
     let mut set = 0;
     for v in 0..netlist.variables {
-        if netlist.classes[v] == class.byte() {
+        if netlist.classes[v] == class {
             set += 1 << v;
         }
     }
@@ -45,8 +44,8 @@ pub fn classes_of(netlist: Netlist) -> Classes
     ensures { (n : Records.Netlist) → netlist ≡ flat_of n → ByClass result n.variables }
 {
     Classes {
-        secrets: variables_of(netlist, Class::Secret),
-        masks: variables_of(netlist, Class::Mask),
+        secrets: variables_of(netlist, Class::Secret.byte()),
+        masks: variables_of(netlist, Class::Mask.byte()),
     }
 }
 

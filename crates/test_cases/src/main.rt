@@ -41,7 +41,7 @@
 // program does not understand it prints, as `not understood: ` and the line or the word.
 #![tactic(auto)]
 
-ghost use Rattle.std.specs.Prelude.{◌+◌, ◌*◌, ◌<◌, ◌≤◌};
+ghost use Rattle.std.specs.Prelude.{◌+◌, ◌*◌, ◌<◌, ◌≤◌, IfSome};
 ghost use Rattle.rules.specs.Records.{most_nodes};
 ghost use Rattle.rules.specs.Listing.{most_text};
 ghost use Rattle.families.specs.Parts.{HasPart};
@@ -153,7 +153,9 @@ fn cut(text: &[u8], letter: u8) -> Option<(&[u8], &[u8])> {
 }
 
 // The value of a digit, decimal or hexadecimal.
-fn digit_of(letter: u8) -> Option<u8> {
+fn digit_of(letter: u8) -> Option<u8>
+    ensures { IfSome result (λ digit. digit < 16) }
+{
     match letter {
         b'0'..=b'9' => Some(letter - b'0'),
         b'a'..=b'f' => Some(letter - b'a' + 10),

@@ -21,7 +21,7 @@ mod shapes;
 // it, and `trial` tries: the check with one probe, or with two, against the second checker; mask settings counted at
 // its nodes, at its pairs of nodes, or round its gates and registers. A trial gives the generator's state after it.
 // Gives what was seen.
-fn run<B, T>(blocks: usize, block: B, trial: T) -> Tally
+fn run<B, T>(second: &mut Second, blocks: usize, block: B, trial: T) -> Tally
 where
     B: Fn(u32, usize) -> Made,
     T: Fn(&mut Tally, u32, &[u8], &Second) -> u32,
@@ -32,12 +32,8 @@ where
     let mut seed = 1;
     for turn in 0..blocks {
         let made = block(seed, turn);
-        seed = trial(
-            &mut tally,
-            next(made.seed),
-            made.bytes(),
-            &work_out(made.bytes()),
-        );
+        work_out(made.bytes(), second);
+        seed = trial(&mut tally, next(made.seed), made.bytes(), second);
     }
     tally
 }
@@ -45,21 +41,25 @@ where
 // The last block of each count is a false alarm, which the families cannot know: a register that is always 0, the AND
 // of a mask and its opposite, holds back a secret, or the first of its three shares.
 fn main() {
+    let mut second = Second::empty();
+    let second = &mut second;
     print(b"against the second checker\n");
-    printed::one_probe(run(4000, shapes::one_probe, compare::one_probe));
+    printed::one_probe(run(second, 4000, shapes::one_probe, compare::one_probe));
     print(b"against counted mask settings\n");
-    let mut nodes = run(1500, shapes::for_nodes, counts::nodes);
+    let mut nodes = run(second, 1500, shapes::for_nodes, counts::nodes);
     let alarm =
         b"\x01\x00\x01\x01\x02\x03\x00\x02\x02\x00\x03\x01\x05\x01\x02\x07\x03\x04\x00\x04\x00";
-    counts::nodes(&mut nodes, 0, alarm, &work_out(alarm));
+    work_out(alarm, second);
+    counts::nodes(&mut nodes, 0, alarm, second);
     printed::nodes(nodes);
     print(b"against the second checker\n");
-    printed::two_probes(run(2000, shapes::two_probes, compare::two_probes));
+    printed::two_probes(run(second, 2000, shapes::two_probes, compare::two_probes));
     print(b"against counted mask settings\n");
-    let mut pairs = run(800, shapes::for_pairs, counts::pairs);
+    let mut pairs = run(second, 800, shapes::for_pairs, counts::pairs);
     let alarm =
         b"\x01\x00\x01\x01\x01\x01\x02\x02\x00\x02\x04\x00\x02\x07\x00\x03\x00\x05\x00\x03\x07\x04\x04\x05\x01\x07\x02\x00";
-    counts::pairs(&mut pairs, 0, alarm, &work_out(alarm));
+    work_out(alarm, second);
+    counts::pairs(&mut pairs, 0, alarm, second);
     printed::pairs(pairs);
-    printed::clusters(run(1000, shapes::for_clusters, clusters::clusters));
+    printed::clusters(run(second, 1000, shapes::for_clusters, clusters::clusters));
 }

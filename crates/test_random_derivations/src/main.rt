@@ -478,7 +478,8 @@ fn families_of(second: &Second) -> Families {
 
 // Tries every set of every node of a block, in both layers.
 fn try_block(tally: &mut Tally, bytes: &[u8]) {
-    let second = test_second_checker::work_out(bytes);
+    let mut second = Second::empty();
+    test_second_checker::work_out(bytes, &mut second);
     let families = families_of(&second);
     let case = Case {
         bytes,

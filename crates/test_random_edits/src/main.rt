@@ -304,7 +304,8 @@ fn try_families(tally: &mut Tally, work: Work, second: &Second, clear: bool) {
 
 // Compares what an edit gave with the second checker's, with the families where that is asked for.
 fn try_second(tally: &mut Tally, open: &Open, with_families: bool) {
-    let second = work_out(open.written.bytes());
+    let mut second = Second::empty();
+    work_out(open.written.bytes(), &mut second);
     let clear = open.reply.is_ok_and(|answer| answer.glitch.is_none());
     try_marks(tally, open, &second);
     count_if(tally, CLEAR, clear);

@@ -114,6 +114,23 @@ pub struct SecondBlock {
 }
 
 impl SecondBlock {
+    // A block of nothing.
+    fn empty() -> SecondBlock {
+        let none = SecondNode {
+            kind: Kind::End,
+            first: 0,
+            second: 0,
+            set: 0,
+        };
+        SecondBlock {
+            fault: None,
+            variables: 0,
+            classes: [0; 3],
+            count: 0,
+            nodes: [none; NODES],
+        }
+    }
+
     // Its nodes.
     pub fn nodes(&self) -> &[SecondNode] {
         &self.nodes[..self.count.min(NODES)]
@@ -267,20 +284,8 @@ impl Reader {
 
 // The block that a file holds, as far as it can be read.
 pub fn read(bytes: &[u8]) -> SecondBlock {
-    let none = SecondNode {
-        kind: Kind::End,
-        first: 0,
-        second: 0,
-        set: 0,
-    };
     let mut reader = Reader {
-        block: SecondBlock {
-            fault: None,
-            variables: 0,
-            classes: [0; 3],
-            count: 0,
-            nodes: [none; NODES],
-        },
+        block: SecondBlock::empty(),
         start: 0,
         partial: None,
         ended: false,
@@ -301,12 +306,11 @@ pub fn read(bytes: &[u8]) -> SecondBlock {
 
 // ---- families, as lists of sets
 
-// A family: its sets in the order in which they arise, and of each set whether it has come.
+// A family: its sets in the order in which they arise.
 #[derive(Clone, Copy)]
 pub struct List {
     length: usize,
     sets: [u16; SETS],
-    seen: [bool; SETS],
 }
 
 impl List {
@@ -315,7 +319,6 @@ impl List {
         List {
             length: 0,
             sets: [0; SETS],
-            seen: [false; SETS],
         }
     }
 
@@ -330,15 +333,24 @@ impl List {
     pub fn has(&self, set: usize) -> bool {
         self.sets().iter().any(|x| *x as usize == set)
     }
+}
 
+// A family that is being made, and of each set whether it has come.
+#[derive(Clone, Copy)]
+struct Growing {
+    list: List,
+    seen: [bool; SETS],
+}
+
+impl Growing {
     // Puts a set behind the others, unless it is there.
     fn add(&mut self, set: usize) {
         let set = set % SETS;
-        let at = self.length % SETS;
+        let at = self.list.length % SETS;
         if !self.seen[set] {
             self.seen[set] = true;
-            self.sets[at] = set as u16;
-            self.length = at + 1;
+            self.list.sets[at] = set as u16;
+            self.list.length = at + 1;
         }
     }
 
@@ -367,6 +379,15 @@ pub struct Second {
 }
 
 impl Second {
+    // What is worked out of a block of nothing.
+    pub fn empty() -> Second {
+        Second {
+            block: SecondBlock::empty(),
+            families: [[List::empty(); NODES]; 2],
+            words: [[0; WORDS]; NODES],
+        }
+    }
+
     // The family of a node, settled (layer 0) or glitch (layer 1).
     pub fn family(&self, layer: usize, i: usize) -> &List {
         &self.families[layer % 2][i % NODES]
@@ -377,7 +398,10 @@ impl Second {
         let first = self.family(layer, node.first);
         let second = self.family(layer, node.second);
         let glitch = layer > 0;
-        let mut list = List::empty();
+        let mut list = Growing {
+            list: List::empty(),
+            seen: [false; SETS],
+        };
         match node.kind {
             Kind::Input => list.add(node.set),
             Kind::Not => {
@@ -396,7 +420,7 @@ impl Second {
                 }
             }
         }
-        list
+        list.list
     }
 }
 
@@ -686,19 +710,19 @@ impl Second {
     }
 }
 
-// Reads a block, and works out its families, values and feeding points.
-pub fn work_out(bytes: &[u8]) -> Second {
+// Reads a block, and works out its families, values and feeding points, in place of those of another one. What is worked
+// out has 850,000 bytes: given back by value, it was copied several times a block, and the tests took thrice as long.
+pub fn work_out(bytes: &[u8], second: &mut Second) {
     let block = read(bytes);
-    let mut second = Second {
-        block,
-        families: [[List::empty(); NODES]; 2],
-        words: [[0; WORDS]; NODES],
-    };
+    second.block = block;
     for layer in 0..2 {
+        for list in second.families[layer].iter_mut() {
+            list.length = 0;
+        }
         for i in 0..block.count() {
             second.families[layer][i] = second.new_family(block.nodes[i], layer);
         }
     }
+    second.words = [[0; WORDS]; NODES];
     second.fill_words();
-    second
 }

@@ -48,7 +48,7 @@ fn put_class(text: &mut [u8], at: usize, class: u8) -> usize
         Appended text.old text.new at result (record_line (Records.variable c)) }
     ensures few { result ≤ at + most_variable_line }
 {
-    let end = put_word(text, at, read_words::word_of(form_of(class)));
+    let end = put_word(text, at, form_of(class).word());
     put_byte(text, end, b'\n')
 }
 

@@ -7,7 +7,7 @@ use mathlib.Core.List.{List}
 use lib.ListN.{length, get_or, drop}
 use Rattle.std.proofs.lemmas.Result.{err_from_is_err_and}
 use Rattle.rules.specs.declared.Node.{Node}
-use Rattle.rules.specs.Records.{Cell, node, said, size}
+use Rattle.rules.specs.Records.{Cell, size}
 use Rattle.rules.specs.Slices.{entry}
 use Rattle.rules.specs.Checks.{Outcome, answered, and_then}
 use Rattle.records.specs.declared.RecordBytes.{RecordBytes}
@@ -34,28 +34,22 @@ returns-then-own-lt2 c =
     let low = no_node _ _ _ _ _ _ c.if-bytes-gt0.true c.if-own-lt2.true in
     rw c.at.ensures (of-bytes _ _ _ _ _ c.bytes_at-own.ensures low)
 
-pub returns-in_err-kind : goal.returns-in_err-kind
-returns-in_err-kind c =
+pub returns-in_err-judge : goal.returns-in_err-judge
+returns-in_err-judge c =
     let p = err_from_is_err_and c.from_residual.result c.from_residual.ensures.1 in
-    let refuses = refused_next _ _ _ _ _ c.else-bytes-gt0.either _ _ c.in_err-kind.ensures.judged in
+    let refuses = refused_next _ _ _ _ _ c.else-bytes-gt0.either _ _ c.in_err-judge.ensures.judged in
     rw (p.1, p.2) (of-bytes _ _ _ _ _ c.bytes_at-own.ensures refuses)
-
--- the size of the kind that is told is that of the node
-sized : {total v n k told s : ℕ} {body : List ℕ} (x : FoundNext total v n k body) → told ≡ k
-    → ((own : List ℕ) → 0 < told → s ≡ size (said told own)) → s ≡ size (node x.cell)
-sized {body = body} x is size_is = size_is body (rw is x.above) ∙ rw is (ap size x.says)
 
 pub returns-then-size_of-bytes : goal.returns-then-size_of-bytes
 returns-then-size_of-bytes c =
-    let x = found_next _ _ _ _ _ c.else-bytes-gt0.either c.in_ok-kind.ensures.judged in
-    let long = sized x c.in_ok-kind.ensures.kind c.size_of.ensures.size in
+    let x = found_next _ _ _ _ _ c.else-bytes-gt0.either c.in_ok-judge.ensures.judged in
+    let long = c.size_of.ensures.size _ x.above x.known ∙ ap size x.says in
     rw c.at-then-size_of-bytes.ensures
     (of-bytes _ _ _ _ _ c.bytes_at-own.ensures (surplus_next _ _ _ _ _ x _ _ long c.if-size_of-bytes.true))
 
 pub returns : goal.returns
 returns c =
-    let x = found_next _ _ _ _ _ c.else-bytes-gt0.either c.in_ok-kind.ensures.judged in
-    let says = ap (λ (k : ℕ). said k c.bytes_at-own.result.body) c.in_ok-kind.ensures.kind ∙ x.says in
-    let long = sized x c.in_ok-kind.ensures.kind c.size_of.ensures.size in
+    let x = found_next _ _ _ _ _ c.else-bytes-gt0.either c.in_ok-judge.ensures.judged in
+    let long = c.size_of.ensures.size _ x.above x.known ∙ ap size x.says in
     of-bytes _ _ _ _ _ c.bytes_at-own.ensures
-    (ap answered (c.entry_of.ensures x.cell says) ∙ taken_next _ _ _ _ _ x _ _ long c.if-size_of-bytes.false)
+    (ap answered (c.entry_of.ensures x.cell x.says) ∙ taken_next _ _ _ _ _ x _ _ long c.if-size_of-bytes.false)

@@ -9,7 +9,7 @@ use native.Mathlib.Numerals.{add-one}
 use native.Mathlib.Omega.{arith}
 use lib.Bits.{bit_xor}
 use lib.ListN.{length, get_or, take}
-use lib.Seq.{take-suc, take_all, length-take-le}
+use lib.Seq.{take-suc, length-take-le, get_or-take}
 use Rattle.rules.specs.Records.{most_sets}
 use Rattle.rules.specs.Lists.{union}
 use Rattle.rules.specs.Families.{Family, product}
@@ -51,76 +51,79 @@ row start work next into sets others i has h e n =
     so_far = product (reversed (take i sets)) (reversed others)
 
 -- after the last row all sets were taken, and what was listed are both families
-ends : (work emptied after : List ℕ) (into : ℕ) (sets others : List ℕ) (F G : Family) (i : ℕ) → HasPart work into
-    → sets ≡ reversed F → others ≡ reversed G → emptied ≡ with_family work into [] → length sets ≤ i
-    → after ≡ partial emptied into sets (reversed others) i
+ends : (work emptied after : List ℕ) (into : ℕ) (sets others : List ℕ) (F G : Family) (rows columns : ℕ) → HasPart work into
+    → take rows sets ≡ reversed F → take columns others ≡ reversed G → emptied ≡ with_family work into []
+    → after ≡ partial emptied into sets (reversed (take columns others)) rows
     → after ≡ with_family work into (product F G)
-ends work emptied after into sets others F G i has f g e all a =
-    a ∙ rw (take_all i sets all, f, g, reversed_twice F, reversed_twice G, e) (with_twice work into [] (product F G) has)
+ends work emptied after into sets others F G rows columns has f g e a =
+    a ∙ rw (f, g, reversed_twice F, reversed_twice G, e) (with_twice work into [] (product F G) has)
 
 -- a list of a family's sets has at most 1,024
 few : (n : ℕ) (work : List ℕ) (part : ℕ) → n ≡ length (family_at work part) → n ≤ most_sets
 few n work part e = rw e (length_at _ _)
 
-pub slice_bounds-sets-end : goal.slice_bounds-sets-end
-slice_bounds-sets-end c = omega (arith, few _ _ _ c.list_sets-rows.ensures.count)
-
-pub slice_bounds-set-items-end : goal.slice_bounds-set-items-end
-slice_bounds-set-items-end c = sym (length-take-le _ _ (omega (arith, few _ _ _ c.list_sets-rows.ensures.count)))
-
-pub loop-set-init : goal.loop-set-init
-loop-set-init c = record {
+pub loop-i-init : goal.loop-i-init
+loop-i-init c = record {
   tried = omega arith;
   made =
-      begins c.args.work.now c.make_empty.new.work c.args.into (take c.list_sets-rows.result c.list_sets-rows.new.sets)
+      begins c.args.work.now c.make_empty.new.work c.args.into c.list_sets-rows.new.sets
       (reversed (take c.list_sets-columns.result c.list_sets-columns.new.sets)) c.requires.0 c.make_empty.ensures;
 }
 
+pub offset_bounds-sets-i : goal.offset_bounds-sets-i
+offset_bounds-sets-i c = omega (arith, few _ _ _ c.list_sets-rows.ensures.count)
+
+pub bounds-sets-i : goal.bounds-sets-i
+bounds-sets-i c = omega (arith, few _ _ _ c.list_sets-rows.ensures.count)
+
 pub slice_bounds-others-end : goal.slice_bounds-others-end
-slice_bounds-others-end c = omega (arith, few _ _ _ c.list_sets-columns.ensures.count)
+slice_bounds-others-end c = omega (arith, few _ _ _ c.list_sets-columns.ensures.count, few _ _ _ c.list_sets-rows.ensures.count)
 
 pub slice_bounds-try_row-end : goal.slice_bounds-try_row-end
-slice_bounds-try_row-end c = sym (length-take-le _ _ (omega (arith, few _ _ _ c.list_sets-columns.ensures.count)))
+slice_bounds-try_row-end c =
+    sym (length-take-le _ _ (omega (arith, few _ _ _ c.list_sets-columns.ensures.count, few _ _ _ c.list_sets-rows.ensures.count)))
 
 pub try_row-pairs-requires : goal.try_row-pairs-requires
 try_row-pairs-requires c =
     let first = c.list_sets-rows in
     let second = c.list_sets-columns in
+    let i = c.loop-i.i in
     let rows = few _ _ _ first.ensures.count in
     let columns = few _ _ _ second.ensures.count in
     let long = length-take-le second.result second.new.sets (omega (arith, columns)) in
-    let turn : c.loop-set.set-index ≤ most_sets = omega (arith, rows, length-take-le first.result first.new.sets (omega (arith, rows))) in (
+    let low : get_or (take first.result first.new.sets) i 0 < most_sets =
+    rw (front_listed _ c.args.first _ _ _ first.ensures.sets first.ensures.count) (listed_sets _ c.args.first i) in (
       omega (arith, c.requires.0),
-      rw (front_listed _ c.args.first _ _ _ first.ensures.sets first.ensures.count) (listed_sets _ c.args.first c.loop-set.set-index),
+      rw (get_or-take first.result first.new.sets i 0 c.loop-i-test.true) at low,
       rw (front_listed _ c.args.second _ _ _ second.ensures.sets second.ensures.count) (listed_sets _ c.args.second),
-      omega (arith, columns, long, few-pairs c.loop-set.set-index second.result turn columns),
+      omega (arith, columns, long, few-pairs i second.result (omega (arith, rows)) columns),
     )
 
-pub loop-set-preserved : goal.loop-set-preserved
-loop-set-preserved c =
-    let i = c.loop-set.set-index in
+pub loop-i-preserved : goal.loop-i-preserved
+loop-i-preserved c =
+    let i = c.loop-i.i in
     let rows = c.list_sets-rows in
     let columns = c.list_sets-columns in
     let long = length-take-le columns.result columns.new.sets (omega (arith, few _ _ _ columns.ensures.count)) in
     record {
-      tried = rw (add-one i, suc-mul i columns.result) (c.try_row-pairs.ensures.tried ∙ ap₂ ◌+◌ c.loop-set.invariant.tried long);
+      tried = rw (add-one i, suc-mul i columns.result) (c.try_row-pairs.ensures.tried ∙ ap₂ ◌+◌ c.loop-i.invariant.tried long);
       made =
-          row c.make_empty.new.work c.loop-set.work c.try_row-pairs.new.work c.args.into (take rows.result rows.new.sets)
-          (take columns.result columns.new.sets) i (omega (arith, c.requires.0)) c.loop-set-test.true c.loop-set.invariant.made c.try_row-pairs.ensures.made;
+          row c.make_empty.new.work c.loop-i.work c.try_row-pairs.new.work c.args.into rows.new.sets
+          (take columns.result columns.new.sets) i (omega (arith, c.requires.0)) (omega (arith, few _ _ _ rows.ensures.count)) c.loop-i.invariant.made
+          c.try_row-pairs.ensures.made;
     }
 
 pub returns : goal.returns
 returns c =
     let first = c.list_sets-rows in
     let second = c.list_sets-columns in
-    let long = length-take-le first.result first.new.sets (omega (arith, few _ _ _ first.ensures.count)) in
-    let all : c.loop-set.set-index ≡ first.result = omega (arith, long) in
+    let all : c.loop-i.i ≡ first.result = omega arith in
     record {
       made =
-          ends c.args.work.now c.make_empty.new.work c.loop-set.work c.args.into _ _
-          (family_at c.args.work.now c.args.first) (family_at c.args.work.now c.args.second) c.loop-set.set-index c.requires.0
+          ends c.args.work.now c.make_empty.new.work c.loop-i.work c.args.into _ _
+          (family_at c.args.work.now c.args.first) (family_at c.args.work.now c.args.second) first.result second.result c.requires.0
           (front_listed c.args.work.now c.args.first _ _ _ first.ensures.sets first.ensures.count)
-          (front_listed c.args.work.now c.args.second _ _ _ second.ensures.sets second.ensures.count) c.make_empty.ensures c.loop-set-test.false
-          c.loop-set.invariant.made;
-      tried = rw all at c.loop-set.invariant.tried ∙ ap₂ ◌*◌ first.ensures.count second.ensures.count;
+          (front_listed c.args.work.now c.args.second _ _ _ second.ensures.sets second.ensures.count) c.make_empty.ensures
+          (rw all at c.loop-i.invariant.made);
+      tried = rw all at c.loop-i.invariant.tried ∙ ap₂ ◌*◌ first.ensures.count second.ensures.count;
     }

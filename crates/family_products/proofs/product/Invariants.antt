@@ -14,8 +14,8 @@ use Rattle.family_products.proofs.product.Given as goal
 abbrev pub partial : List ℕ → (into : ℕ) → (sets : List ℕ) → Family → (i : ℕ) → List ℕ
 partial work into sets G i = with_family work into (product (reversed (take i sets)) G)
 
-abbrev pub invariant-loop-set : goal.invariant-loop-set
-invariant-loop-set l = record {
-  tried : l.pairs ≡ l.set-index * l.columns;
-  made : l.work ≡ partial l.initial.work l.into l.set-items (reversed (take l.columns l.others)) l.set-index;
+abbrev pub invariant-loop-i : goal.invariant-loop-i
+invariant-loop-i l = record {
+  tried : l.pairs ≡ l.i * l.columns;
+  made : l.work ≡ partial l.initial.work l.into l.sets (reversed (take l.columns l.others)) l.i;
 }

@@ -10,7 +10,6 @@ use Rattle.suspect_sets.specs.Sets.{report_of}
 use Rattle.pair_search.specs.Pairs.{onward, search_from}
 use Rattle.pair_search.specs.Work.{report_between}
 use Rattle.pair_search.proofs.look.Goals as goal
-use Rattle.pair_search.proofs.look.Goals.{in-Some, in-None}
 
 pub returns-then-not-both : goal.returns-then-not-both
 unfolding search_from
@@ -25,15 +24,16 @@ pub returns-then-looked-terms : goal.returns-then-looked-terms
 unfolding search_from
 returns-then-looked-terms c = λ variables by. rw (c.if-not-both.false, le-ltb _ _ c.if-looked-terms.true)
 
-pub returns : goal.returns
+pub returns-in-Some : goal.returns-in-Some
 unfolding search_from onward report_of report_between
-returns c =
+returns-in-Some c =
     λ variables by.
-    elim c.match-set.branch [
-      | in-Some w ↦
-          let reports : some w.in-Some.set ≡ _ = rw (c.part-p.ensures.at, c.part-q.ensures.at) at (w.in-Some.ensures.reported variables by) in
-          rw (c.if-not-both.false, lt-ltb _ _ c.if-looked-terms.false, ← reports, w.result-is, add-one)
-      | in-None w ↦
-          let reports : none ≡ _ = rw (c.part-p.ensures.at, c.part-q.ensures.at) at (w.in-None.ensures.reported variables by) in
-          rw (c.if-not-both.false, lt-ltb _ _ c.if-looked-terms.false, ← reports, w.result-is, add-one)
-    ]
+    let reports : some c.in-Some.set ≡ _ = rw (c.part-p.ensures.at, c.part-q.ensures.at) at (c.in-Some.ensures.reported variables by) in
+    rw (c.if-not-both.false, lt-ltb _ _ c.if-looked-terms.false, ← reports, add-one)
+
+pub returns-in-None : goal.returns-in-None
+unfolding search_from onward report_of report_between
+returns-in-None c =
+    λ variables by.
+    let reports : none ≡ _ = rw (c.part-p.ensures.at, c.part-q.ensures.at) at (c.in-None.ensures.reported variables by) in
+    rw (c.if-not-both.false, lt-ltb _ _ c.if-looked-terms.false, ← reports, c.no_pair-in-None.ensures, add-one)

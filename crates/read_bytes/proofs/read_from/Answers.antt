@@ -16,7 +16,7 @@ use Rattle.read_bytes.specs.Reading.{Reads, bytes_of, found_at}
 use Rattle.read_bytes.proofs.Files.{stands_read, refused_read}
 use Rattle.read_bytes.proofs.Reading.{Reached, refused_here, Turn, inside, answered_here, variable_room, node_room, variable_stored, node_stored}
 use Rattle.read_bytes.proofs.read_from.Goals as goal
-use Rattle.read_bytes.proofs.read_from.Goals.{After-entry_of, After-netlist-1, After-size_of, in-Variable, in_default}
+use Rattle.read_bytes.proofs.read_from.Goals.{After-entry_by, After-netlist-1, After-size_by, in-Variable, in_default}
 
 -- what a turn finds, behind a netlist that obeys the record rules
 turn : {start value : Flat} {bytes own_bytes : List ℕ} {records here : ℕ} (f : Formed start) → own_bytes ≡ bytes
@@ -61,7 +61,7 @@ pub overflow_add-netlist : goal.overflow_add-netlist
 overflow_add-netlist c = omega (arith, variable_there c)
 
 -- a record that says neither the end nor a variable says a node, which has room
-room : (c : After-entry_of) → c.loop-records.netlist.count < most_nodes
+room : (c : After-entry_by) → c.loop-records.netlist.count < most_nodes
 room c =
     node_room (turn c.requires c.loop-records.invariant.bytes (c.loop-records.invariant.reached c.requires) c.in_ok-own.own c.in_ok-own.ensures)
     (node_byte c.in_ok-own.own.kind c.in_default.not-End c.in_default.not-Variable)
@@ -79,7 +79,7 @@ pub overflow_add-reader : goal.overflow_add-reader
 overflow_add-reader c =
     let t = turn c.requires c.loop-records.invariant.bytes (c.loop-records.invariant.reached c.requires) c.in_ok-own.own c.in_ok-own.ensures in
     let here = inside t in
-    let few = c.size_of.ensures.few in
+    let few = c.size_by.ensures.few in
     omega arith
 
 pub loop-records-preserved : goal.loop-records-preserved
@@ -88,13 +88,13 @@ loop-records-preserved c = record {
   reached = λ f.
       let k = byte_of c.in_ok-own.own.kind in
       let t = turn f c.loop-records.invariant.bytes (c.loop-records.invariant.reached f) c.in_ok-own.own c.in_ok-own.ensures in
-      let sized : 0 < k → c.size_of.result ≡ size (said k c.in_ok-own.own.body) = c.size_of.ensures.size c.in_ok-own.own.body in
+      let sized : 0 < k → c.size_by.result ≡ size (said k c.in_ok-own.own.body) = c.size_by.ensures.size c.in_ok-own.own.body in
       elim c.match-own.branch [
         | in-Variable w ↦
             let one : k ≡ 1 = ap byte_of w.in-Variable.is in rw w.netlist-is (variable_stored t _ one (sized (omega arith)))
         | in_default w ↦
             let more : 2 ≤ k = node_byte c.in_ok-own.own.kind w.in_default.not-End w.in_default.not-Variable in
-            rw w.netlist-is (node_stored t _ _ more (sized (omega arith)) w.entry_of.ensures)
+            rw w.netlist-is (node_stored t _ _ more (sized (omega arith)) w.entry_by.ensures)
       ];
 }
 

@@ -26,7 +26,7 @@ use Rattle.suspect_sets.proofs.variables_of.Goals.{then-netlist-v, else-netlist-
 
 pub loop-v-init : goal.loop-v-init
 unfolding variables_of number
-loop-v-init c = (search rules, λ n e. refl)
+loop-v-init c = (search rules, λ n d e f. refl)
 
 -- whether a variable is of the class, by its byte
 class_read : (n : Netlist) (value : Values.Netlist) (d : Class) (class v : ℕ) → value ≡ flat_of n → class ≡ class_byte d → v < length n.variables
@@ -49,23 +49,23 @@ loop-v-preserved c =
       | then-netlist-v w ↦
           let more : c.if-netlist-v.set ≡ c.loop-v.set + 2 ^ v = omega (arith, w.set-is) in (
             rw (add-one, two-pow-succ) (omega arith),
-            λ n e.
+            λ n d e f.
                 let inside : v < length n.variables = rw e at c.loop-v-test.true in
-                turn _ n.variables v _ _ true inside (before n e)
-                (class_read n _ _ _ v e c.byte.ensures inside ∙ eq-eqb _ _ w.if-netlist-v.true) (omega arith),
+                turn d n.variables v _ _ true inside (before n d e f)
+                (class_read n _ _ _ v e f inside ∙ eq-eqb _ _ w.if-netlist-v.true) (omega arith),
           )
       | else-netlist-v w ↦ (
         rw (add-one, two-pow-succ) (omega (arith, w.set-is)),
-        λ n e.
+        λ n d e f.
             let inside : v < length n.variables = rw e at c.loop-v-test.true in
-            turn _ n.variables v _ _ false inside (before n e)
-            (class_read n _ _ _ v e c.byte.ensures inside ∙ ne_eqb _ _ w.if-netlist-v.false) (omega (arith, w.set-is)),
+            turn d n.variables v _ _ false inside (before n d e f)
+            (class_read n _ _ _ v e f inside ∙ ne_eqb _ _ w.if-netlist-v.false) (omega (arith, w.set-is)),
       )
     ]
 
 pub returns : goal.returns
 unfolding flat_of
 returns c =
-    λ n e.
+    λ n d e f.
     let all : length n.variables ≤ c.loop-v.v = rw e at c.loop-v-test.false in
-    c.loop-v.invariant.1 n e ∙ rw (take_all c.loop-v.v n.variables all)
+    c.loop-v.invariant.1 n d e f ∙ rw (take_all c.loop-v.v n.variables all)

@@ -4,7 +4,7 @@ use Prim.Native.Nat.{◌^◌, ◌<◌}
 use mathlib.Core.Path.{◌≡◌}
 use lib.ListN.{take}
 use Rattle.rules.specs.Records as Records
-use Rattle.netlists.specs.Kinds.{class_in}
+use Rattle.rules.specs.Records.{Class, class_byte}
 use Rattle.netlists.specs.Netlists.{flat_of}
 use Rattle.suspect_sets.specs.Sets.{variables_of}
 use Rattle.suspect_sets.proofs.variables_of.Given as goal
@@ -12,4 +12,4 @@ use Rattle.suspect_sets.proofs.variables_of.Given as goal
 abbrev pub invariant-loop-v : goal.invariant-loop-v
 invariant-loop-v l =
     (l.set < 2 ^ l.v)
-    × ((n : Records.Netlist) → l.netlist ≡ flat_of n → l.set ≡ variables_of (class_in l.class) (take l.v n.variables))
+    × ((n : Records.Netlist) (d : Class) → l.netlist ≡ flat_of n → l.class ≡ class_byte d → l.set ≡ variables_of d (take l.v n.variables))

@@ -13,4 +13,4 @@ class_line c = refl
 pub returns-clause-appended : goal.returns-clause-appended
 returns-clause-appended c class e =
     appended_as (class_line class)
-    (appended_more (appended_as (c.word_of.ensures.named ∙ c.form_of.ensures class e) c.put_word-end.ensures) c.put_byte.ensures)
+    (appended_more (appended_as (c.word.ensures.named ∙ c.form_of.ensures class e) c.put_word-end.ensures) c.put_byte.ensures)
