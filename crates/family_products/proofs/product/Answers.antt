@@ -1,21 +1,23 @@
 -- `family_products::product` meets its contract. The loop's invariant: the part has the product of the sets passed
 -- with the second family, all else is as it was after emptying, and the pairs counted are those of the rows passed.
 -- The lists of both families are theirs (`front_listed`). Assumes nothing.
-use Prim.Native.Nat.{ℕ, ◌+◌, ◌*◌, ◌<◌, ◌≤◌}
+use Prim.Native.Nat.{ℕ, ◌+◌, ◌-◌, ◌*◌, ◌^◌, ◌<◌, ◌≤◌}
 use mathlib.Core.Path.{◌≡◌, sym, ap₂, ◌∙◌}
-use mathlib.Core.List.{List, [], map}
-use native.Mathlib.Nat.{suc-mul, mul-le-mul}
+use mathlib.Core.List.{List, [], ◌++◌, map}
+use mathlib.Core.Logic.{◌⊎◌, inl, inr}
+use native.Mathlib.Nat.{suc-mul, mul-le-mul, add-sub_of_le}
 use native.Mathlib.Numerals.{add-one}
 use native.Mathlib.Omega.{arith}
 use lib.Bits.{bit_xor}
-use lib.ListN.{length, get_or, take}
-use lib.Seq.{take-suc, length-take-le, get_or-take}
+use lib.ListN.{length, get_or, take, drop, replicate, length-replicate, get_or-replicate, get_or-append, get_or-eq_default}
+use lib.Seq.{take-suc, length-take-le, get_or-take, get_or-drop, get_or-append-add}
 use Rattle.rules.specs.Records.{most_sets}
 use Rattle.rules.specs.Lists.{union}
 use Rattle.rules.specs.Families.{Family, product}
 use Rattle.rule_laws.proofs.Lists.{member_union, member_shift}
+use Rattle.rule_laws.proofs.Tests.{lt_or_le}
 use Rattle.families.specs.Parts.{HasPart, family_at, with_family}
-use Rattle.families.specs.Present.{reversed}
+use Rattle.families.specs.Present.{reversed, list_at, Sets}
 use Rattle.families.proofs.Parts.{length_at, with_same, with_twice, with_more}
 use Rattle.families.proofs.Present.{reversed_last, reversed_twice, member_reversed, front_listed, listed_sets}
 use Rattle.family_products.proofs.product.Invariants.{partial}
@@ -83,6 +85,37 @@ pub slice_bounds-try_row-end : goal.slice_bounds-try_row-end
 slice_bounds-try_row-end c =
     sym (length-take-le _ _ (omega (arith, few _ _ _ c.list_sets-columns.ensures.count, few _ _ _ c.list_sets-rows.ensures.count)))
 
+-- what is listed in an array of zeros are sets, and so is what any front of it has
+front_sets : (bytes : List ℕ) (part : ℕ) (slice rest : List ℕ) → slice ≡ list_at bytes part ++ rest → Sets rest → Sets slice
+unfolding list_at
+front_sets bytes part slice rest front others i = rw front (go (lt_or_le i (length (list_at bytes part))))
+  where
+    go : (i < length (list_at bytes part)) ⊎ (length (list_at bytes part) ≤ i) → get_or (list_at bytes part ++ rest) i 0 < most_sets
+    go (inl h) = rw (get_or-append (list_at bytes part) rest 0 i h) (listed_sets bytes part i)
+    go (inr h) = rw (← (add-sub_of_le h), get_or-append-add (list_at bytes part) rest (i - length (list_at bytes part)) 0) (others _)
+
+zeros_sets : (n k : ℕ) → Sets (drop k (replicate n 0))
+zeros_sets n k i = rw (get_or-drop {A = ℕ} k (replicate n 0) i 0) (go (lt_or_le (k + i) n))
+  where
+    go : (k + i < n) ⊎ (n ≤ k + i) → get_or (replicate n 0) (k + i) 0 < most_sets
+    go (inl h) = rw (get_or-replicate {A = ℕ} n (k + i) 0 0 h) (omega arith)
+    go (inr h) =
+        let beyond : length (replicate {A = ℕ} n 0) ≤ k + i = omega (arith, length-replicate {A = ℕ} n 0) in
+        rw (get_or-eq_default {A = ℕ} (replicate n 0) 0 beyond) (omega arith)
+
+taken : (k : ℕ) (xs : List ℕ) → k ≤ length xs → Sets xs → Sets (take k xs)
+taken k xs h s i = go (lt_or_le i k)
+  where
+    go : (i < k) ⊎ (k ≤ i) → get_or (take k xs) i 0 < most_sets
+    go (inl l) = rw (get_or-take k xs i 0 l) (s i)
+    go (inr l) =
+        let beyond : length (take k xs) ≤ i = omega (arith, length-take-le k xs h) in
+        rw (get_or-eq_default {A = ℕ} (take k xs) 0 beyond) (omega arith)
+
+-- a row more is counted
+counted : (pairs k : ℕ) (xs : List ℕ) → pairs ≤ most_sets * most_sets → k ≤ length xs → k ≤ most_sets → pairs + length (take k xs) ≤ 2 ^ 32
+counted pairs k xs p h l = omega (arith, length-take-le k xs h)
+
 pub try_row-pairs-requires : goal.try_row-pairs-requires
 try_row-pairs-requires c =
     let first = c.list_sets-rows in
@@ -90,13 +123,11 @@ try_row-pairs-requires c =
     let i = c.loop-i.i in
     let rows = few _ _ _ first.ensures.count in
     let columns = few _ _ _ second.ensures.count in
-    let long = length-take-le second.result second.new.sets (omega (arith, columns)) in
-    let low : get_or (take first.result first.new.sets) i 0 < most_sets =
-    rw (front_listed _ c.args.first _ _ _ first.ensures.sets first.ensures.count) (listed_sets _ c.args.first i) in (
+    let pairs : c.loop-i.pairs ≤ most_sets * most_sets = omega (arith, few-pairs i second.result (omega (arith, rows)) columns) in (
       omega (arith, c.requires.0),
-      rw (get_or-take first.result first.new.sets i 0 c.loop-i-test.true) at low,
-      rw (front_listed _ c.args.second _ _ _ second.ensures.sets second.ensures.count) (listed_sets _ c.args.second),
-      omega (arith, columns, long, few-pairs i second.result (omega (arith, rows)) columns),
+      front_sets _ c.args.first _ _ first.ensures.sets (zeros_sets 1024 first.result) i,
+      taken _ _ (omega (arith, rows, columns)) (front_sets _ c.args.second _ _ second.ensures.sets (zeros_sets 1024 second.result)),
+      counted _ _ _ pairs (omega (arith, rows, columns)) (omega (arith, rows, columns)),
     )
 
 pub loop-i-preserved : goal.loop-i-preserved
