@@ -93,7 +93,7 @@ fn entry_by(own: Record) -> Node
     }
 }
 
-// The node by value that a record's bytes say; where they say none, a blank one.
+// The node by value that a record's bytes say; where the kind is none's, a blank one.
 pub fn entry_of(own: RecordBytes) -> Node
     ensures { (cell : Cell) → said own.kind own.body ≡ node cell → result ≡ entry cell }
 {
